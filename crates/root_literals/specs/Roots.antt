@@ -5,13 +5,14 @@ use Rattle.std.specs.FinMap.{FinMap}
 use Rattle.std.specs.Ordering.{nat_cmp}
 use Rattle.std.specs.Prelude.{◌≡◌, ◌≢◌, ℕ, Bool, Option, Some, List, IsTrue, IsSome, ◌≤◌, [], take}
 use Rattle.std.specs.Prelude.{length, true, false, ◌∷◌, ⊤, ◌<◌, slice_index, IsFalse}
+use Rattle.std.specs.Prelude.{if◌then◌else◌}
 use Rattle.cnf_base.specs.Literals.{Literal, Clause, has, complement}
 use Rattle.tables.specs.Filled.{at}
 use Rattle.theory.specs.Propagation.{Live}
 use Rattle.trail.specs.declared.left.Left.TheVariants.{Nothing, One, More}
 use Rattle.trail.specs.declared.left.Left.{Left}
 use Rattle.propagation.specs.Assumptions.{HasAt, Assumption}
-use Rattle.root_literals.specs.History.{IsHistory, visits}
+use Rattle.root_literals.specs.History.{IsHistory, sure_of, visits}
 use Rattle.root_literals.specs.Order.{each_in_order}
 use Rattle.root_literals.specs.Uses.{AreCounted}
 use Rattle.root_literals.specs.Watched.{HasUnit, IsWatched}
@@ -95,6 +96,12 @@ is_cut Behind = false
 is_cut All = false
 is_cut (Clash slot) = false
 
+-- the clauses that those literals are propagated to which were visited: after a cut none that are
+-- doubtful
+abbrev pub seen_of : Roots → Live → Live
+seen_of roots live =
+    sure_of (if is_cut roots.kept then roots.history.doubts.items else []) live
+
 -- the kept literals follow from their reasons, which are counted, what is said of them is so, and
 -- those that were visited are propagated, unless a clash was found
 pub record IsKept (live : FinMap nat_cmp Clause) (roots : Roots) (lits : List Literal)
@@ -102,9 +109,9 @@ pub record IsKept (live : FinMap nat_cmp Clause) (roots : Roots) (lits : List Li
   pub noted : AreNoted (maps.get (each_in_order live)) (at roots.reasons)
   pub reasoned : AreReasoned (maps.get (each_in_order live)) (at roots.reasons) lits
   pub known : IsKnown live roots.kept lits
-  pub history : IsHistory (maps.get live) roots.history lits
+  pub history : IsHistory (sure_of roots.history.doubts.items (maps.get live)) roots.history lits
   pub visited : has_clash roots.kept ≡ false →
-      IsWatched (maps.get live) (take (visits roots.history) lits) lits
+      IsWatched (seen_of roots (maps.get live)) (take (visits roots.history) lits) lits
   pub counted : AreCounted (maps.get live) (at roots.reasons) lits roots.uses
 
 -- where an assumption stands, what follows without is known

@@ -209,11 +209,12 @@ impl Roots {
     {
         let clause = store.clause(slot);
         let is_doubtful = watches_false(clause, &left);
-        self.history.enter(is_doubtful, assumptions.trail().len());
+        let number = slot.number() as u32;
+        self.history
+            .enter(is_doubtful, number, assumptions.trail().len());
         if self.has_clash() {
             return;
         }
-        let number = slot.number() as u32;
         match left {
             Left::More => {}
             Left::Nothing => self.kept = Kept::Clash(number),
@@ -394,5 +395,6 @@ impl Roots {
         while let Some(place) = self.rests_from(assumptions.trail(), clause, slot.number()) {
             self.cut(store, assumptions, place);
         }
+        self.history.leave(slot.number());
     }
 }

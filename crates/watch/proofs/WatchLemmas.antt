@@ -8,6 +8,7 @@ pub mod Units
 pub mod Entries
 pub mod Closed
 pub mod Cursor
+pub mod Doubts
 pub mod Kept
 pub mod CatchUp
 pub mod Visited

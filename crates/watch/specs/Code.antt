@@ -1,4 +1,5 @@
 -- How the parts of the code fit together. No public contract speaks of it.
 pub mod ClauseSource
+pub mod Doubts
 pub mod State
 pub mod Visits

@@ -4,6 +4,7 @@
 mod arrange;
 mod clause_source;
 mod clauses;
+mod doubts;
 mod entries;
 mod follow;
 mod gather;

@@ -93,7 +93,7 @@ impl Model for Watch {
       assumptions = assumptions;
       roots = record {
         kept = kept;
-        history = record { visited = _; floor = _ };
+        history = record { visited = _; floor = _; doubts = _; looks = _ };
         reasons = _;
         uses = record { counts = _; counted = _ };
         places = record { by_variable = _; noted = _ };

@@ -1,7 +1,7 @@
 -- What is kept where a clause was added.
 use Rattle.std.proofs.Common.{◌≡◌, ◌≢◌, ℕ, ◌+◌, ◌<◌, Bool, true, false, cond, eqb, eq-eqb, ne_eqb}
 use Rattle.std.proofs.Common.{Option, Some, None, is_some, List, [], ◌∷◌, ◌++◌, length, take, refl, sym}
-use Rattle.std.proofs.Common.{ap, ◌∙◌, subst, arith, inl, inr}
+use Rattle.std.proofs.Common.{ap, ◌∙◌, subst, arith, inl, inr, ◌⊎◌}
 use Rattle.std.specs.Ordering.{nat_cmp}
 use Rattle.std.specs.FinMap as maps
 use Rattle.std.specs.FinMap.{FinMap}
@@ -11,7 +11,7 @@ use Rattle.std.proofs.lemmas.List.{length-append, take_all, take-append-le}
 use Rattle.cnf_base.specs.Literals.{Literal, complement, Clause, has}
 use Rattle.cnf_base.proofs.SetLemmas.{has_append_left, has_append_right, has_cases, has_head}
 use Rattle.tables.specs.Filled.{at}
-use Rattle.root_literals.specs.History.{IsHistory, visits}
+use Rattle.root_literals.specs.History.{IsHistory, IsNoted, sure_of, visits}
 use Rattle.root_literals.specs.Order.{in_order, each_in_order}
 use Rattle.root_literals.specs.Roots.{AreNoted, AreReasoned, HasReasons, HaveUnits, IsArranged}
 use Rattle.root_literals.specs.Roots.{IsKept, IsKnown, has_clash, is_cut}
@@ -23,11 +23,11 @@ use Rattle.root_literals.specs.declared.history.History.{History}
 use Rattle.root_literals.specs.declared.roots.Kept.{Kept}
 use Rattle.root_literals.specs.declared.roots.Kept.TheVariants.{Cut, Behind, All, Clash}
 use Rattle.root_literals.specs.declared.roots.Roots.{Roots}
-use Rattle.root_literals.proofs.RootLemmas.Watched.{front_part, watched_grown, unit_more}
-use Rattle.root_literals.proofs.RootLemmas.History.{history_above, history_longer, history_noted}
+use Rattle.root_literals.proofs.RootLemmas.Watched.{front_part, watched_grown, watched_most, unit_more}
+use Rattle.root_literals.proofs.RootLemmas.History.{history_none, history_noted, history_one_more}
 use Rattle.root_literals.proofs.RootLemmas.Kept.{elsewhere, false_added, gone, noted_added}
 use Rattle.root_literals.proofs.RootLemmas.Kept.{met_alone, met_open, reasoned_added, unit_alone}
-use Rattle.root_literals.proofs.RootLemmas.Kept.{unit_open, units_added, watched_added}
+use Rattle.root_literals.proofs.RootLemmas.Kept.{unit_open, units_added, watched_added, watched_sure_added}
 use Rattle.root_literals.proofs.RootLemmas.Order.{has-in_order, seen_has_at, seen_there}
 use Rattle.root_literals.proofs.RootLemmas.Reasons.{reasoned_more, reasoned_same, reasoned_some}
 use Rattle.root_literals.proofs.RootLemmas.Reasons.{reasoned_taken}
@@ -67,7 +67,7 @@ pub record Entering (after : FinMap nat_cmp Clause) (slot : ℕ) (c : Clause) (r
   pub is_doubtful : Bool
   pub small : is_doubtful ≡ false → left ≢ More → length c < 2
   pub visited_is : later.visited ≡ roots.history.visited
-  pub floor_is : later.floor ≡ cond is_doubtful (length lits) roots.history.floor
+  pub noted_is : IsNoted roots.history later is_doubtful slot (length lits)
 
 module _ {after : FinMap nat_cmp Clause} {slot : ℕ} {c : Clause} {roots : Roots} {lits : List Literal} {left : Left} {later : History} (given : Entering after slot c roots lits left later) where
   noted : AreNoted (maps.get (each_in_order after)) (at roots.reasons)
@@ -95,17 +95,42 @@ module _ {after : FinMap nat_cmp Clause} {slot : ℕ} {c : Clause} {roots : Root
   units : (trues : List Literal) → HaveUnits (maps.get (maps.remove after slot)) trues → HasUnit c trues → HaveUnits (maps.get after) trues
   units = units_added (maps.remove after slot) after slot c (gone after slot slot refl) given.here (λ s ne. sym (elsewhere after slot s ne))
 
-  sure : given.is_doubtful ≡ false → (done trues : List Literal) → IsPart done lits → IsWatched (maps.get (maps.remove after slot)) done trues → IsWatched (maps.get after) done trues
-  sure is done trues part was = watched done trues was (met_sure lits c left given.arranged (given.small is) done trues part)
+  -- the clauses that are not doubtful, where this one is met unless it is
+  sure : (done trues : List Literal) → (has later.doubts.items slot ≡ false → (l : Literal) → has done (complement l) ≡ true → IsMet c l trues) → IsWatched (sure_of roots.history.doubts.items (maps.get (maps.remove after slot))) done trues →
+      IsWatched (sure_of later.doubts.items (maps.get after)) done trues
+  sure done trues =
+      watched_sure_added (maps.remove after slot) after slot c (gone after slot slot refl) given.here (λ s ne. sym (elsewhere after slot s ne)) roots.history.doubts.items later.doubts.items done trues given.noted_is.others
 
-  history : IsHistory (maps.get after) later lits
-  history =
-      history_noted (maps.get (maps.remove after slot)) (maps.get after) roots.history later lits given.is_doubtful given.visited_is given.floor_is
-      (λ is d p. sure is (take d lits) (take p lits) (front_part d lits)) given.kept.history
+  history : IsHistory (sure_of later.doubts.items (maps.get after)) later lits
+  history = elim (cases_eq (visits later) 0) [
+    | inl none ↦ history_none (sure_of later.doubts.items (maps.get after)) later lits none
+    | inr some ↦
+        history_noted (sure_of roots.history.doubts.items (maps.get (maps.remove after slot))) (sure_of later.doubts.items (maps.get after)) roots.history later lits given.visited_is
+        (by_doubt (λ none. some (ap (λ v. length v.items) given.visited_is ∙ none)) given.is_doubtful refl) given.kept.history
+  ]
+    where
+      by_doubt : visits roots.history ≢ 0 → (b : Bool) → given.is_doubtful ≡ b →
+          ((later.floor ≡ roots.history.floor)
+          × ((d p : ℕ) → IsWatched (sure_of roots.history.doubts.items (maps.get (maps.remove after slot))) (take d lits) (take p lits) → IsWatched (sure_of later.doubts.items (maps.get after)) (take d lits) (take p lits))) ⊎ (later.floor ≡ length lits)
+      by_doubt some true e = elim (given.noted_is.settled e some) [
+        | inl noted ↦ inl (noted.1, λ d p. sure (take d lits) (take p lits) (λ none. absurd (true≢false (sym noted.0 ∙ none))))
+        | inr high ↦ inr high
+      ]
+      by_doubt some false e =
+          inl (given.noted_is.floor e, λ d p. sure (take d lits) (take p lits) (λ _. met_sure lits c left given.arranged (given.small e) (take d lits) (take p lits) (front_part d lits)))
 
-  -- what was visited
-  so_far : has_clash roots.kept ≡ false → IsWatched (maps.get (maps.remove after slot)) (take (visits later) lits) lits
-  so_far quiet = subst (λ v. IsWatched (maps.get (maps.remove after slot)) (take (length v.items) lits) lits) (sym given.visited_is) (given.kept.visited quiet)
+  -- what was visited, after a cut or not
+  seen : (b : Bool) (done trues : List Literal) → ((l : Literal) → has done (complement l) ≡ true → IsMet c l trues) → IsWatched (sure_of (cond b roots.history.doubts.items []) (maps.get (maps.remove after slot))) done trues →
+      IsWatched (sure_of (cond b later.doubts.items []) (maps.get after)) done trues
+  seen true done trues met was = sure done trues (λ _. met) was
+  seen false done trues met was = watched done trues was met
+
+  so_far : has_clash roots.kept ≡ false → IsWatched (sure_of (cond (is_cut roots.kept) roots.history.doubts.items []) (maps.get (maps.remove after slot))) (take (visits later) lits) lits
+  so_far quiet = subst (λ v. IsWatched (sure_of (cond (is_cut roots.kept) roots.history.doubts.items []) (maps.get (maps.remove after slot))) (take (length v.items) lits) lits) (sym given.visited_is) (given.kept.visited quiet)
+
+  -- it is the history that is kept
+  history_now : (now : Roots) → now.history ≡ later → IsHistory (sure_of now.history.doubts.items (maps.get after)) now.history lits
+  history_now now history_is = subst (λ h. IsHistory (sure_of h.doubts.items (maps.get after)) h lits) (sym history_is) history
 
   idle : (k : Kept) → has_clash k ≡ true → IsKnown (maps.remove after slot) k lits → IsKnown after k lits
   idle Cut is known = absurd (false≢true is)
@@ -118,7 +143,7 @@ module _ {after : FinMap nat_cmp Clause} {slot : ℕ} {c : Clause} {roots : Root
     noted = subst (λ t. AreNoted (maps.get (each_in_order after)) (at t)) (sym reasons_are) noted;
     reasoned = subst (λ t. AreReasoned (maps.get (each_in_order after)) (at t) lits) (sym reasons_are) reasoned;
     known = subst (λ k. IsKnown after k lits) (sym kept_is) (idle roots.kept is given.kept.known);
-    history = subst (λ h. IsHistory (maps.get after) h lits) (sym history_is) history;
+    history = history_now now history_is;
     visited = λ quiet. absurd (true≢false (sym is ∙ ap has_clash (sym kept_is) ∙ quiet));
     counted = still_counted now reasons_are uses_are;
   }
@@ -136,10 +161,11 @@ module _ {after : FinMap nat_cmp Clause} {slot : ℕ} {c : Clause} {roots : Root
     noted = now_noted;
     reasoned = now_reasoned;
     known = subst (λ k. IsKnown after k lits) (sym kept_is) (settled met unit roots.kept given.kept.known);
-    history = subst (λ h. IsHistory (maps.get after) h lits) (sym history_is) history;
+    history = history_now now history_is;
     visited = λ quiet.
-        subst (λ h. IsWatched (maps.get after) (take (visits h) lits) lits) (sym history_is)
-        (watched (take (visits later) lits) lits (so_far (ap has_clash (sym kept_is) ∙ quiet)) (met (take (visits later) lits) (front_part (visits later) lits)));
+        subst (λ h. IsWatched (sure_of (cond (is_cut now.kept) h.doubts.items []) (maps.get after)) (take (visits h) lits) lits) (sym history_is)
+        (subst (λ k. IsWatched (sure_of (cond (is_cut k) later.doubts.items []) (maps.get after)) (take (visits later) lits) lits) (sym kept_is)
+        (seen (is_cut roots.kept) (take (visits later) lits) lits (met (take (visits later) lits) (front_part (visits later) lits)) (so_far (ap has_clash (sym kept_is) ∙ quiet))));
     counted = now_counted;
   }
 
@@ -154,7 +180,7 @@ module _ {after : FinMap nat_cmp Clause} {slot : ℕ} {c : Clause} {roots : Root
     noted = subst (λ t. AreNoted (maps.get (each_in_order after)) (at t)) (sym reasons_are) noted;
     reasoned = subst (λ t. AreReasoned (maps.get (each_in_order after)) (at t) lits) (sym reasons_are) reasoned;
     known = subst (λ k. IsKnown after k lits) (sym (kept_is ∙ ap Clash is)) (record { clause = in_order c; at = seen_there after slot c given.here; falses = λ k h. falses k (sym (has-in_order c k) ∙ h) });
-    history = subst (λ h. IsHistory (maps.get after) h lits) (sym history_is) history;
+    history = history_now now history_is;
     visited = λ quiet. absurd (true≢false (ap has_clash (sym kept_is) ∙ quiet));
     counted = still_counted now reasons_are uses_are;
   }
@@ -209,8 +235,11 @@ module _ {after : FinMap nat_cmp Clause} {slot : ℕ} {c : Clause} {roots : Root
           (reasoned_more (maps.get (each_in_order after)) (at roots.reasons) lits reasoned (at now.reasons) m slot (in_order c) (seen_there after slot c given.here) (has-in_order c m ∙ first.0) (set_here now set)
           (λ k h ne. first.3 k (sym (has-in_order c k) ∙ h) ne) (λ l h. set_other now set l (λ e. true≢false (sym h ∙ ap (has lits) e ∙ is_open))));
       known = subst (λ k. IsKnown after k more) (sym kept_is) (subst (IsKnown after (cond (is_cut roots.kept) Cut Behind)) (sym is) (grown_known roots.kept quiet given.kept.known));
-      history = subst (λ h. IsHistory (maps.get after) h more) (sym history_is) (subst (IsHistory (maps.get after) later) (sym is) (grown_history given.is_doubtful refl));
-      visited = λ _. subst (λ h. IsWatched (maps.get after) (take (visits h) more) more) (sym history_is) (subst (λ ls. IsWatched (maps.get after) (take (visits later) ls) ls) (sym is) grown_watched);
+      history = subst (λ h. IsHistory (sure_of h.doubts.items (maps.get after)) h more) (sym history_is) (subst (IsHistory (sure_of later.doubts.items (maps.get after)) later) (sym is) grown_history);
+      visited = λ _.
+          subst (λ h. IsWatched (sure_of (cond (is_cut now.kept) h.doubts.items []) (maps.get after)) (take (visits h) more) more) (sym history_is)
+          (subst (λ b. IsWatched (sure_of (cond b later.doubts.items []) (maps.get after)) (take (visits later) more) more) (sym (ap is_cut kept_is ∙ still_cut (is_cut roots.kept)))
+          (subst (λ ls. IsWatched (sure_of (cond (is_cut roots.kept) later.doubts.items []) (maps.get after)) (take (visits later) ls) ls) (sym is) grown_watched));
       counted = subst (AreCounted (maps.get after) (at now.reasons) more) (sym uses_are)
           (subst (λ ls. AreCounted (maps.get after) (at now.reasons) ls roots.uses) (sym is)
           (counted_longer (maps.get after) (at now.reasons) lits (lits ++ m ∷ []) roots.uses begins (omega (arith, longer))
@@ -229,12 +258,16 @@ module _ {after : FinMap nat_cmp Clause} {slot : ℕ} {c : Clause} {roots : Root
         front : take (visits later) (lits ++ m ∷ []) ≡ take (visits later) lits
         front = take-append-le (visits later) lits (m ∷ []) history.inside
 
-        grown_watched : IsWatched (maps.get after) (take (visits later) (lits ++ m ∷ [])) (lits ++ m ∷ [])
+        still_cut : (b : Bool) → is_cut (cond b Cut Behind) ≡ b
+        still_cut true = refl
+        still_cut false = refl
+
+        grown_watched : IsWatched (sure_of (cond (is_cut roots.kept) later.doubts.items []) (maps.get after)) (take (visits later) (lits ++ m ∷ [])) (lits ++ m ∷ [])
         grown_watched =
-            subst (λ ls. IsWatched (maps.get after) ls (lits ++ m ∷ [])) (sym front)
-            (watched (take (visits later) lits) (lits ++ m ∷ [])
-            (watched_grown (maps.get (maps.remove after slot)) (take (visits later) lits) lits (lits ++ m ∷ []) (λ l h. has_append_left lits (m ∷ []) l h) (so_far quiet))
-            (λ l h. met_alone lits (lits ++ m ∷ []) m m_true c first l))
+            let before = sure_of (cond (is_cut roots.kept) roots.history.doubts.items []) (maps.get (maps.remove after slot)) in
+            subst (λ ls. IsWatched (sure_of (cond (is_cut roots.kept) later.doubts.items []) (maps.get after)) ls (lits ++ m ∷ [])) (sym front)
+            (seen (is_cut roots.kept) (take (visits later) lits) (lits ++ m ∷ []) (λ l h. met_alone lits (lits ++ m ∷ []) m m_true c first l)
+            (watched_grown before (take (visits later) lits) lits (lits ++ m ∷ []) (λ l h. has_append_left lits (m ∷ []) l h) (so_far quiet)))
 
         grown_units : HaveUnits (maps.get (maps.remove after slot)) lits → HaveUnits (maps.get after) (lits ++ m ∷ [])
         grown_units known =
@@ -247,11 +280,7 @@ module _ {after : FinMap nat_cmp Clause} {slot : ℕ} {c : Clause} {roots : Root
         grown_known All quiet known = grown_units known.1
         grown_known (Clash s) quiet known = absurd (true≢false quiet)
 
-        grown_history : (b : Bool) → given.is_doubtful ≡ b → IsHistory (maps.get after) later (lits ++ m ∷ [])
-        grown_history true is =
-            let high = given.floor_is ∙ ap (λ b. cond b (length lits) roots.history.floor) is in
-            let inside = history.inside in
-            history_above (maps.get after) later (lits ++ m ∷ []) (omega (arith, inside, longer)) history.began (omega (arith, high, longer)) grown_watched
-        grown_history false is =
-            history_longer (maps.get after) later lits (lits ++ m ∷ []) (visits later) begins (omega (arith, longer)) (omega arith)
-            (sure is (take (visits later) lits) lits (front_part (visits later) lits) (so_far quiet)) history
+        grown_history : IsHistory (sure_of later.doubts.items (maps.get after)) later (lits ++ m ∷ [])
+        grown_history =
+            history_one_more (sure_of later.doubts.items (maps.get after)) later lits (lits ++ m ∷ []) longer begins
+            (watched_most (maps.get after) later.doubts.items (is_cut roots.kept) (take (visits later) (lits ++ m ∷ [])) (lits ++ m ∷ []) grown_watched) history

@@ -1,7 +1,7 @@
 -- When the literals that are kept were propagated.
 use Rattle.std.proofs.Common.{◌≡◌, ◌≢◌, ℕ, ◌+◌, ◌<◌, ◌≤◌, Bool, true, false, cond, List, [], ◌∷◌}
 use Rattle.std.proofs.Common.{◌++◌, length, get_or, take, refl, sym, ap, ◌∙◌, subst, arith, inl}
-use Rattle.std.proofs.Common.{inr}
+use Rattle.std.proofs.Common.{inr, ◌⊎◌}
 use Rattle.std.proofs.lemmas.Bool.{cases_eq, cases_lt, false≢true}
 use Rattle.std.proofs.Math.Seq.{get_or-append_seam}
 use Rattle.std.proofs.lemmas.List.{get_or-take, get_or_append_left, length-append, length-take-le}
@@ -47,19 +47,17 @@ pub history_among : (live after : Live) (history : History) (lits : List Literal
     IsHistory live history lits → IsHistory after history lits
 history_among live after history lits among is = record { inside = is.inside; began = is.began; before = λ d p low at_most above inside. among d p low above inside (is.before d p low at_most above inside) }
 
--- one clause more, which is met at any place, or was noted as doubtful
-pub history_noted : (live after : Live) (history noted : History) (lits : List Literal) (is_doubtful : Bool) → noted.visited ≡ history.visited → noted.floor ≡ cond is_doubtful (length lits) history.floor →
-    (is_doubtful ≡ false → (d p : ℕ) → IsWatched live (take d lits) (take p lits) → IsWatched after (take d lits) (take p lits)) → IsHistory live history lits → IsHistory after noted lits
-history_noted live after history noted lits true visited floor_is met is = record {
+-- the same visits among other clauses, where what they are known to have propagated is, or no cut is told of
+pub history_noted : (live after : Live) (history noted : History) (lits : List Literal) → noted.visited ≡ history.visited →
+    ((noted.floor ≡ history.floor) × ((d p : ℕ) → IsWatched live (take d lits) (take p lits) → IsWatched after (take d lits) (take p lits))) ⊎ (noted.floor ≡ length lits) → IsHistory live history lits → IsHistory after noted lits
+history_noted live after history noted lits visited either is = record {
   inside = let n = ap (λ v. length v.items) visited in let low = is.inside in omega (arith, n, low);
   began = λ d low. subst (λ v. d < get_or v.items d 0) (sym visited) (is.began d (subst (λ v. d < length v.items) visited low));
-  before = λ d p low at_most above inside. absurd (let wrong : ⊥ = omega (arith, floor_is, above, inside) in wrong);
-}
-history_noted live after history noted lits false visited floor_is met is = record {
-  inside = let n = ap (λ v. length v.items) visited in let low = is.inside in omega (arith, n, low);
-  began = λ d low. subst (λ v. d < get_or v.items d 0) (sym visited) (is.began d (subst (λ v. d < length v.items) visited low));
-  before = λ d p low at_most above inside.
-      met refl d p (is.before d p (subst (λ v. d < length v.items) visited low) (subst (λ v. get_or v.items d 0 ≤ p) visited at_most) (subst (λ n. n < p) floor_is above) inside);
+  before = λ d p low at_most above inside. elim either [
+    | inl same ↦
+        same.1 d p (is.before d p (subst (λ v. d < length v.items) visited low) (subst (λ v. get_or v.items d 0 ≤ p) visited at_most) (subst (λ n. n < p) same.0 above) inside)
+    | inr high ↦ absurd (let wrong : ⊥ = omega (arith, high, above, inside) in wrong)
+  ];
 }
 
 -- ---- More literals
@@ -83,16 +81,23 @@ history_longer live history lits more n begins longer all watched is = record {
     part : (d : ℕ) → d < visits history → IsPart (take d more) (take n lits)
     part d low l h = front_in_front lits d n (omega (arith, low, all)) l (ap (λ ls. has ls l) (sym (front d (omega (arith, low, is.inside)))) ∙ h)
 
--- where no cut is told of but those that keep all literals
-pub history_above : (live : Live) (history : History) (lits : List Literal) → visits history ≤ length lits → ((d : ℕ) → d < visits history → d < trues_at history d) → length lits ≤ history.floor + 1 →
-    IsWatched live (take (visits history) lits) lits → IsHistory live history lits
-history_above live history lits inside began high watched = record {
-  inside = inside;
-  began = began;
-  before = λ d p low at_most above within.
-      watched_part live (take (visits history) lits) (take d lits) lits (take p lits) (front_in_front lits d (visits history) (omega (arith, low)))
-      (λ l h. ap (λ ls. has ls l) (take_all p lits (omega (arith, high, above))) ∙ h) watched;
+-- one literal more, where those before the last visit are propagated with it
+pub history_one_more : (live : Live) (history : History) (lits more : List Literal) → length more ≡ length lits + 1 → take (length lits) more ≡ lits → IsWatched live (take (visits history) more) more → IsHistory live history lits → IsHistory live history more
+history_one_more live history lits more longer begins watched is = record {
+  inside = let low = is.inside in omega (arith, low, longer);
+  began = is.began;
+  before = λ d p low at_most above inside. elim (cases_lt (length lits) p) [
+    | inl past ↦
+        watched_part live (take (visits history) more) (take d more) more (take p more) (front_in_front more d (visits history) (omega (arith, low)))
+        (λ l h. ap (λ ls. has ls l) (take_all p more (omega (arith, past, longer))) ∙ h) watched
+    | inr within ↦
+        subst (λ ls. IsWatched live ls (take p more)) (sym (front d (omega (arith, low, is.inside))))
+        (subst (λ ls. IsWatched live (take d lits) ls) (sym (front p within)) (is.before d p low at_most above within))
+  ];
 }
+  where
+    front : (k : ℕ) → k ≤ length lits → take k more ≡ take k lits
+    front k low = sym (take-take k (length lits) more low) ∙ ap (take k) begins
 
 -- the next visit begins
 pub history_begun : (live : Live) (history begun : History) (lits : List Literal) → visits history < length lits → begun.visited.items ≡ history.visited.items ++ length lits ∷ [] → begun.floor ≡ history.floor →

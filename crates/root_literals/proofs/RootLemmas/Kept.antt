@@ -9,10 +9,13 @@ use Rattle.std.proofs.lemmas.Bool.{cases_eq, true≢false, false≢true}
 use Rattle.std.proofs.lemmas.Option.{none-some, same_Some}
 use Rattle.cnf_base.specs.Literals.{Literal, complement, Clause, has}
 use Rattle.tables.specs.Filled.{at}
-use Rattle.root_literals.specs.History.{IsHistory, IsRewound, visits}
+use Rattle.root_literals.specs.History.{IsHistory, IsRewound, sure_of, visits}
+use Rattle.root_literals.specs.declared.history.History.{History}
+use Rattle.theory.specs.Propagation.{Live}
 use Rattle.root_literals.specs.Order.{in_order, each_in_order}
 use Rattle.root_literals.specs.Roots.{AreNoted, AreReasoned, HasReasons, HaveUnits, IsArranged}
-use Rattle.root_literals.specs.Roots.{IsFalseAt, IsKept, IsKnown, IsReasonAt, has_clash}
+use Rattle.root_literals.specs.Roots.{IsFalseAt, IsKept, IsKnown, IsReasonAt, has_clash, is_cut}
+use Rattle.root_literals.specs.Roots.{seen_of}
 use Rattle.root_literals.specs.Watched.{IsPart, IsMet, HasUnit, IsWatched}
 use Rattle.trail.specs.declared.left.Left.TheVariants.{One, More}
 use Rattle.root_literals.specs.declared.roots.Kept.{Kept}
@@ -23,8 +26,9 @@ use Rattle.trail.specs.Trail.{HasNoVariableTwice}
 use Rattle.root_literals.proofs.RootLemmas.Order.{get_ordered, has-in_order, seen_there}
 use Rattle.cnf_base.proofs.MapLemmas.{remove_here, remove_other}
 use Rattle.cnf_base.proofs.SetLemmas.{has_head}
-use Rattle.root_literals.proofs.RootLemmas.History.{history_among, history_cut, history_none}
+use Rattle.root_literals.proofs.RootLemmas.History.{history_cut, history_none, history_noted}
 use Rattle.root_literals.proofs.RootLemmas.History.{watched_cut, watched_none}
+use Rattle.root_literals.proofs.RootLemmas.Watched.{sure_by, sure_is, watched_sure}
 use Rattle.root_literals.proofs.RootLemmas.Reasons.{reasoned_among, reasoned_cut, reasoned_instead}
 use Rattle.root_literals.proofs.RootLemmas.Reasons.{reasoned_none}
 use Rattle.root_literals.specs.Uses.{AreCounted, clause_in, is_in, times}
@@ -39,6 +43,18 @@ module _ (live after : FinMap nat_cmp Clause) (slot : ℕ) (c : Clause) (free : 
       | inl e ↦ λ l h. subst (λ x. IsMet x l trues) (same_Some c d (sym here ∙ ap (maps.get after) (sym e) ∙ is)) (partner l h)
       | inr ne ↦ watched.each s d (sym (others s ne) ∙ is)
     ];
+  }
+
+  -- where it is met unless it is doubtful, and no other one is that wasn't
+  pub watched_sure_added : (doubts later : List ℕ) (done trues : List Literal) → ((s : ℕ) → s ≢ slot → has later s ≡ has doubts s) → (has later slot ≡ false → (l : Literal) → has done (complement l) ≡ true → IsMet c l trues) →
+      IsWatched (sure_of doubts (maps.get live)) done trues → IsWatched (sure_of later (maps.get after)) done trues
+  watched_sure_added doubts later done trues same partner watched = record {
+    each = λ s d is.
+        let now = sure_is later (maps.get after) s d is in
+        elim (cases_eq s slot) [
+          | inl e ↦ λ l h. subst (λ x. IsMet x l trues) (same_Some c d (sym here ∙ ap (maps.get after) (sym e) ∙ now.0)) (partner (ap (has later) (sym e) ∙ now.1) l h)
+          | inr ne ↦ watched.each s d (sure_by doubts (maps.get live) s d (sym (others s ne) ∙ now.0) (sym (same s ne) ∙ now.1))
+        ];
   }
 
   pub units_added : (trues : List Literal) → HaveUnits (maps.get live) trues → HasUnit c trues → HaveUnits (maps.get after) trues
@@ -101,6 +117,14 @@ module _ (trues more : List Literal) (m : Literal) (set : has more m ≡ true) w
   unit_alone (a ∷ []) first = ap (has more) first.1 ∙ set
   unit_alone (a ∷ b ∷ c) first = tt
 
+-- ---- The same visits
+
+pub seen_same : (live : Live) (roots after : Roots) (lits : List Literal) → after.kept ≡ roots.kept → after.history ≡ roots.history → (has_clash roots.kept ≡ false → IsWatched (seen_of roots live) (take (visits roots.history) lits) lits) →
+    has_clash after.kept ≡ false → IsWatched (seen_of after live) (take (visits after.history) lits) lits
+seen_same live roots after lits kept_is history_is seen quiet =
+    subst (λ h. IsWatched (sure_of (cond (is_cut after.kept) h.doubts.items []) live) (take (visits h) lits) lits) (sym history_is)
+    (subst (λ k. IsWatched (sure_of (cond (is_cut k) roots.history.doubts.items []) live) (take (visits roots.history) lits) lits) (sym kept_is) (seen (ap has_clash (sym kept_is) ∙ quiet)))
+
 -- ---- Another reason
 
 module _ (live : FinMap nat_cmp Clause) (roots after : Roots) (lits : List Literal) (kept_is : after.kept ≡ roots.kept) (history_is : after.history ≡ roots.history) (kept : IsKept live roots lits) where
@@ -109,8 +133,8 @@ module _ (live : FinMap nat_cmp Clause) (roots after : Roots) (lits : List Liter
     noted = noted;
     reasoned = reasoned;
     known = subst (λ k. IsKnown live k lits) (sym kept_is) kept.known;
-    history = subst (λ h. IsHistory (maps.get live) h lits) (sym history_is) kept.history;
-    visited = λ quiet. subst (λ h. IsWatched (maps.get live) (take (visits h) lits) lits) (sym history_is) (kept.visited (ap has_clash (sym kept_is) ∙ quiet));
+    history = subst (λ h. IsHistory (sure_of h.doubts.items (maps.get live)) h lits) (sym history_is) kept.history;
+    visited = seen_same (maps.get live) roots after lits kept_is history_is kept.visited;
     counted = counted;
   }
 
@@ -180,8 +204,20 @@ kept_cut live roots after lits now place kept inside cut rewound reasons is coun
   reasoned = subst (λ t. AreReasoned (maps.get (each_in_order live)) (at t) now) (sym reasons)
       (subst (AreReasoned (maps.get (each_in_order live)) (at roots.reasons)) (sym is) (reasoned_cut (maps.get (each_in_order live)) (at roots.reasons) lits kept.reasoned place));
   known = subst (λ k. IsKnown live k now) (sym cut) tt;
-  history = subst (IsHistory (maps.get live) after.history) (sym is) (history_cut (maps.get live) roots.history after.history lits place kept.history rewound inside);
-  visited = λ quiet. subst (λ ls. IsWatched (maps.get live) (take (visits after.history) ls) ls) (sym is) (watched_cut (maps.get live) roots.history after.history lits place kept.history rewound inside);
+  history = subst (IsHistory (sure_of after.history.doubts.items (maps.get live)) after.history) (sym is) (elim (cases_eq (visits after.history) 0) [
+    | inl none ↦ history_none (sure_of after.history.doubts.items (maps.get live)) after.history (take place lits) none
+    | inr some ↦
+        subst (λ ds. IsHistory (sure_of ds (maps.get live)) after.history (take place lits)) (sym (rewound.doubts some))
+        (history_cut (sure_of roots.history.doubts.items (maps.get live)) roots.history after.history lits place kept.history rewound inside)
+  ]);
+  visited = λ quiet.
+      subst (λ k. IsWatched (sure_of (cond (is_cut k) after.history.doubts.items []) (maps.get live)) (take (visits after.history) now) now) (sym cut)
+      (subst (λ ls. IsWatched (sure_of after.history.doubts.items (maps.get live)) (take (visits after.history) ls) ls) (sym is) (elim (cases_eq (visits after.history) 0) [
+        | inl none ↦ watched_none (sure_of after.history.doubts.items (maps.get live)) after.history (take place lits) none
+        | inr some ↦
+            subst (λ ds. IsWatched (sure_of ds (maps.get live)) (take (visits after.history) (take place lits)) (take place lits)) (sym (rewound.doubts some))
+            (watched_cut (sure_of roots.history.doubts.items (maps.get live)) roots.history after.history lits place kept.history rewound inside)
+      ]));
   counted = counted;
 }
 
@@ -191,8 +227,8 @@ kept_nothing live roots lits noted cut unseen none uncounted = record {
   noted = noted;
   reasoned = reasoned_none (maps.get (each_in_order live)) (at roots.reasons) lits none;
   known = subst (λ k. IsKnown live k lits) (sym cut) tt;
-  history = history_none (maps.get live) roots.history lits unseen;
-  visited = λ quiet. watched_none (maps.get live) roots.history lits unseen;
+  history = history_none (sure_of roots.history.doubts.items (maps.get live)) roots.history lits unseen;
+  visited = λ quiet. watched_none (seen_of roots (maps.get live)) roots.history lits unseen;
   counted = counted_none (maps.get live) (at roots.reasons) lits roots.uses uncounted;
 }
 
@@ -226,6 +262,14 @@ module _ (live : FinMap nat_cmp Clause) (slot : ℕ) where
   watched_left : (done trues : List Literal) → IsWatched (maps.get live) done trues → IsWatched (maps.get (maps.remove live slot)) done trues
   watched_left done trues watched = record { each = λ s d at_s. watched.each s d (was_there s d at_s) }
 
+  -- where no other clause is doubtful that wasn't
+  watched_sure_left : (doubts later : List ℕ) (done trues : List Literal) → ((s : ℕ) → s ≢ slot → has later s ≡ has doubts s) → IsWatched (sure_of doubts (maps.get live)) done trues → IsWatched (sure_of later (maps.get (maps.remove live slot))) done trues
+  watched_sure_left doubts later done trues others =
+      watched_sure (maps.get live) (maps.get (maps.remove live slot)) doubts later done trues (λ s d is sure. (
+        was_there s d is,
+        sym (others s (λ e. none-some d (sym (gone s e) ∙ is))) ∙ sure,
+      ))
+
   -- nothing that is kept rests on it
   module _ (roots : Roots) (lits : List Literal) (kept : IsKept live roots lits) (c : Clause) (here : maps.get live slot ≡ Some c) (no_clash : roots.kept ≢ KeptClash slot)
       (no_reason : (l : Literal) → has c l ≡ true → has lits l ≡ true → at roots.reasons l ≢ Some slot) where
@@ -235,8 +279,8 @@ module _ (live : FinMap nat_cmp Clause) (slot : ℕ) where
     still_known All is known = (watched_left lits lits known.0, λ s d at_s. known.1 s d (was_there s d at_s))
     still_known (KeptClash s) is known = record { clause = known.clause; at = still_seen s (λ e. no_clash (is ∙ ap KeptClash e)) known.clause known.at; falses = known.falses }
 
-    pub kept_left : IsKept (maps.remove live slot) roots lits
-    kept_left = record {
+    pub kept_left : (later : History) → later.visited ≡ roots.history.visited → later.floor ≡ roots.history.floor → ((s : ℕ) → s ≢ slot → has later.doubts.items s ≡ has roots.history.doubts.items s) → IsKept (maps.remove live slot) (record roots { history = later }) lits
+    kept_left later visited_is floor_is others = record {
       noted = noted_left (at roots.reasons) kept.noted;
       reasoned = reasoned_among (maps.get (each_in_order live)) (at roots.reasons) lits kept.reasoned (maps.get (each_in_order (maps.remove live slot))) (λ l s d member is at_s.
           still_seen s (λ e.
@@ -244,7 +288,15 @@ module _ (live : FinMap nat_cmp Clause) (slot : ℕ) where
           let same = same_Some (in_order c) w.clause (sym (seen_there live slot c here) ∙ ap (maps.get (each_in_order live)) (sym e) ∙ w.at) in
           no_reason l (sym (has-in_order c l) ∙ ap (λ x. has x l) same ∙ w.member) member (is ∙ ap Some e)) d at_s);
       known = still_known roots.kept refl kept.known;
-      history = history_among (maps.get live) (maps.get (maps.remove live slot)) roots.history lits (λ d p _ _ _. watched_left (take d lits) (take p lits)) kept.history;
-      visited = λ quiet. watched_left (take (visits roots.history) lits) lits (kept.visited quiet);
+      history =
+          history_noted (sure_of roots.history.doubts.items (maps.get live)) (sure_of later.doubts.items (maps.get (maps.remove live slot))) roots.history later lits visited_is
+          (inl (floor_is, λ d p. watched_sure_left roots.history.doubts.items later.doubts.items (take d lits) (take p lits) others)) kept.history;
+      visited = λ quiet.
+          subst (λ v. IsWatched (sure_of (cond (is_cut roots.kept) later.doubts.items []) (maps.get (maps.remove live slot))) (take (length v.items) lits) lits) (sym visited_is)
+          (watched_sure_left (cond (is_cut roots.kept) roots.history.doubts.items []) (cond (is_cut roots.kept) later.doubts.items []) (take (visits roots.history) lits) lits (others_seen (is_cut roots.kept)) (kept.visited quiet));
       counted = counted_among (maps.get live) (maps.get (maps.remove live slot)) (at roots.reasons) (at roots.reasons) lits roots.uses kept.counted (λ k l _. in_rest live slot k (at roots.reasons l));
     }
+      where
+        others_seen : (b : Bool) (s : ℕ) → s ≢ slot → has (cond b later.doubts.items []) s ≡ has (cond b roots.history.doubts.items []) s
+        others_seen true s ne = others s ne
+        others_seen false s ne = refl

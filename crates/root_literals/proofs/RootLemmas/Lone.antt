@@ -23,10 +23,10 @@ use Rattle.trail.specs.Trail.{HasNoVariableTwice}
 use Rattle.trail.proofs.TrailLemmas.Truth.{places_apart}
 use Rattle.trail.proofs.TrailLemmas.Without.{IsFront, front_before, front_still, front_was, none_left}
 use Rattle.trail.proofs.TrailLemmas.Without.{still_there, was_there as was_true}
-use Rattle.root_literals.specs.History.{IsHistory, trues_at, visits}
+use Rattle.root_literals.specs.History.{IsHistory, sure_of, trues_at, visits}
 use Rattle.root_literals.specs.Order.{each_in_order}
 use Rattle.root_literals.specs.Roots.{AreNoted, AreReasoned, FollowsReasons, HaveUnits}
-use Rattle.root_literals.specs.Roots.{IsAbsent, IsKept, IsKnown, IsUnneeded, has_clash}
+use Rattle.root_literals.specs.Roots.{IsAbsent, IsKept, IsKnown, IsUnneeded, has_clash, is_cut}
 use Rattle.root_literals.specs.Uses.{AreCounted, clause_in, is_in, times}
 use Rattle.root_literals.specs.Watched.{HasUnit, IsPart, IsWatched}
 use Rattle.root_literals.specs.declared.history.History.{History}
@@ -38,7 +38,7 @@ use Rattle.root_literals.proofs.RootLemmas.History.{front_in_front}
 use Rattle.root_literals.proofs.RootLemmas.Kept.{noted_left, still_seen, was_there}
 use Rattle.root_literals.proofs.RootLemmas.Order.{seen_has_at, there_seen}
 use Rattle.root_literals.proofs.RootLemmas.Uses.{counted_out, in_rest}
-use Rattle.root_literals.proofs.RootLemmas.Watched.{front_part}
+use Rattle.root_literals.proofs.RootLemmas.Watched.{front_part, sure_by, sure_is}
 
 -- one clause has the literal
 pub absent_else : (live : FinMap nat_cmp Clause) (slot : ℕ) (l : Literal) → maps.get live slot ≡ Some (l ∷ []) → 1 ≡ copies_with live l → IsAbsent (maps.get (maps.remove live slot)) l
@@ -78,15 +78,18 @@ module _ (live : FinMap nat_cmp Clause) (slot place : ℕ) (l : Literal) (lits :
 
   -- ---- Watched clauses
 
-  watched_out : (done now trues trues_now : List Literal) → IsPart now done → ((k : Literal) → has trues k ≡ true → k ≢ l → has trues_now k ≡ true) → IsWatched (maps.get live) done trues → IsWatched (maps.get rest) now trues_now
-  watched_out done now trues trues_now fewer part watched = record {
+  watched_out : (doubts : List ℕ) (done now trues trues_now : List Literal) → IsPart now done → ((k : Literal) → has trues k ≡ true → k ≢ l → has trues_now k ≡ true) →
+      IsWatched (sure_of doubts (maps.get live)) done trues → IsWatched (sure_of doubts (maps.get rest)) now trues_now
+  watched_out doubts done now trues trues_now fewer part watched = record {
     each = λ s c is m h there.
-        let w = watched.each s c (was_there live slot s c is) m (fewer (complement m) h) there in (w.0, w.1, part w.0 w.2 (other_literal s c is w.0 w.1));
+        let left = sure_is doubts (maps.get rest) s c is in
+        let w = watched.each s c (sure_by doubts (maps.get live) s c (was_there live slot s c left.0) left.1) m (fewer (complement m) h) there in (w.0, w.1, part w.0 w.2 (other_literal s c left.0 w.0 w.1));
   }
 
-  watched_front : (d before p wide : ℕ) → IsFront place d before → IsFront place p wide → IsWatched (maps.get live) (take before lits) (take wide lits) → IsWatched (maps.get rest) (take d out) (take p out)
-  watched_front d before p wide first second =
-      watched_out (take before lits) (take d out) (take wide lits) (take p out) (front_was lits place inside d before first) (front_still lits place inside l stands p wide second)
+  watched_front : (doubts : List ℕ) (d before p wide : ℕ) → IsFront place d before → IsFront place p wide → IsWatched (sure_of doubts (maps.get live)) (take before lits) (take wide lits) →
+      IsWatched (sure_of doubts (maps.get rest)) (take d out) (take p out)
+  watched_front doubts d before p wide first second =
+      watched_out doubts (take before lits) (take d out) (take wide lits) (take p out) (front_was lits place inside d before first) (front_still lits place inside l stands p wide second)
 
   -- ---- Visits
 
@@ -141,8 +144,8 @@ module _ (live : FinMap nat_cmp Clause) (slot place : ℕ) (l : Literal) (lits :
     shorter : length out + 1 ≡ length lits
     shorter = length-remove lits place inside
 
-    pub history_out : IsHistory (maps.get live) old lits → IsHistory (maps.get rest) now out
-    history_out history = record {
+    pub history_out : (doubts : List ℕ) → IsHistory (sure_of doubts (maps.get live)) old lits → IsHistory (sure_of doubts (maps.get rest)) now out
+    history_out doubts history = record {
       inside = elim fewer [
         | inl less ↦ let n = shorter in let most = history.inside in omega (arith, n, most, less)
         | inr same ↦ let n = shorter in let e = same.0 in let most = same.1 in omega (arith, n, e, most, inside)
@@ -161,7 +164,7 @@ module _ (live : FinMap nat_cmp Clause) (slot place : ℕ) (l : Literal) (lits :
           let wide = widened p up.0 up.1 in
           let reach = is.reach in
           let n = shorter in
-          watched_front d w.0 p up.0 is.front up.1
+          watched_front doubts d w.0 p up.0 is.front up.1
           (history.before w.0 up.0 is.within (let most = wide.0 in omega (arith, at_most, reach, most)) (let most = wide.0 in omega (arith, above, floor_is, most)) (let most = wide.1 in omega (arith, within, n, most)));
     }
       where
@@ -171,8 +174,8 @@ module _ (live : FinMap nat_cmp Clause) (slot place : ℕ) (l : Literal) (lits :
           | inr f ↦ let e = f.0 in (omega (arith, e), omega (arith, e))
         ]
 
-    pub visited_out : IsWatched (maps.get live) (take (visits old) lits) lits → IsWatched (maps.get rest) (take (visits now) out) out
-    visited_out = watched_out (take (visits old) lits) (take (visits now) out) lits out (front_was lits place inside (visits now) (visits old) front) (still_there lits place inside l stands)
+    pub visited_out : (doubts : List ℕ) → IsWatched (sure_of doubts (maps.get live)) (take (visits old) lits) lits → IsWatched (sure_of doubts (maps.get rest)) (take (visits now) out) out
+    visited_out doubts = watched_out doubts (take (visits old) lits) (take (visits now) out) lits out (front_was lits place inside (visits now) (visits old) front) (still_there lits place inside l stands)
       where
         front : IsFront place (visits now) (visits old)
         front = elim (cases_lt place (visits old)) [
@@ -193,7 +196,7 @@ module _ (live : FinMap nat_cmp Clause) (slot place : ℕ) (l : Literal) (lits :
   known_out : (kept : Kept) → has_clash kept ≡ false → IsKnown live kept lits → IsKnown rest kept out
   known_out Cut quiet known = known
   known_out Behind quiet known = units_out known
-  known_out All quiet known = (watched_out lits out lits out (was_true lits place inside) (still_there lits place inside l stands) known.0, units_out known.1)
+  known_out All quiet known = (watched_out [] lits out lits out (was_true lits place inside) (still_there lits place inside l stands) known.0, units_out known.1)
   known_out (KeptClash s) quiet known = absurd (true≢false quiet)
 
   -- ---- Places
@@ -302,13 +305,17 @@ module _ (live : FinMap nat_cmp Clause) (slot place : ℕ) (l : Literal) (lits :
   pub kept_out : (roots after : Roots) → IsUnneeded (maps.get live) (at roots.reasons) lits place l → IsKept live roots lits → has_clash roots.kept ≡ false → after.kept ≡ roots.kept → after.reasons ≡ roots.reasons →
       at roots.reasons l ≡ Some slot → (place < roots.uses.counted → after.uses.counted + 1 ≡ roots.uses.counted) → ((k : Literal) → times roots.uses k ≤ times after.uses k + cond (eqb k l) 1 0) → (roots.uses.counted ≤ place → after.uses ≡ roots.uses) →
       (place < visits roots.history → after.history.visited.items ≡ remove roots.history.visited.items place) → (visits roots.history ≤ place → after.history.visited.items ≡ roots.history.visited.items) → after.history.floor ≡ roots.history.floor →
-      IsKept rest after out
-  kept_out roots after unneeded kept quiet kept_is reasons_are by_it fewer less same gone stays floor_is = record {
+      after.history.doubts ≡ roots.history.doubts → IsKept rest after out
+  kept_out roots after unneeded kept quiet kept_is reasons_are by_it fewer less same gone stays floor_is doubts_are = record {
     noted = subst (λ t. AreNoted (maps.get (each_in_order rest)) (at t)) (sym reasons_are) (noted_left live slot (at roots.reasons) kept.noted);
     reasoned = subst (λ t. AreReasoned (maps.get (each_in_order rest)) (at t) out) (sym reasons_are) (reasoned_out (at roots.reasons) unneeded kept.reasoned);
     known = subst (λ k. IsKnown rest k out) (sym kept_is) (known_out roots.kept quiet kept.known);
-    history = history_out roots.history after.history gone stays floor_is kept.history;
-    visited = λ _. visited_out roots.history after.history gone stays floor_is (kept.visited quiet);
+    history =
+        subst (λ ds. IsHistory (sure_of ds.items (maps.get rest)) after.history out) (sym doubts_are) (history_out roots.history after.history gone stays floor_is roots.history.doubts.items kept.history);
+    visited = λ _.
+        subst (λ ds. IsWatched (sure_of (cond (is_cut after.kept) ds.items []) (maps.get rest)) (take (visits after.history) out) out) (sym doubts_are)
+        (subst (λ k. IsWatched (sure_of (cond (is_cut k) roots.history.doubts.items []) (maps.get rest)) (take (visits after.history) out) out) (sym kept_is)
+        (visited_out roots.history after.history gone stays floor_is (cond (is_cut roots.kept) roots.history.doubts.items []) (kept.visited quiet)));
     counted = subst (λ t. AreCounted (maps.get rest) (at t) out after.uses) (sym reasons_are)
         (counted_out lits place l inside stands different (maps.get live) (maps.get rest) (at roots.reasons) roots.uses after.uses (ap (clause_in (maps.get live)) by_it ∙ unit) (λ k m. in_rest live slot k (at roots.reasons m)) fewer less same kept.counted);
   }

@@ -1,12 +1,15 @@
 -- Clauses of which a literal is true.
-use Rattle.std.proofs.Common.{◌≡◌, ℕ, false, Some, List, [], ◌∷◌, ◌++◌, take, drop, refl}
+use Rattle.std.proofs.Common.{◌≡◌, ℕ, Bool, true, false, cond, Some, None, List, [], ◌∷◌, ◌++◌, take}
+use Rattle.std.proofs.Common.{drop, refl}
 use Rattle.std.proofs.Common.{sym, ap, ◌∙◌, subst}
 use Rattle.std.proofs.lemmas.Bool.{true≢false}
 use Rattle.std.proofs.lemmas.List.{take-append-drop}
+use Rattle.std.proofs.lemmas.Option.{none-some}
 use Rattle.cnf_base.specs.Literals.{Literal, complement, Clause, has}
 use Rattle.cnf_base.proofs.LiteralLemmas.{complement-complement}
 use Rattle.cnf_base.proofs.SetLemmas.{has_append_left}
 use Rattle.theory.specs.Propagation.{Live}
+use Rattle.root_literals.specs.History.{sure_of}
 use Rattle.root_literals.specs.Watched.{IsPart, watches, IsMet, IsWatched, HasUnit}
 use Rattle.trail.proofs.TrailLemmas.Longer.{pushed_each}
 
@@ -37,3 +40,33 @@ watched_grown live done trues more part watched = record { each = λ s c is l h.
 
 pub watched_done : (live : Live) (done other trues : List Literal) → other ≡ done → IsWatched live done trues → IsWatched live other trues
 watched_done live done other trues same watched = subst (λ ls. IsWatched live ls trues) (sym same) watched
+
+-- ---- Clauses that are not doubtful
+
+pub sure_is : (doubts : List ℕ) (live : Live) (s : ℕ) (c : Clause) → sure_of doubts live s ≡ Some c → (live s ≡ Some c) × (has doubts s ≡ false)
+sure_is doubts live s c is = by_test (has doubts s) refl is
+  where
+    by_test : (b : Bool) → has doubts s ≡ b → cond b None (live s) ≡ Some c → (live s ≡ Some c) × (has doubts s ≡ false)
+    by_test true e h = absurd (none-some c h)
+    by_test false e h = (h, e)
+
+pub sure_by : (doubts : List ℕ) (live : Live) (s : ℕ) (c : Clause) → live s ≡ Some c → has doubts s ≡ false → sure_of doubts live s ≡ Some c
+sure_by doubts live s c is sure = ap (λ b. cond b None (live s)) sure ∙ is
+
+-- where each clause that is sure was so
+pub watched_sure : (live after : Live) (doubts later : List ℕ) (done trues : List Literal) → ((s : ℕ) (c : Clause) → after s ≡ Some c → has later s ≡ false → (live s ≡ Some c) × (has doubts s ≡ false)) →
+    IsWatched (sure_of doubts live) done trues → IsWatched (sure_of later after) done trues
+watched_sure live after doubts later done trues was watched = record {
+  each = λ s c is.
+      let now = sure_is later after s c is in
+      let before = was s c now.0 now.1 in
+      watched.each s c (sure_by doubts live s c before.0 before.1);
+}
+
+pub watched_all : (live : Live) (doubts : List ℕ) (done trues : List Literal) → IsWatched live done trues → IsWatched (sure_of doubts live) done trues
+watched_all live doubts done trues watched = record { each = λ s c is. watched.each s c (sure_is doubts live s c is).0 }
+
+-- after a cut or not
+pub watched_most : (live : Live) (doubts : List ℕ) (is_cut : Bool) (done trues : List Literal) → IsWatched (sure_of (cond is_cut doubts []) live) done trues → IsWatched (sure_of doubts live) done trues
+watched_most live doubts true done trues watched = watched
+watched_most live doubts false done trues watched = watched_all live doubts done trues watched

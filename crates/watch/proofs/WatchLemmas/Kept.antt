@@ -1,5 +1,5 @@
 -- What is kept of the literals that are true with nothing assumed.
-use Rattle.std.proofs.Common.{◌≡◌, ℕ, true, false, Option, Some, is_some, List, [], ◌∷◌}
+use Rattle.std.proofs.Common.{◌≡◌, ℕ, true, false, cond, Option, Some, is_some, List, [], ◌∷◌}
 use Rattle.std.proofs.Common.{length, take, refl, sym, ap, ◌∙◌, subst}
 use Rattle.std.specs.Ordering.{nat_cmp}
 use Rattle.std.specs.FinMap as maps
@@ -9,10 +9,10 @@ use Rattle.cnf_base.specs.Literals.{Literal, complement, Clause, has, size}
 use Rattle.tables.specs.Filled.{at}
 use Rattle.theory.specs.Propagation.{Clash, Forced}
 use Rattle.propagation.specs.Assumptions.{Assumption, AssumptionsState, roots_in}
-use Rattle.root_literals.specs.History.{IsHistory, visits}
+use Rattle.root_literals.specs.History.{IsHistory, sure_of, visits}
 use Rattle.root_literals.specs.Order.{each_in_order}
 use Rattle.root_literals.specs.Roots.{AreNoted, AreReasoned, HaveUnits, IsKept, IsKnown, IsStanding}
-use Rattle.root_literals.specs.Roots.{is_up_to_date, has_clash}
+use Rattle.root_literals.specs.Roots.{is_up_to_date, has_clash, is_cut}
 use Rattle.propagation.specs.Code.Closure.{AreForced}
 use Rattle.watch.specs.Code.Visits.{PropagatesTo}
 use Rattle.root_literals.specs.Watched.{IsPart, IsWatched}
@@ -29,6 +29,7 @@ use Rattle.trail.proofs.TrailLemmas.MakesFalse.{no_conflict}
 use Rattle.watch.proofs.WatchLemmas.Closed.{all_closed, all_quiet, units_carried}
 use Rattle.root_literals.proofs.RootLemmas.Watched.{front_part}
 use Rattle.root_literals.proofs.RootLemmas.History.{history_among}
+use Rattle.root_literals.proofs.RootLemmas.Kept.{seen_same}
 use Rattle.root_literals.proofs.RootLemmas.Reasons.{reasoned_forced, reasoned_same}
 use Rattle.root_literals.proofs.RootLemmas.Uses.{counted_in_order}
 use Rattle.root_literals.specs.Uses.{AreCounted}
@@ -92,18 +93,18 @@ module _ (a b : FinMap nat_cmp Clause) (x y : AssumptionsState) (r s : Literal �
   pub known_carried : (kept : Kept) (lits : List Literal) → IsPart lits x.trail.lits → IsKnown a kept lits → IsKnown b kept lits
   known_carried Cut lits part known = known
   known_carried Behind lits part known = units_carried a b lits carried.same carried.short known
-  known_carried All lits part known = (carried.kept lits lits part part known.0, units_carried a b lits carried.same carried.short known.1)
+  known_carried All lits part known = (carried.kept [] lits lits part part known.0, units_carried a b lits carried.same carried.short known.1)
   known_carried (KeptClash slot) lits part known = record { clause = known.clause; at = ap (λ m. maps.get m slot) carried.same ∙ known.at; falses = known.falses }
 
   -- what is watched still is
-  pub front_carried : (lits : List Literal) → IsPart lits x.trail.lits → (d p : ℕ) → IsWatched (maps.get a) (take d lits) (take p lits) → IsWatched (maps.get b) (take d lits) (take p lits)
-  front_carried lits part d p = carried.kept (take d lits) (take p lits) (λ l h. part l (front_part d lits l h)) (λ l h. part l (front_part p lits l h))
+  pub front_carried : (doubts : List ℕ) (lits : List Literal) → IsPart lits x.trail.lits → (d p : ℕ) → IsWatched (sure_of doubts (maps.get a)) (take d lits) (take p lits) → IsWatched (sure_of doubts (maps.get b)) (take d lits) (take p lits)
+  front_carried doubts lits part d p = carried.kept doubts (take d lits) (take p lits) (λ l h. part l (front_part d lits l h)) (λ l h. part l (front_part p lits l h))
 
-  pub history_carried : (history : History) (lits : List Literal) → IsPart lits x.trail.lits → IsHistory (maps.get a) history lits → IsHistory (maps.get b) history lits
-  history_carried history lits part = history_among (maps.get a) (maps.get b) history lits (λ d p _ _ _. front_carried lits part d p)
+  pub history_carried : (doubts : List ℕ) (history : History) (lits : List Literal) → IsPart lits x.trail.lits → IsHistory (sure_of doubts (maps.get a)) history lits → IsHistory (sure_of doubts (maps.get b)) history lits
+  history_carried doubts history lits part = history_among (sure_of doubts (maps.get a)) (sure_of doubts (maps.get b)) history lits (λ d p _ _ _. front_carried doubts lits part d p)
 
-  pub visited_carried : (n : ℕ) (lits : List Literal) → IsPart lits x.trail.lits → IsWatched (maps.get a) (take n lits) lits → IsWatched (maps.get b) (take n lits) lits
-  visited_carried n lits part = carried.kept (take n lits) lits (λ l h. part l (front_part n lits l h)) part
+  pub visited_carried : (doubts : List ℕ) (n : ℕ) (lits : List Literal) → IsPart lits x.trail.lits → IsWatched (sure_of doubts (maps.get a)) (take n lits) lits → IsWatched (sure_of doubts (maps.get b)) (take n lits) lits
+  visited_carried doubts n lits part = carried.kept doubts (take n lits) lits (λ l h. part l (front_part n lits l h)) part
 
   pub reasoned_carried : (lits : List Literal) → IsPart lits x.trail.lits → AreReasoned (maps.get (each_in_order a)) r lits → AreReasoned (maps.get (each_in_order b)) s lits
   reasoned_carried lits part are =
@@ -121,10 +122,10 @@ module _ (a b : FinMap nat_cmp Clause) (x y : AssumptionsState) (r s : Literal �
         reasoned_same (maps.get (each_in_order b)) s lits
         (reasoned_carried lits part (reasoned_same (maps.get (each_in_order a)) (at roots.reasons) lits kept.reasoned r (λ l h. sym (before_is l)))) (at after.reasons) (λ l h. after_is l);
     known = subst (λ k. IsKnown b k lits) (sym kept_is) (known_carried roots.kept lits part kept.known);
-    history = subst (λ h. IsHistory (maps.get b) h lits) (sym history_is) (history_carried roots.history lits part kept.history);
-    visited = λ quiet.
-        subst (λ h. IsWatched (maps.get b) (take (visits h) lits) lits) (sym history_is)
-        (visited_carried (visits roots.history) lits part (kept.visited (ap has_clash (sym kept_is) ∙ quiet)));
+    history = subst (λ h. IsHistory (sure_of h.doubts.items (maps.get b)) h lits) (sym history_is) (history_carried roots.history.doubts.items roots.history lits part kept.history);
+    visited =
+        seen_same (maps.get b) roots after lits kept_is history_is
+        (λ quiet. visited_carried (cond (is_cut roots.kept) roots.history.doubts.items []) (visits roots.history) lits part (kept.visited quiet));
     counted = subst (AreCounted (maps.get b) (at after.reasons) lits) (sym uses_are)
         (counted_in_order a b (at roots.reasons) (at after.reasons) lits roots.uses carried.same (λ l h. after_is l ∙ carried.as_before l (part l h) ∙ sym (before_is l)) kept.counted);
   }

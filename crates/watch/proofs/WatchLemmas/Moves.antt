@@ -18,6 +18,8 @@ use Rattle.theory.specs.Propagation.{Live}
 use Rattle.watch_lists.specs.Lists.{entries_of, fits, unfit_entries}
 use Rattle.root_literals.specs.Watched.{watches, is_short, entries_for, short_for, IsListed, IsMet}
 use Rattle.root_literals.specs.Watched.{IsWatched}
+use Rattle.root_literals.specs.History.{sure_of}
+use Rattle.root_literals.proofs.RootLemmas.Watched.{sure_by, sure_is}
 use Rattle.cnf_base.proofs.MemberLemmas.{has_place, has_front}
 use Rattle.watch_lists.proofs.WatchListsLemmas.Lists.{entry_fits, eqb_turned, unfit_alike}
 use Rattle.watch_lists.proofs.WatchListsLemmas.Lists.{unfit_none, unfit_pushed}
@@ -238,14 +240,17 @@ module _ (live : FinMap nat_cmp Clause) (slot : ℕ) (c d : Clause) (here : maps
     ];
   }
 
-  pub watched_moved : (done trues : List Literal) → ((x : Literal) → has done (complement x) ≡ true → IsMet c x trues → IsMet d x trues) →
-      IsWatched (maps.get live) done trues → IsWatched (maps.get (maps.insert live slot d)) done trues
-  watched_moved done trues moved watched = record {
-    each = λ s e is x h. elim (cases_eq s slot) [
-      | inl same ↦
-          subst (λ y. IsMet y x trues) (same_Some d e (sym at_slot ∙ ap (maps.get (maps.insert live slot d)) (sym same) ∙ is)) (moved x h (watched.each slot c here x h))
-      | inr ne ↦ watched.each s e (sym (at_others s ne) ∙ is) x h
-    ];
+  pub watched_moved : (doubts : List ℕ) (done trues : List Literal) → ((x : Literal) → has done (complement x) ≡ true → IsMet c x trues → IsMet d x trues) →
+      IsWatched (sure_of doubts (maps.get live)) done trues → IsWatched (sure_of doubts (maps.get (maps.insert live slot d))) done trues
+  watched_moved doubts done trues moved watched = record {
+    each = λ s e is x h.
+        let now = sure_is doubts (maps.get (maps.insert live slot d)) s e is in
+        elim (cases_eq s slot) [
+          | inl same ↦
+              subst (λ y. IsMet y x trues) (same_Some d e (sym at_slot ∙ ap (maps.get (maps.insert live slot d)) (sym same) ∙ now.0))
+              (moved x h (watched.each slot c (sure_by doubts (maps.get live) slot c here (ap (has doubts) (sym same) ∙ now.1)) x h))
+          | inr ne ↦ watched.each s e (sure_by doubts (maps.get live) s e (sym (at_others s ne) ∙ now.0) now.1) x h
+        ];
   }
 
   pub shorts_moved : is_short d ≡ is_short c → (s : ℕ) → short_for (maps.get (maps.insert live slot d) s) ≡ short_for (maps.get live s)

@@ -33,7 +33,7 @@ pub propagates_none : (live : FinMap nat_cmp Clause) (held : AssumptionsState) (
 propagates_none live held reason_of = record {
   same = refl;
   short = λ s. refl;
-  kept = λ done trues p q w. w;
+  kept = λ doubts done trues p q w. w;
   sound = λ l h. forced_assumed (maps.get (each_in_order live)) held.trail.lits l h;
   extends = extends_none held;
   noted = λ l h. h;
@@ -46,7 +46,7 @@ propagates_on a b c x y z r s t first second =
     let more : IsPart x.trail.lits y.trail.lits = λ l h. has_begun x.trail.lits y.trail.lits l first.extends.begins h in record {
       same = second.same ∙ first.same;
       short = λ s. second.short s ∙ first.short s;
-      kept = λ done trues p q w. second.kept done trues (λ l h. more l (p l h)) (λ l h. more l (q l h)) (first.kept done trues p q w);
+      kept = λ doubts done trues p q w. second.kept doubts done trues (λ l h. more l (p l h)) (λ l h. more l (q l h)) (first.kept doubts done trues p q w);
       sound = λ l h. forced_through (maps.get (each_in_order a)) y.trail.lits x.trail.lits first.sound l (subst (λ m. Forced (maps.get m) y.trail.lits l) first.same (second.sound l h));
       extends = extends_on x y z first.extends second.extends;
       noted = λ l h. second.noted l (first.noted l h);
@@ -67,8 +67,8 @@ module _ (live : FinMap nat_cmp Clause) (held : AssumptionsState) (slot : ℕ) (
   propagates_moved from to l m different low there past inside to_is m_open reason_of = record {
     same = ordered_same live slot c (swap c from to) here swapped;
     short = shorts_moved live slot c (swap c from to) here l m moved (short_moved c from to low past inside);
-    kept = λ done trues p q w.
-        watched_moved live slot c (swap c from to) here l m moved done trues
+    kept = λ doubts done trues p q w.
+        watched_moved live slot c (swap c from to) here l m moved doubts done trues
         (λ x h old there.
         let met = old (still_watched l m c (swap c from to) moved x (λ e. false≢true (sym m_open ∙ ap (λ k. has held.trail.lits (complement k)) (sym e) ∙ p (complement x) h)) there) in
         (met.0, swapped met.0 ∙ met.1, met.2)) w;
@@ -98,7 +98,7 @@ module _ (live : FinMap nat_cmp Clause) (held : AssumptionsState) (slot : ℕ) (
     propagates_unit after is_open was is reserved assumptions starts reason_of reason_now reasons = record {
       same = refl;
       short = λ s. refl;
-      kept = λ done trues p q w. w;
+      kept = λ doubts done trues p q w. w;
       sound = λ l h. by_open is_open is l h;
       extends = extends_made held after m is_open was is reserved assumptions starts;
       noted = λ l h. ap is_some (reasons l) ∙ noted_set (is_open && eqb l m) (reason_of l) h;

@@ -16,9 +16,9 @@ use Rattle.theory.specs.Sets.{SameSet}
 use Rattle.trail.specs.Trail.{HasRoomForAll}
 use Rattle.watch_lists.specs.Lists.{entries_in, entries_of, list_at, unfit_entries}
 use Rattle.watch_lists.specs.Lists.{times_in}
-use Rattle.root_literals.specs.History.{IsHistory, visits}
+use Rattle.root_literals.specs.History.{IsHistory, sure_of}
 use Rattle.root_literals.specs.Order.{each_in_order}
-use Rattle.root_literals.specs.Roots.{IsKept, IsKnown, IsStanding, has_clash, is_up_to_date}
+use Rattle.root_literals.specs.Roots.{IsKept, IsKnown, IsStanding, is_up_to_date}
 use Rattle.propagation.specs.Code.Closure.{AreForced}
 use Rattle.watch.specs.Code.State.{AddsRoom, AreLists, HasAll, HaveReasons, IsWatch}
 use Rattle.watch.specs.Code.Visits.{PropagatesTo}
@@ -39,7 +39,7 @@ use Rattle.root_literals.proofs.RootLemmas.Watched.{front_part}
 use Rattle.watch.proofs.WatchLemmas.Lists.{added, lists_added, lists_removed, lists_same, removed}
 use Rattle.watch.proofs.WatchLemmas.Lists.{short_weight}
 use Rattle.watch.proofs.WatchLemmas.Kept.{kept_carried, kept_forced, roots_alone, roots_part}
-use Rattle.root_literals.proofs.RootLemmas.Kept.{kept_nothing}
+use Rattle.root_literals.proofs.RootLemmas.Kept.{kept_nothing, seen_same}
 use Rattle.root_literals.proofs.RootLemmas.Order.{ordered_empty, size-in_order, sum_ordered}
 use Rattle.root_literals.proofs.RootLemmas.Reasons.{reasoned_same, reasoned_some}
 use Rattle.root_literals.proofs.RootLemmas.Uses.{counted_in_order, counted_same}
@@ -67,7 +67,7 @@ are_kept : (a b : FinMap nat_cmp Clause) (x y : AssumptionsState) (r t : Literal
 are_kept a b x y r t carried lits part [] starts watched = tt
 are_kept a b x y r t carried lits part (last ∷ rest) [] watched = tt
 are_kept a b x y r t carried lits part (last ∷ rest) (start ∷ starts) watched =
-    (λ quiet. carried.kept lits lits part part (watched.0 quiet), are_kept a b x y r t carried (take start lits) (λ l h. part l (front_part start lits l h)) rest starts watched.1)
+    (λ quiet. carried.kept [] lits lits part part (watched.0 quiet), are_kept a b x y r t carried (take start lits) (λ l h. part l (front_part start lits l h)) rest starts watched.1)
 
 -- ---- The literals that are true with nothing assumed
 
@@ -173,10 +173,8 @@ watch_noted loading live lists short roots after held kept_is history_is counted
         let live_shown = maps.get (each_in_order live) in
         reasoned_same live_shown (at roots.reasons) lits watch.kept.reasoned (at after.reasons) (λ l h. old l (reasoned_some live_shown (at roots.reasons) lits watch.kept.reasoned l h));
     known = subst (λ k. IsKnown live k (roots_in held.trail.lits held.assumptions held.starts)) (sym kept_is) watch.kept.known;
-    history = subst (λ h. IsHistory (maps.get live) h (roots_in held.trail.lits held.assumptions held.starts)) (sym history_is) watch.kept.history;
-    visited = λ quiet.
-        subst (λ h. IsWatched (maps.get live) (take (visits h) (roots_in held.trail.lits held.assumptions held.starts)) (roots_in held.trail.lits held.assumptions held.starts)) (sym history_is)
-        (watch.kept.visited (ap has_clash (sym kept_is) ∙ quiet));
+    history = subst (λ h. IsHistory (sure_of h.doubts.items (maps.get live)) h (roots_in held.trail.lits held.assumptions held.starts)) (sym history_is) watch.kept.history;
+    visited = seen_same (maps.get live) roots after (roots_in held.trail.lits held.assumptions held.starts) kept_is history_is watch.kept.visited;
     counted = let lits = roots_in held.trail.lits held.assumptions held.starts in
         let live_shown = maps.get (each_in_order live) in
         counted_same (maps.get live) (at after.reasons) lits roots.uses after.uses counted_is times_are

@@ -92,8 +92,8 @@ module _ (c : Clause) (from : ℕ) (low : from < 2) (long : 2 ≤ length c) wher
     propagates_turned held reason_of = record {
       same = ordered_same live slot c (turned c from) here turned_has;
       short = shorts_moved live slot c (turned c from) here 0 0 (same_entries 0) (turned_short c from low long);
-      kept = λ done trues p q w.
-          watched_moved live slot c (turned c from) here 0 0 (same_entries 0) done trues
+      kept = λ doubts done trues p q w.
+          watched_moved live slot c (turned c from) here 0 0 (same_entries 0) doubts done trues
           (λ x h old there. let met = old (sym (turned_watches c from low long x) ∙ there) in (met.0, turned_has met.0 ∙ met.1, met.2)) w;
       sound = λ l h. forced_assumed (maps.get (each_in_order live)) held.trail.lits l h;
       extends = extends_none held;

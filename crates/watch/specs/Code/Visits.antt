@@ -12,6 +12,7 @@ use Rattle.propagation.specs.Code.Exact.{Extends}
 use Rattle.watch_lists.specs.Cursor.{CursorState}
 use Rattle.watch_lists.specs.Lists.{entries_in, entries_of, fits, has_list_at, list_at}
 use Rattle.watch_lists.specs.Lists.{slot_at}
+use Rattle.root_literals.specs.History.{sure_of}
 use Rattle.root_literals.specs.Order.{each_in_order}
 use Rattle.root_literals.specs.Roots.{AreNoted, AreReasoned}
 use Rattle.root_literals.specs.Watched.{IsListed, IsMet, IsPart, IsWatched, short_for, watches}
@@ -73,9 +74,9 @@ pub record PropagatesTo (before after : FinMap nat_cmp Clause) (held now : Assum
     (reason_of reason_now : Literal → Option ℕ) : Type 0 where
   pub same : each_in_order after ≡ each_in_order before
   pub short : (s : ℕ) → short_for (maps.get after s) ≡ short_for (maps.get before s)
-  pub kept : (done trues : List Literal) → IsPart done held.trail.lits →
-      IsPart trues held.trail.lits →
-      IsWatched (maps.get before) done trues → IsWatched (maps.get after) done trues
+  pub kept : (doubts : List ℕ) (done trues : List Literal) → IsPart done held.trail.lits →
+      IsPart trues held.trail.lits → IsWatched (sure_of doubts (maps.get before)) done trues →
+      IsWatched (sure_of doubts (maps.get after)) done trues
   pub sound : (l : Literal) → IsTrue (has now.trail.lits l) →
       Forced (maps.get (each_in_order before)) held.trail.lits l
   pub extends : Extends held now

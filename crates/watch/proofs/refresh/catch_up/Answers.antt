@@ -1,17 +1,18 @@
 use Rattle.std.proofs.Common.{◌≡◌, ◌+◌, ◌<◌, ◌≤◌, ◌++◌, ◌∷◌, [], Some, IfSome, IfNone, length, take}
-use Rattle.std.proofs.Common.{ℕ, refl, sym, ap, ◌∙◌, subst, arith}
+use Rattle.std.proofs.Common.{ℕ, cond, refl, sym, ap, ◌∙◌, subst, arith}
 use Rattle.std.specs.FinMap as maps
 use Rattle.std.proofs.lemmas.Bool.{true≢false}
 use Rattle.std.proofs.lemmas.List.{length-append, take_all}
 use Rattle.cnf_base.specs.Literals.{Clause, complement}
 use Rattle.tables.specs.Filled.{at}
-use Rattle.root_literals.specs.History.{IsHistory, visits}
+use Rattle.root_literals.specs.History.{IsHistory, sure_of, visits}
 use Rattle.root_literals.specs.Order.{each_in_order}
-use Rattle.root_literals.specs.Roots.{IsFalseAt, IsKnown, has_clash}
+use Rattle.root_literals.specs.Roots.{IsFalseAt, IsKnown, has_clash, is_cut}
 use Rattle.root_literals.specs.Watched.{IsMet, IsWatched}
 use Rattle.watch.proofs.WatchLemmas.CatchUp.{history_grown, kept_grown, visited_more}
 use Rattle.watch.proofs.WatchLemmas.Closed.{units_kept}
 use Rattle.root_literals.proofs.RootLemmas.History.{history_begun}
+use Rattle.root_literals.proofs.RootLemmas.Watched.{watched_all}
 use Rattle.watch.proofs.WatchLemmas.Visited.{can_follow_on, false_at, fits_on, followed_none}
 use Rattle.watch.proofs.WatchLemmas.Visited.{followed_on, read_at}
 use Rattle.watch.proofs.refresh.catch_up.Goals as goal
@@ -26,7 +27,12 @@ loop-done-init c =
     record {
       count = sym c.len-done.ensures;
       history = kept.history;
-      watched = subst (λ n. IsWatched (maps.get c.args.store.now.live) (take n c.args.assumptions.now.trail.lits) c.args.assumptions.now.trail.lits) (sym c.len-done.ensures) (kept.visited (ap has_clash c.in-Behind.is));
+      watched =
+          let lits = c.args.assumptions.now.trail.lits in
+          let live = maps.get c.args.store.now.live in
+          let history = c.args.roots.now.history in
+          subst (λ n. IsWatched live (take n lits) lits) (sym c.len-done.ensures)
+          (subst (λ k. IsWatched (sure_of (cond (is_cut k) history.doubts.items []) live) (take (visits history) lits) lits) c.in-Behind.is (kept.visited (ap has_clash c.in-Behind.is)));
       followed = followed_none c.requires.can;
       uses = refl;
     }
@@ -52,7 +58,7 @@ loop-done-smaller c =
     omega (arith, fits, inside)
 
 -- the visit is noted, and what was visited before it stays so
-loop-visited : (c : In_ok-slot) → (visits c.begin.new.self ≡ c.loop-done.done + 1) × IsHistory (maps.get c.follow.new.store.live) c.begin.new.self c.follow.new.assumptions.trail.lits
+loop-visited : (c : In_ok-slot) → (visits c.begin.new.self ≡ c.loop-done.done + 1) × IsHistory (sure_of c.begin.new.self.doubts.items (maps.get c.follow.new.store.live)) c.begin.new.self c.follow.new.assumptions.trail.lits
 loop-visited c =
     let before = c.loop-done in
     let so_far = before.invariant in
@@ -66,9 +72,13 @@ loop-visited c =
     let trues = c.len-in-loop-done.ensures.value ∙ ap (λ t. length t.lits) c.trail-in-loop-done-2.ensures in
     let pushed = c.in_ok-begin.ensures.visited ∙ ap (λ n. before.roots.history.visited.items ++ n ∷ []) trues in
     let one_more = ap length pushed ∙ length-append before.roots.history.visited.items (length x.trail.lits ∷ []) in
-    let begun = history_begun (maps.get a) before.roots.history c.begin.new.self x.trail.lits (omega (arith, count, inside)) pushed c.in_ok-begin.ensures.floor (subst (λ n. IsWatched (maps.get a) (take n x.trail.lits) x.trail.lits) (sym count) so_far.watched) so_far.history in (
+    let ds = before.roots.history.doubts.items in
+    let sure = λ (n : ℕ). watched_all (maps.get a) ds (take n x.trail.lits) x.trail.lits in
+    let watched = sure (visits before.roots.history) (subst (λ n. IsWatched (maps.get a) (take n x.trail.lits) x.trail.lits) (sym count) so_far.watched) in
+    let begun = history_begun (sure_of ds (maps.get a)) before.roots.history c.begin.new.self x.trail.lits (omega (arith, count, inside)) pushed c.in_ok-begin.ensures.floor watched so_far.history in (
       one_more ∙ ap (λ n. n + 1) count,
-      history_grown a b x y (at before.roots.reasons) (at c.follow.new.reasons) step c.begin.new.self before.done (omega (arith, one_more, count)) so_far.watched begun,
+      subst (λ v. IsHistory (sure_of v.items (maps.get b)) c.begin.new.self y.trail.lits) (sym c.in_ok-begin.ensures.doubts)
+          (history_grown a b x y (at before.roots.reasons) (at c.follow.new.reasons) step ds c.begin.new.self before.done (omega (arith, one_more, count)) (sure before.done so_far.watched) begun),
     )
 
 pub loop-done-preserved : goal.loop-done-preserved

@@ -1,7 +1,7 @@
 use Rattle.std.proofs.Common.{◌≡◌, ◌-◌, length, take}
 use Rattle.std.specs.FinMap as maps
 use Rattle.tables.specs.Filled.{at}
-use Rattle.root_literals.specs.History.{IsHistory, visits}
+use Rattle.root_literals.specs.History.{IsHistory, sure_of, visits}
 use Rattle.watch.specs.Code.Visits.{Followed}
 use Rattle.root_literals.specs.Watched.{IsWatched}
 use Rattle.watch.proofs.refresh.catch_up.Given as goal
@@ -9,7 +9,9 @@ use Rattle.watch.proofs.refresh.catch_up.Given as goal
 abbrev pub invariant-loop-done : goal.invariant-loop-done
 invariant-loop-done l = record {
   count : visits l.roots.history ≡ l.done;
-  history : IsHistory (maps.get l.store.live) l.roots.history l.assumptions.trail.lits;
+  history :
+      IsHistory (sure_of l.roots.history.doubts.items (maps.get l.store.live)) l.roots.history
+      l.assumptions.trail.lits;
   watched :
       IsWatched (maps.get l.store.live)
       (take l.done l.assumptions.trail.lits) l.assumptions.trail.lits;

@@ -1,20 +1,40 @@
-use Rattle.std.proofs.Common.{IfSome, IfNone, refl, ap, subst}
+use Rattle.std.proofs.Common.{◌≡◌, IfSome, IfNone, [], refl, ap, subst, take}
 use Rattle.std.specs.FinMap as maps
+use Rattle.std.proofs.lemmas.Bool.{true≢false}
+use Rattle.tables.specs.Filled.{at}
+use Rattle.root_literals.specs.History.{visits}
 use Rattle.root_literals.specs.Order.{each_in_order}
 use Rattle.root_literals.specs.Roots.{HaveUnits, IsFalseAt, has_clash}
-use Rattle.watch.proofs.WatchLemmas.CatchUp.{kept_started}
+use Rattle.root_literals.specs.Watched.{IsWatched}
+use Rattle.watch.proofs.WatchLemmas.CatchUp.{kept_started, visited_grown}
+use Rattle.watch.proofs.WatchLemmas.PropagatesTo.{propagates_none}
 use Rattle.watch.proofs.refresh.start.Goals as goal
 
 pub returns-in-Some-clause-kept : goal.returns-in-Some-clause-kept
 returns-in-Some-clause-kept c =
     let live = c.args.store.now.live in
+    let x = c.settle.new.assumptions in
+    let roots = c.settle.new.roots in
+    kept_started live x x roots _ (propagates_none live x (at roots.reasons)) c.settle.ensures.kept (ap has_clash c.settle.ensures.cut) refl
+    (subst (λ o. IfSome o (λ k. IsFalseAt (maps.get (each_in_order live)) k x.trail.lits)) c.in-Some.is c.settle.ensures.clash) refl (λ quiet. absurd (true≢false quiet))
+
+pub returns-in-Some-set_units-clause-kept : goal.returns-in-Some-set_units-clause-kept
+returns-in-Some-set_units-clause-kept c =
+    let live = c.args.store.now.live in
     let e = c.set_units.ensures in
-    kept_started live c.args.assumptions.now c.set_units.new.assumptions c.args.roots.now _ e.propagates c.requires.kept (ap has_clash c.in-Cut.is) refl
-    (subst (λ o. IfSome o (λ k. IsFalseAt (maps.get (each_in_order live)) k c.set_units.new.assumptions.trail.lits)) c.in-Some.is e.clash) refl
+    let y = c.set_units.new.assumptions in
+    kept_started live c.settle.new.assumptions y c.settle.new.roots _ e.propagates c.settle.ensures.kept (ap has_clash c.settle.ensures.cut) refl
+    (subst (λ o. IfSome o (λ k. IsFalseAt (maps.get (each_in_order live)) k y.trail.lits)) c.in-Some-set_units.is e.clash) refl (λ quiet. absurd (true≢false quiet))
 
 pub returns-in-None-clause-kept : goal.returns-in-None-clause-kept
 returns-in-None-clause-kept c =
     let live = c.args.store.now.live in
     let e = c.set_units.ensures in
-    kept_started live c.args.assumptions.now c.set_units.new.assumptions c.args.roots.now _ e.propagates c.requires.kept (ap has_clash c.in-Cut.is) refl
-    (subst (λ o. IfNone o (HaveUnits (maps.get live) c.set_units.new.assumptions.trail.lits)) c.in-None.is e.units) refl
+    let x = c.settle.new.assumptions in
+    let y = c.set_units.new.assumptions in
+    let roots = c.settle.new.roots in
+    let kept = c.settle.ensures.kept in
+    kept_started live x y roots _ e.propagates kept (ap has_clash c.settle.ensures.cut) refl
+    (subst (λ o. IfNone o (HaveUnits (maps.get live) y.trail.lits)) c.in-None.is e.units) refl
+    (λ _. visited_grown live live x y (at roots.reasons) (at c.set_units.new.reasons) e.propagates [] (visits roots.history) kept.history.inside
+    (subst (λ o. IfNone o (IsWatched (maps.get live) (take (visits roots.history) x.trail.lits) x.trail.lits)) c.in_default-settle.is c.settle.ensures.sure))

@@ -4,6 +4,7 @@ use Rattle.std.proofs.Common.{◌++◌, refl, sym, ap, ◌∙◌, subst}
 use Rattle.std.proofs.lemmas.Bool.{not-false}
 use Rattle.cnf_base.specs.Literals.{Literal, has}
 use Rattle.tables.specs.Filled.{at}
+use Rattle.root_literals.specs.History.{IsNoted}
 use Rattle.root_literals.specs.Roots.{IsArranged, IsKept}
 use Rattle.root_literals.proofs.RootLemmas.Entered.{Entering, entered_false, entered_idle}
 use Rattle.root_literals.proofs.RootLemmas.Entered.{entered_more, entered_set, entered_taken}
@@ -28,7 +29,9 @@ entering-clause-kept c =
       is_doubtful = c.watches_false-is_doubtful.result;
       small = c.watches_false-is_doubtful.ensures;
       visited_is = c.enter.ensures.visited;
-      floor_is = c.enter.ensures.floor ∙ ap (λ n. cond c.watches_false-is_doubtful.result n c.args.self.now.history.floor) trues;
+      noted_is =
+          subst (λ n. IsNoted c.args.self.now.history c.enter.new.self c.watches_false-is_doubtful.result n (length c.args.assumptions.now.trail.lits)) c.number-number.ensures
+          (subst (IsNoted c.args.self.now.history c.enter.new.self c.watches_false-is_doubtful.result c.number-number.result) trues c.enter.ensures.noted);
     }
 
 pub returns-then-has_clash-clause-kept : goal.returns-then-has_clash-clause-kept

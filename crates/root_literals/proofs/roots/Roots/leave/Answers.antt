@@ -25,3 +25,4 @@ returns-clause-kept c =
     kept_left c.args.store.now.live c.args.slot c.loop-place.self c.loop-place.assumptions.trail.lits c.loop-place.invariant.kept c.clause-clause.result.now (sym c.clause-clause.ensures.clause)
     (λ e. c.in_default.ensures.clash (e ∙ ap Clash (sym c.number.ensures)))
     (λ l there member e. c.in_default.ensures.reasons l there (ap (λ t. has t.lits l) c.trail-in-loop-place.ensures ∙ member) (e ∙ ap Some (sym c.number.ensures)))
+    c.leave.new.self c.leave.ensures.visited c.leave.ensures.floor (λ s ne. c.leave.ensures.others s (λ e. ne (e ∙ c.number-2.ensures)))

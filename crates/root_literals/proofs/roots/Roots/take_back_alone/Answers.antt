@@ -30,4 +30,4 @@ returns-clause-kept c is =
     (subst HasNoVariableTwice shown (subst HasNoVariableTwice (sym c.lits-lits.ensures.value) c.lits-lits.ensures.different)) c.in-Some.ensures.unit c.in-Some.ensures.alone (record c.args.self.now { uses = c.is_needed.new.uses }) _
     (subst (λ ls. IsUnneeded (maps.get live) (at c.args.self.now.reasons) ls place c.in-Some.l) shown (c.is_needed.ensures.unneeded c.if-is_needed.false)) (kept-then (goal.at.returns-clause-kept c).After-is_needed) (sym c.has_clash.ensures ∙ c.if-has_clash.false) refl refl
     (c.is_reason.ensures.yes c.if-not-is_reason.false ∙ ap Some c.number.ensures) c.take_out-2.ensures.fewer c.take_out-2.ensures.times c.take_out-2.ensures.stays
-    c.take_out.ensures.gone c.take_out.ensures.stays c.take_out.ensures.floor)
+    c.take_out.ensures.gone c.take_out.ensures.stays c.take_out.ensures.floor c.take_out.ensures.doubts)

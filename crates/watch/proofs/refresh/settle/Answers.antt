@@ -1,0 +1,21 @@
+use Rattle.std.proofs.Common.{refl, ap, subst}
+use Rattle.std.specs.FinMap as maps
+use Rattle.root_literals.specs.Roots.{has_clash}
+use Rattle.watch.specs.Code.Doubts.{AreSettled}
+use Rattle.watch.proofs.WatchLemmas.CatchUp.{kept_settled, settled_all}
+use Rattle.watch.proofs.refresh.settle.Goals as goal
+
+pub returns-in-Settled-clause-kept : goal.returns-in-Settled-clause-kept
+returns-in-Settled-clause-kept c =
+    kept_settled c.args.store.now.live c.args.assumptions.now c.look_at.new.assumptions c.args.roots.now _ c.look_at.ensures.propagates c.requires.kept c.requires.cut refl refl refl
+
+pub returns-in-Settled-clause-sure : goal.returns-in-Settled-clause-sure
+returns-in-Settled-clause-sure c =
+    let x = c.args.assumptions.now in
+    let y = c.look_at.new.assumptions in
+    settled_all c.args.store.now.live x y c.args.roots.now (record c.args.roots.now { reasons = c.look_at.new.reasons }) c.look_at.ensures.propagates c.requires.kept (ap has_clash c.requires.cut)
+    (subst (λ xs. AreSettled (maps.get c.args.store.now.live) xs x.trail.lits y.trail.lits) c.as_slice-slots.ensures.value c.in-Settled.ensures.looked)
+
+pub returns-in-Clash-clause-kept : goal.returns-in-Clash-clause-kept
+returns-in-Clash-clause-kept c =
+    kept_settled c.args.store.now.live c.args.assumptions.now c.look_at.new.assumptions c.args.roots.now _ c.look_at.ensures.propagates c.requires.kept c.requires.cut refl refl refl
