@@ -2,18 +2,23 @@
 """Runs the programs on inputs that were made to be dear, each kind at n, 2n and 4n, and shows how their cost grows.
 
     bench/hostile.py [--count] [KIND..]             all kinds where none is named
+    bench/hostile.py --beside [--count] [KIND..]    ours beside the plain C++ checkers
     bench/hostile.py --write KIND N FORMULA PROOF   writes one input
 
 Of each kind a line gives the seconds of a processor at the three sizes, and the exponent of the growth from the first to the
 last: 1 where the cost grows as the input does, 2 where it grows with its square. Other kinds are proofs whose variables have
 other names than 1, 2, ..: a line gives the seconds with the usual names and with these, and their ratio.
 
-With --count it runs the kinds that have to grow as the input does, and no others, at small sizes, and counts instructions
-by valgrind, which a busy machine doesn't change. Where there is no valgrind, seconds are taken in their place, the least of
-three runs, at the sizes n and 4 n, and less than a twentieth counts as that. A kind passes where its exponent is below 1.3,
-or its ratio below 1.5, and the answer is right. The last line is "N passed, M failed".
+With --count it runs them at small sizes, and counts instructions by valgrind, which a busy machine doesn't change. Where there
+is no valgrind, seconds are taken in their place, the least of three runs, at the sizes n and 4 n, and less than a twentieth
+counts as that. A kind passes where its exponent is below 1.3, or 2.2 if it may grow as the square of the input, or its ratio
+below 1.5, and the answer is right. The last line is "N passed, M failed".
 
-DRAT_FORWARD and LRAT_CHECK name the programs; they are those in bin/ otherwise.
+With --beside it runs the kinds whose options reference.cpp and reference_drat.cpp have, at n and 4 n, three times each, and
+prints at 4 n the least seconds of both and their ratio, then both exponents; with --count instructions at n / 4 and n. A run is
+ended after a minute. The status is 0 only where both write the same lines.
+
+DRAT_FORWARD, LRAT_CHECK, REFERENCE_DRAT and REFERENCE name the programs; they are those in bin/ and bench/out/ otherwise.
 """
 
 import math
@@ -27,13 +32,15 @@ import tempfile
 from functools import cache, partial
 from itertools import accumulate
 
+import common
 from generate import numbers
 
 TOP = os.path.dirname(os.path.dirname(os.path.abspath(__file__)))
 DRAT, LRAT = "DRAT_FORWARD", "LRAT_CHECK"
-PROGRAMS = {DRAT: os.path.abspath(os.environ.get(DRAT, f"{TOP}/bin/drat-forward")),
-            LRAT: os.path.abspath(os.environ.get(LRAT, f"{TOP}/bin/lrat-check"))}
-LIMIT, LEAST = 1.3, 0.05
+PROGRAMS = {DRAT: common.program(DRAT, "bin/drat-forward"), LRAT: common.program(LRAT, "bin/lrat-check")}
+REFERENCES = {DRAT: common.program("REFERENCE_DRAT", "bench/out/reference_drat"),
+              LRAT: common.program("REFERENCE", "bench/out/reference")}
+LIMIT, SQUARE, LEAST, MOST_SECONDS = 1.3, 2.2, 0.05, 60
 # What other names may cost in instructions: longer words are read, and each variable is looked up once, as its word is read. To
 # look it up by its name whenever its value is asked for takes up to twenty times. Seconds have cache misses besides.
 NAMES_LIMIT = 1.5
@@ -49,7 +56,7 @@ class Kind:
         self.program = program
         self.options = options
         self.size = size
-        self.is_linear = is_linear
+        self.limit = LIMIT if is_linear else SQUARE
         self.usual = usual  # where names are other ones, what makes the same with the usual names
 
 
@@ -206,11 +213,25 @@ def kept_as_it_grows(n):
     return past_a_clash(n, []), [line for c in implications(1, n) for line in (clause(*c), "d " + clause(*c))]
 
 
+@kind(DRAT, 2000, "--keep-units", is_linear=False)
+def kept_of_long_clause(n):
+    """Past a clash, n unit clauses that make all literals of one clause false: the clause is looked at for each of them."""
+    units = [(i,) for i in range(2, n + 1)]
+    return past_a_clash(n, [*units, tuple(range(-n, 0))]), ["d " + clause(1)]
+
+
 @kind(DRAT, 2000, "--keep-units")
 def not_kept(n):
     """Past a clash, a clause that isn't kept is added and deleted again and again."""
     open_one = clause(n + 3, n + 4)
     return past_a_clash(n, implications(1, n)), [open_one, "d " + open_one] * n
+
+
+@kind(DRAT, 2000, is_linear=False)
+def long_clause(n):
+    """A chain of implications makes the literals of one clause false, from its first on. Each visit goes over those before."""
+    chain = [(i, -i - 1) for i in range(1, n)]
+    return [tuple(range(1, n + 3)), *chain], [clause(1, n + 1, n + 2)]
 
 
 def with_reasons(n, of):
@@ -407,16 +428,23 @@ def written(made, formula, proof):
         it.writelines(line + "\n" for line in lines)
 
 
-def run(words):
-    """The seconds of a processor that a command took, its status and what it wrote."""
-    before = resource.getrusage(resource.RUSAGE_CHILDREN).ru_utime
-    ran = subprocess.run(words, stdin=subprocess.DEVNULL, capture_output=True, text=True, check=False)
-    return resource.getrusage(resource.RUSAGE_CHILDREN).ru_utime - before, ran
+def children_seconds():
+    """The seconds of a processor, in user and system mode, of all commands that came to their end."""
+    used = resource.getrusage(resource.RUSAGE_CHILDREN)
+    return used.ru_utime + used.ru_stime
+
+
+def run(words, most=None):
+    """The seconds of a processor that a command took, its status and what it wrote. It is ended where it takes more than `most`."""
+    limited = most and partial(resource.setrlimit, resource.RLIMIT_CPU, (most, most))
+    before = children_seconds()
+    ran = subprocess.run(words, stdin=subprocess.DEVNULL, capture_output=True, text=True, check=False, preexec_fn=limited)
+    return children_seconds() - before, ran
 
 
 def exponent(costs):
     """How the cost grows from the first size to the last, which is four times as large."""
-    return math.log(max(costs[-1], 1e-3) / max(costs[0], 1e-3), 4)
+    return math.inf if costs[-1] == math.inf else math.log(max(costs[-1], 1e-3) / max(costs[0], 1e-3), 4)
 
 
 def is_right(ran):
@@ -429,17 +457,25 @@ def seconds_of(words, _):
     return run(words)
 
 
-def least_seconds_of(words, _):
-    """The least of three runs, and what came of it."""
-    seconds, ran = min((run(words) for _ in range(3)), key=lambda it: it[0])
+def least_seconds_of(words, _, most=None):
+    """The least of three runs, and what came of it. Infinity where the first one was ended."""
+    best = run(words, most)
+    if best[1].returncode < 0:
+        return math.inf, best[1]
+    return min(best, run(words, most), run(words, most), key=lambda it: it[0])
+
+
+def counted_seconds_of(words, room):
+    """The same, but a twentieth where it is less."""
+    seconds, ran = least_seconds_of(words, room)
     return max(seconds, LEAST), ran
 
 
-def instructions_of(words, room):
-    """The instructions of a command, and what came of it."""
-    _, ran = run(["valgrind", "--tool=cachegrind", "--cache-sim=no", f"--cachegrind-out-file={room}/counts", *words])
+def instructions_of(words, room, most=None):
+    """The instructions of a command, and what came of it. Infinity where it was ended."""
+    _, ran = run(["valgrind", "--tool=cachegrind", "--cache-sim=no", f"--cachegrind-out-file={room}/counts", *words], most)
     found = re.search(r"I\s+refs:\s+([\d,]+)", ran.stderr)
-    return int(found[1].replace(",", "")) if found else math.inf, ran
+    return int(found[1].replace(",", "")) if found and ran.returncode >= 0 else math.inf, ran
 
 
 def costs_of(one, room, sizes, cost_of):
@@ -469,37 +505,76 @@ def costs_of_names(one, room, cost_of, known):
     return [cost for cost, _ in pairs], pairs[0][1] == pairs[1][1] and "s VERIFIED" in pairs[0][1]
 
 
+def costs_of_both(one, room, sizes, cost_of):
+    """What our program and the plain checker cost at each size, and whether they write the same, where neither was ended."""
+    files, ours, theirs, well = (f"{room}/formula", f"{room}/proof"), [], [], True
+    for size in sizes:
+        written(one.make(size), *files)
+        words = [*one.options, *files]
+        (mine, ran), (other, plain) = (cost_of([it[one.program], *words], room) for it in (PROGRAMS, REFERENCES))
+        ours.append(mine)
+        theirs.append(other)
+        well = well and mine < math.inf and (other == math.inf or ran.stdout == plain.stdout)
+    return ours, theirs, well
+
+
 def shown(cost):
     """Seconds, or millions of instructions."""
-    return f"{cost / 1e6:8.1f} M" if isinstance(cost, int) else f"{cost:8.2f} s"
+    if cost == math.inf:
+        return f"{'ended':>10}"
+    return f"{cost / 1e6:8.1f} M" if isinstance(cost, int) else f"{cost:8.3f} s"
+
+
+def beside(names, room, factors, cost_of):
+    """Runs the kinds that the plain checkers have too, beside these. Whether the answers are the same."""
+    all_well = True
+    for name in names:
+        one = KINDS[name]
+        if "--pr" in one.options:
+            print(f"{name:26} without a plain checker")
+            continue
+        sizes = [one.size] if one.usual else [int(one.size * factors[0]), int(one.size * factors[-1])]
+        ours, theirs, well = costs_of_both(one, room, sizes, partial(cost_of, most=MOST_SECONDS))
+        all_well = all_well and well
+        grows = "" if one.usual else f"   exponents {exponent(ours):4.2f} {exponent(theirs):4.2f}"
+        print(f"{name:26} {shown(ours[-1])} {shown(theirs[-1])}   ratio {ours[-1] / max(theirs[-1], 1e-3):4.2f}"
+              f"{grows}{'' if well else '   DIFFER'}", flush=True)
+    return 0 if all_well else 1
+
+
+def growth(names, room, factors, cost_of, is_counted):
+    """Runs the kinds at each size. Whether all answers are right and, where it counts, no cost grows too much."""
+    passed = failed = 0
+    known = {}
+    for name in names:
+        one = KINDS[name]
+        if one.usual:
+            costs, well = costs_of_names(one, room, cost_of, known)
+            measure, grows, limit = "ratio", costs[1] / max(costs[0], 1e-3), NAMES_LIMIT
+        else:
+            costs, well = costs_of(one, room, [int(one.size * factor) for factor in factors], cost_of)
+            measure, grows, limit = "exponent", exponent(costs), one.limit
+        well = well and (grows < limit or not is_counted)
+        passed, failed = passed + well, failed + (not well)
+        print(f"{name:26} {' '.join(map(shown, costs))}   {measure} {grows:4.2f}{'' if well else '   FAILED'}", flush=True)
+    if is_counted:
+        print(f"{passed} passed, {failed} failed")
+    return 0 if not failed else 1
 
 
 def main(words):
     if words[:1] == ["--write"]:
         written(KINDS[words[1]].make(int(words[2])), words[3], words[4])
         return 0
-    is_counted = words[:1] == ["--count"]
+    is_counted, is_beside = "--count" in words, "--beside" in words
     has_valgrind = is_counted and shutil.which("valgrind")
-    cost_of = instructions_of if has_valgrind else least_seconds_of if is_counted else seconds_of
+    cost_of = instructions_of if has_valgrind else counted_seconds_of if is_counted else seconds_of
     factors = (0.25, 1) if has_valgrind else (1, 4) if is_counted else (1, 2, 4)
-    names = words[is_counted:] or [name for name, one in KINDS.items() if one.is_linear or not is_counted]
-    passed = failed = 0
-    known = {}
+    names = [it for it in words if it not in ("--count", "--beside")] or list(KINDS)
     with tempfile.TemporaryDirectory() as room:
-        for name in names:
-            one = KINDS[name]
-            if one.usual:
-                costs, well = costs_of_names(one, room, cost_of, known)
-                measure, grows, limit = "ratio", costs[1] / max(costs[0], 1e-3), NAMES_LIMIT
-            else:
-                costs, well = costs_of(one, room, [int(one.size * factor) for factor in factors], cost_of)
-                measure, grows, limit = "exponent", exponent(costs), LIMIT
-            well = well and (grows < limit or not is_counted)
-            passed, failed = passed + well, failed + (not well)
-            print(f"{name:26} {' '.join(map(shown, costs))}   {measure} {grows:4.2f}{'' if well else '   FAILED'}", flush=True)
-    if is_counted:
-        print(f"{passed} passed, {failed} failed")
-    return 0 if not failed else 1
+        if is_beside:
+            return beside(names, room, factors, instructions_of if has_valgrind else least_seconds_of)
+        return growth(names, room, factors, cost_of, is_counted)
 
 
 if __name__ == "__main__":
