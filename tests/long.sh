@@ -1,8 +1,9 @@
 #!/usr/bin/env bash
 # Streams long inputs through a pipe into the three programs: a proof in DRAT, one in LRAT, and a formula for model-check. What
-# is alive at once stays small in them, and so has the memory of each program to stay: below 4 MB, as GNU time tells the
-# greatest resident set. The last line is "N passed, M failed". 10 GB take long; `make test` gives 100 MB, which is enough to show
-# four bytes that are kept for each 1024 identifiers up to those of the proof.
+# is alive at once stays small in them, and so has the memory of each program to stay, the greatest resident set as GNU time
+# tells it: below 4 MB, and a little more where clauses come and go whose sizes grow. The last line is "N passed, M failed".
+# 10 GB take long; `make test` gives 100 MB, which is enough to show four bytes that are kept for each 1024 identifiers up to
+# those of the proof.
 #
 #   tests/long.sh [SIZE]        about SIZE bytes for each program, 10000000000 where it isn't said
 #
@@ -121,6 +122,31 @@ LINES
 most=4400000
 row "drat-forward, sizes" "$(sizes drat | wc -c)" "$drat_forward" examples/e.cnf < <(sizes drat)
 row "lrat-check, sizes" "$(sizes lrat | wc -c)" "$lrat_check" examples/e.cnf < <(sizes lrat)
+
+# ---- Each size from 1 to 640 once, and the last 31 alive: 19384 literals with those of the formula and a last unit clause
+
+once() {
+    python3 - "$1" <<'CODE'
+import sys
+
+is_lrat = sys.argv[1] == "lrat"
+clauses = [" ".join(map(str, [1, *range(3, size + 2)])) for size in range(1, 641)]
+for at, clause in enumerate(clauses):
+    if at >= 31:
+        print(f"{at + 4} d {at - 26} 0" if is_lrat else f"d {clauses[at - 31]} 0")
+    print(f"{at + 5} {clause} 0 1 3 0" if is_lrat else f"{clause} 0")
+print("645 2 0 1 2 0\n646 0 645 3 4 0" if is_lrat else "2 0\n0")
+CODE
+}
+
+cat > "$room/wanted" <<LINES
+c formula 2 variables 4 clauses
+c steps 1251 peak 19384
+s VERIFIED
+LINES
+most=$((4000000 + 3 * 4 * 19384))
+row "drat-forward, each size once" "$(once drat | wc -c)" "$drat_forward" examples/e.cnf < <(once drat)
+row "lrat-check, each size once" "$(once lrat | wc -c)" "$lrat_check" examples/e.cnf < <(once lrat)
 most=4000000
 
 # ---- A formula that has one clause of 7 bytes again and again, and a model of it
