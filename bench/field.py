@@ -5,8 +5,8 @@ it, and has the tools.
 Each checker of a table checks the same proof. They run by turns, three times; the least seconds of a processor count, in user
 and system mode, and the peak of memory (resident set). The solver ran once. The last row has geometric means over all proofs
 that both verify: the seconds of the first checker, where each took a twentieth or more, and its memory, over those of the
-other. Formulas and proofs are kept in bench/out/field/, and proofs are made again where the solver's version changes. The
-status is 0 only where our checkers verify all proofs.
+other. Tables of large inputs have no means. Formulas and proofs are kept in bench/out/field/, and proofs are made again where
+the solver's version changes. The status is 0 only where our checkers verify all proofs.
 """
 
 import math
@@ -36,6 +36,12 @@ FORMULAS = [
     ("pigeons hidden in 250000 clauses", "hidden 100000 250000 1 8", "hidden 1000 2500 1 5"),
 ]
 
+# The same of large inputs. The proofs of the first one have two steps, and are written here.
+LARGE = [
+    ("five million clauses at random", "many 1700000 5000000 1", "many 1700 5000 1"),
+    ("sums of three numbers of 2048 bits", "sums 2048", "sums 48"),
+]
+
 
 def tool(variable):
     return os.environ[variable]
@@ -49,15 +55,16 @@ class Contest:
     """A table: whose proofs of which form, and the checkers, ours first: name, program, and the options after both files. Some
     solvers have a checker of their own, and options for it."""
 
-    def __init__(self, solver, form, solve, checkers, own=None):
+    def __init__(self, solver, form, solve, checkers, own=None, is_large=False):
         self.solver = solver
         self.form = form
         self.solve = solve
         self.checkers = checkers
         self.own = own
+        self.is_large = is_large
 
 
-def contests():
+def contests(is_large):
     drat = [
         ("`drat-forward`", tool("DRAT_FORWARD"), []),
         ("`reference_drat.cpp`", reference("reference_drat"), []),
@@ -77,6 +84,11 @@ def contests():
     ]
     quiet = ["-q", "-n"]
     text = [*quiet, "--no-binary"]
+    if is_large:
+        return [
+            Contest("CaDiCaL", "DRAT", [tool("CADICAL"), *text], drat, is_large=True),
+            Contest("CaDiCaL", "LRAT", [tool("CADICAL"), *text, "--lrat"], lrat, is_large=True),
+        ]
     return [
         Contest("CaDiCaL", "DRAT", [tool("CADICAL"), *text], drat, own=["--check", "--checkprooflrat=0"]),
         Contest("Kissat", "DRAT", [tool("KISSAT"), *text], drat),
@@ -121,9 +133,22 @@ def formula_of(words):
     return path
 
 
-def proof_of(contest, path):
-    """The solver's proof of a formula, and the seconds that it took; made where it isn't there."""
-    proof = f"{path}.{contest.solver}.{contest.form}".lower().replace(" ", "-")
+def short_proof(form, words, proof):
+    """Writes the proof of a formula of the kind `many`, whose last four clauses clash: a unit clause and the empty one."""
+    variables, count, _ = map(int, words.split()[1:])
+    a, first = variables + 1, count + 1
+    lrat = f"{first + 4} {a} 0 {first} {first + 1} 0\n{first + 5} 0 {first + 4} {first + 2} {first + 3} 0\n"
+    with open(proof, "w", encoding="ascii") as lines:
+        lines.write(lrat if form == "LRAT" else f"{a} 0\n0\n")
+
+
+def proof_of(contest, path, words):
+    """A proof of a formula, and the seconds that the solver took for it, none if it is written here; made where it isn't there."""
+    ending = f"{contest.solver}.{contest.form}".lower().replace(" ", "-")
+    proof = f"{path}.{ending}"
+    if words.startswith("many "):
+        short_proof(contest.form, words, proof)
+        return proof, None
     note = f"{contest.solver} {version_of(contest.solve[0])}"
     noted = []
     if os.path.exists(f"{proof}.made"):
@@ -187,27 +212,35 @@ def mean_over(ours, seconds):
     return mean_of_its("time", [(a.seconds, b) for a, b in zip(ours, seconds, strict=True) if min(a.seconds, b) >= LEAST])
 
 
+def last_row(contest, names, runs, solved, own):
+    """The geometric means."""
+    ours, *others = names
+    return ["geometric mean", "", mean_over(runs[ours], solved), "", *(means(runs[ours], runs[it]) for it in others),
+            *([mean_over(runs[ours], own)] if contest.own else [])]
+
+
 def table_of(contest, formulas, rounds):
     """The rows of a table, and whether our checker verified all."""
     names = [name for name, *_ in contest.checkers]
     last = [f"{contest.solver}'s own checker"] if contest.own else []
-    rows, solved, runs, own = [["Formula", contest.form, contest.solver, *names, *last]], [], {it: [] for it in names}, []
+    size_of = ["CNF"] if contest.is_large else []
+    rows = [["Formula", *size_of, contest.form, contest.solver, *names, *last]]
+    solved, runs, own = [], {it: [] for it in names}, []
     for label, words in formulas:
         print(f"{contest.solver}, {contest.form}: {label}", file=sys.stderr, flush=True)
         path = formula_of(words)
-        proof, seconds = proof_of(contest, path)
+        proof, seconds = proof_of(contest, path, words)
         best = least_of(contest.checkers, f"{path}.cnf", proof, rounds)
         solved.append(seconds)
         for name in names:
             runs[name].append(best[name])
         own += [own_check(contest, path)] if contest.own else []
-        size = os.path.getsize(proof) / 1e6
+        sizes = [f"{os.path.getsize(it) / 1e6:.1f} MB" for it in ([f"{path}.cnf"] if contest.is_large else []) + [proof]]
         cells = [*(cell(best[it]) for it in names), *(f"{it:.2f} s" for it in own[-1:])]
-        rows.append([label, f"{size:.1f} MB", f"{seconds:.2f} s", *cells])
-    ours, *others = names
-    rows.append(["geometric mean", "", mean_over(runs[ours], solved), "", *(means(runs[ours], runs[it]) for it in others),
-                 *([mean_over(runs[ours], own)] if own else [])])
-    return rows, all(it.is_verified for it in runs[ours])
+        rows.append([label, *sizes, "" if seconds is None else f"{seconds:.2f} s", *cells])
+    if not contest.is_large:
+        rows.append(last_row(contest, names, runs, solved, own))
+    return rows, all(it.is_verified for it in runs[names[0]])
 
 
 def shown(rows, is_markdown):
@@ -236,16 +269,17 @@ def machine():
 
 
 def main(words):
-    is_markdown, is_small = "--markdown" in words, "small" in words
-    kinds = set(words) - {"--markdown", "small"}
-    if kinds - {row[1].split()[0] for row in FORMULAS}:
-        sys.exit("usage: bench/field.sh [--markdown] [small] [KIND..] | --tools, with kinds of bench/formulas.py or pigeonhole")
-    chosen = [it for it in FORMULAS if not kinds or it[1].split()[0] in kinds]
-    formulas = [(small, small) if is_small else (label, large) for label, large, small in chosen]
+    is_markdown, is_small, is_large = (it in words for it in ("--markdown", "small", "large"))
+    kinds, known = set(words) - {"--markdown", "small", "large"}, LARGE if is_large else FORMULAS
+    if kinds - {row[1].split()[0] for row in known}:
+        kinds_of = ", ".join(row[1].split()[0] for row in known)
+        sys.exit(f"usage: bench/field.sh [--markdown] [small] [large] [KIND..] | --tools, with kinds among {kinds_of}")
+    chosen = [it for it in known if not kinds or it[1].split()[0] in kinds]
+    formulas = [(small, small) if is_small else (label, usual) for label, usual, small in chosen]
     os.makedirs(MADE, exist_ok=True)
     print(machine(), flush=True)
     passed = True
-    for contest in contests():
+    for contest in contests(is_large):
         rows, is_verified = table_of(contest, formulas, 1 if is_small else ROUNDS)
         passed &= is_verified
         print(f"\n{shown(rows, is_markdown)}", flush=True)

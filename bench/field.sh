@@ -5,6 +5,7 @@
 #   bench/field.sh              proofs of 1 to 50 MB; a quarter of an hour
 #   bench/field.sh KIND..       of these kinds of formulas alone (sums, order, ..)
 #   bench/field.sh small        short proofs, to see that it runs
+#   bench/field.sh large        tables of a formula of five million clauses and a proof of 1.2 GB; a quarter of an hour, 2.1 GB
 #   bench/field.sh --markdown   tables as those of bench/TABLES.md; also with the words above
 #   bench/field.sh --tools      only gets the tools, and prints the folder that has them
 #

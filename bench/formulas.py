@@ -22,6 +22,8 @@ of the command alone.
         A token in a ring, in each step passed on or kept as free bits say. After STEPS steps two stations have it.
     formulas.py hidden VARIABLES CLAUSES SEED HOLES FORMULA
         One more pigeon than holes, hidden in many clauses at random of other variables.
+    formulas.py many VARIABLES CLAUSES SEED FORMULA
+        Clauses of three literals at random, and behind them the four of two further variables.
 """
 
 import os
@@ -263,7 +265,12 @@ def hidden(variables, count, seed, holes):
     return source.shuffled(clauses)
 
 
-KINDS = {it.__name__: it for it in (random, order, waerden, dominoes, sums, products, sorters, parity, ring, hidden)}
+def many(variables, count, seed):
+    a, b = variables + 1, variables + 2
+    return random(variables, count, seed) + [[a, b], [a, -b], [-a, b], [-a, -b]]
+
+
+KINDS = {it.__name__: it for it in (random, order, waerden, dominoes, sums, products, sorters, parity, ring, hidden, many)}
 
 
 def main(words):

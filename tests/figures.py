@@ -1,7 +1,8 @@
 #!/usr/bin/env python3
 """Shows that README and docs/PERFORMANCE.md have the figures of bench/TABLES.md, which bench/field.sh makes.
 
-Each sentence below is made of the tables' figures, and has to stand on its page word for word. The last line is "N passed, M failed".
+Each sentence below is made of the tables' figures, and has to stand on its page word for word. Those of large inputs
+are asked for where TABLES.md has their tables. The last line is "N passed, M failed".
 """
 
 import os
@@ -11,7 +12,8 @@ import sys
 ROOT = os.path.dirname(os.path.dirname(os.path.abspath(__file__)))
 CELL = re.compile(r"([\d.]+) s, ([\d.]+) MB")
 MEANS = re.compile(r"([\d.]+) of its time(?:, ([\d.]+) of its memory)?")
-LARGE = "pigeons hidden in 250000 clauses"
+HIDDEN = "pigeons hidden in 250000 clauses"
+MANY, LONG = "five million clauses at random", "sums of three numbers of 2048 bits"
 
 
 def page(name):
@@ -29,7 +31,7 @@ class Table:
         for line in lines[2:]:
             name, *cells = [cell.strip() for cell in line.strip("|").split("|")]
             self.rows[name] = dict(zip(columns[1:], cells))
-        self.means = self.rows.pop("geometric mean")
+        self.means = self.rows.pop("geometric mean", {})
 
     def took(self, formula, column):
         """Seconds and megabytes."""
@@ -54,13 +56,15 @@ class Table:
 
 
 def tables():
-    """CaDiCaL's proofs, Kissat's, CaDiCaL's in LRAT, and the first two in the binary form."""
+    """CaDiCaL's proofs, Kissat's, CaDiCaL's in LRAT, and the first two in the binary form; then DRAT and LRAT of large inputs, if
+    they were measured."""
     return [Table(block.splitlines()) for block in re.findall(r"(?:^\|.*\n)+", page("bench/TABLES.md"), re.MULTILINE)]
 
 
 def sentences():
     """What the pages have to say."""
-    cadical, kissat, lrat, *binary = tables()
+    cadical, kissat, lrat, *others = tables()
+    binary, large = others[:2], others[2:]
     both, ours = (cadical, kissat), "`drat-forward`"
     trim, forward, plain = "DRAT-trim", "DRAT-trim, forward", "`reference_drat.cpp`"
 
@@ -94,9 +98,29 @@ def sentences():
     yield "docs/PERFORMANCE.md", f"a tenth to {high:.1f} times the solver's time"
     time, memory = lrat.mean("`reference.cpp`")
     yield "docs/PERFORMANCE.md", f"{time:.2f} of the time of `reference.cpp`, and {memory:.2f} of the memory"
-    mine, theirs = ([it.took(LARGE, column)[1] for it in both] for column in (ours, trim))
+    mine, theirs = ([it.took(HIDDEN, column)[1] for it in both] for column in (ours, trim))
     yield "docs/PERFORMANCE.md", (f"it takes {mine[0]} and {mine[1]} MB (proofs of CaDiCaL and Kissat), "
                                   f"DRAT-trim {theirs[0]} and {theirs[1]}")
+    if large:
+        yield from of_large(*large)
+
+
+def of_large(drat, lrat):
+    """What the pages have to say of large inputs, of those that were measured."""
+    ours, trim = "`drat-forward`", "DRAT-trim"
+    memory = [drat.took(it, ours)[1] / drat.took(it, trim)[1] for it in drat.rows]
+    yield "README.md", f"`drat-forward` takes {min(memory):.1f} to {max(memory):.1f}."
+    if LONG in drat.rows:
+        size = float(drat.rows[LONG]["DRAT"].split()[0]) / 1000
+        mine, back, forward = (drat.took(LONG, it) for it in (ours, trim, "DRAT-trim, forward"))
+        yield "docs/PERFORMANCE.md", (f"A proof of {size:.2f} GB takes {mine[0]:.0f} s and {mine[1] / back[1]:.2f} of DRAT-trim's "
+                                      f"memory; DRAT-trim takes {back[0]:.0f} s, forward {forward[0]:.0f}.")
+    if MANY in drat.rows:
+        size = float(drat.rows[MANY]["CNF"].split()[0])
+        mine, back, hinted = drat.took(MANY, ours), drat.took(MANY, trim), lrat.took(MANY, "`lrat-check`")
+        yield "docs/PERFORMANCE.md", (f"A formula of five million clauses, {size:.0f} MB, takes `drat-forward` {mine[0]:.1f} s and "
+                                      f"{mine[1]} MB, DRAT-trim {back[0]:.1f} s and {back[1]} MB, `lrat-check` {hinted[0]:.1f} s and "
+                                      f"{hinted[1]} MB.")
 
 
 def main():
