@@ -76,6 +76,8 @@ def contests(is_large):
         ("`reference.cpp`", reference("reference"), []),
         ("DRAT-trim's `lrat-check`", tool("DRAT_TRIM_LRAT_CHECK"), []),
     ]
+    if tool("ACL2_VERSION") and not is_large:
+        lrat.append(("ACL2's checker", os.path.join(HERE, "acl2_lrat.sh"), []))
     # DRAT-trim and drat-forward take the binary form, which the solvers write unless they are told not to
     binary = [
         ("`drat-forward --binary`", tool("DRAT_FORWARD"), ["--binary"]),
@@ -115,9 +117,12 @@ class Run:
         ran = subprocess.run(words, stdin=subprocess.DEVNULL, capture_output=True, preexec_fn=limited, check=True)
         status, seconds, kilobytes = ran.stderr.split(b"\n")[-2].split()
         self.status = int(status)
-        self.seconds = float(seconds)
         self.megabytes = int(kilobytes) * 1024 / 1e6
-        self.is_verified = bool(re.search(rb"^[sc] VERIFIED$", ran.stdout.replace(b"\r", b"\n"), re.MULTILINE))
+        lines = ran.stdout.replace(b"\r", b"\n")
+        self.is_verified = bool(re.search(rb"^[sc] VERIFIED$", lines, re.MULTILINE))
+        # acl2_lrat.sh tells what its checker took
+        told = re.search(rb"^c seconds ([\d.]+)$", lines, re.MULTILINE)
+        self.seconds = float(told[1] if told else seconds)
 
 
 def formula_of(words):
@@ -264,8 +269,9 @@ def machine():
     system = first_of("/etc/os-release", r'^PRETTY_NAME="?(.*?)"?$', os.uname().sysname)
     solvers = f"CaDiCaL {version_of(tool('CADICAL'))}, Kissat {version_of(tool('KISSAT'))}"
     trim = f"DRAT-trim {os.environ.get('DRAT_TRIM_VERSION') or 'of an unknown version'}"
+    acl2 = f", ACL2 {tool('ACL2_VERSION')}" if tool("ACL2_VERSION") else ""
     load = f"load average {os.getloadavg()[0]:.1f} before the first run"
-    return f"{processor}, {os.cpu_count()} processors, {system}; {solvers}, {trim}; {load}."
+    return f"{processor}, {os.cpu_count()} processors, {system}; {solvers}, {trim}{acl2}; {load}."
 
 
 def main(words):

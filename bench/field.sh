@@ -9,6 +9,8 @@
 #   bench/field.sh --markdown   tables as those of bench/TABLES.md; also with the words above
 #   bench/field.sh --tools      only gets the tools, and prints the folder that has them
 #
+# Where acl2 is on the PATH, and has Debian's acl2-books, their verified LRAT checker runs too (bench/acl2_lrat.sh).
+#
 # The tools are those on the PATH, where all four are there. Otherwise Debian 13's are unpacked to bench/out/tools/ (not
 # committed) by mmdebstrap, and not installed. bench/field.py makes formulas and proofs, and measures. DRAT_FORWARD and
 # LRAT_CHECK name other programs than those in bin/.
@@ -68,7 +70,13 @@ fi
 
 # DRAT-trim doesn't say its version; its package does
 DRAT_TRIM_VERSION=$(zcat "$documents/drat-trim/changelog.Debian.gz" 2> /dev/null | sed -n '1s/.*(\(.*\)).*/\1/p' || true)
-export CADICAL KISSAT DRAT_TRIM DRAT_TRIM_LRAT_CHECK DRAT_TRIM_VERSION
+
+# the version of an ACL2 that has the verified checker
+ACL2_VERSION=
+if said=$(echo '(include-book "projects/sat/lrat/stobj-based/run" :dir :system)' | acl2 2> /dev/null) && [[ $said != *"ACL2 Error"* ]]; then
+    ACL2_VERSION=$(sed -n 's/.*ACL2 Version \([0-9.]*\).*/\1/p' <<< "$said")
+fi
+export CADICAL KISSAT DRAT_TRIM DRAT_TRIM_LRAT_CHECK DRAT_TRIM_VERSION ACL2_VERSION
 export DRAT_FORWARD=${DRAT_FORWARD:-$PWD/bin/drat-forward} LRAT_CHECK=${LRAT_CHECK:-$PWD/bin/lrat-check}
 for program in "$DRAT_FORWARD" "$LRAT_CHECK"; do
     [ -x "$program" ] || { echo "field.sh: there is no $program: run make" >&2; exit 1; }

@@ -1,8 +1,8 @@
 #!/usr/bin/env python3
 """Shows that README and docs/PERFORMANCE.md have the figures of bench/TABLES.md, which bench/field.sh makes.
 
-Each sentence below is made of the tables' figures, and has to stand on its page word for word. Those of large inputs
-are asked for where TABLES.md has their tables. The last line is "N passed, M failed".
+Each sentence below is made of the tables' figures, and has to stand on its page word for word. Those of large inputs and of ACL2's
+checker are asked for where TABLES.md has their tables, and their column. The last line is "N passed, M failed".
 """
 
 import os
@@ -14,6 +14,7 @@ CELL = re.compile(r"([\d.]+) s, ([\d.]+) MB")
 MEANS = re.compile(r"([\d.]+) of its time(?:, ([\d.]+) of its memory)?")
 HIDDEN = "pigeons hidden in 250000 clauses"
 MANY, LONG = "five million clauses at random", "sums of three numbers of 2048 bits"
+ACL2 = "ACL2's checker"
 
 
 def page(name):
@@ -87,7 +88,6 @@ def sentences():
     yield "README.md", f"| `lrat-check` | {first:.1f} × DRAT-trim's time | |"
     least = min(table.took(name, trim)[1] for table in both for name in table.rows)
     yield "README.md", f"a tenth of DRAT-trim's memory, whose least is {least} MB"
-    yield "docs/PERFORMANCE.md", f"DRAT-trim takes {least} MB at least."
     low, high = span(lambda it: it.ratios(ours, trim))
     forward_low, forward_high = span(lambda it: it.ratios(ours, forward))
     yield "docs/PERFORMANCE.md", (f"`drat-forward` takes {low:.1f} (orders) to {high:.2f} times (random) DRAT-trim's time, and "
@@ -98,9 +98,11 @@ def sentences():
     yield "docs/PERFORMANCE.md", f"a tenth to {high:.1f} times the solver's time"
     time, memory = lrat.mean("`reference.cpp`")
     yield "docs/PERFORMANCE.md", f"{time:.2f} of the time of `reference.cpp`, and {memory:.2f} of the memory"
+    if ACL2 in lrat.means:
+        its_time, its_memory = lrat.mean(ACL2)
+        yield "docs/PERFORMANCE.md", f"{memory:.2f} of the memory; of ACL2's verified checker {its_time:.2f}, and {its_memory:.2f}."
     mine, theirs = ([it.took(HIDDEN, column)[1] for it in both] for column in (ours, trim))
-    yield "docs/PERFORMANCE.md", (f"it takes {mine[0]} and {mine[1]} MB (proofs of CaDiCaL and Kissat), "
-                                  f"DRAT-trim {theirs[0]} and {theirs[1]}")
+    yield "docs/PERFORMANCE.md", f"it takes {mine[0]} and {mine[1]} MB (CaDiCaL, Kissat), DRAT-trim {theirs[0]} and {theirs[1]}."
     if large:
         yield from of_large(*large)
 
