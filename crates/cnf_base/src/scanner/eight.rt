@@ -12,9 +12,10 @@ pub fn front_digits(bytes: &[u8]) -> (usize, u64)
     requires { 8 ≤ length bytes.now }
     ensures { 0 < result.0 → AreFront bytes.now result.0 result.1 }
 {
-    let packed = u64::from_le_bytes([
-        bytes[0], bytes[1], bytes[2], bytes[3], bytes[4], bytes[5], bytes[6], bytes[7],
-    ]);
+    let Some(eight) = bytes.first_chunk::<8>() else {
+        return (0, 0);
+    };
+    let packed = u64::from_le_bytes(*eight);
     let word = packed ^ 0x3030_3030_3030_3030;
     let count = digit_count(word);
     if count == 0 {
