@@ -43,7 +43,11 @@ none_in_free len mask k = elim (cases_lt (bit_and k mask) len) [
 
 -- ---- One number, and the line that it has
 
-module _ (lines : List Line) (mask number : ℕ) (inside : bit_and number mask < length lines) (line : Line) (read : line ≡ get_or lines (bit_and number mask) line) where
+module _ (lines : List Line) (mask number : ℕ) (has : mask < length lines) (line : Line)
+    (read : line ≡ get_or lines (bit_and number mask) line) where
+  inside : bit_and number mask < length lines
+  inside = let most = and_le_r number mask in omega arith
+
   line_is : line ≡ get_or lines (bit_and number mask) free
   line_is = read ∙ get_or_default lines (bit_and number mask) line free inside
 
