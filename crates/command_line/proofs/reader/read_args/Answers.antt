@@ -1,8 +1,10 @@
 use Rattle.std.proofs.Common.{◌≡◌, ◌∙◌, ap, sym, codes, option_map, Some, None, string_bytes}
-use Rattle.clap.specs.Words.{app_of, first_value, found_of}
+use Rattle.std.specs.Prelude.{slice_get}
+use Rattle.clap.specs.Words.{app_of, first_value, found_of, rows_of}
 use Rattle.clap.proofs.WalkLemmas.{first_value-rows}
-use Rattle.command_line.specs.Words.{said_by}
+use Rattle.command_line.specs.Words.{Accepts, names, said_by}
 use Rattle.std.proofs.lemmas.Bool.{true≢false}
+use Rattle.command_line.proofs.CommandLineLemmas.Ends.{Reads}
 use Rattle.command_line.proofs.CommandLineLemmas.Accepted.{has_formula, names_apart, names_full}
 use Rattle.command_line.proofs.CommandLineLemmas.Reading.{fails_for_memory, flag_given}
 use Rattle.command_line.proofs.CommandLineLemmas.Reading.{known_words, knows, reads}
@@ -13,67 +15,114 @@ use Rattle.command_line.proofs.reader.read_args.Goals.{in-None, After-is_any_emp
 pub returns-in-Err-clause-accepts : goal.returns-in-Err-clause-accepts
 returns-in-Err-clause-accepts c accepts =
     c.fault_from.ensures
-    (fails_for_memory c.args.tool (app_of c.in_ok-command.command) c.in_ok-command.ensures c.args.words.now c.in-Err.error c.in-Err.ensures.kinds accepts)
+    (fails_for_memory c.args.tool (app_of c.in_ok-command.command) c.in_ok-command.ensures
+    c.args.words.now c.in-Err.error c.in-Err.ensures.kinds accepts)
 
 pub returns-in_default-clause-accepts : goal.returns-in_default-clause-accepts
 returns-in_default-clause-accepts c accepts =
-    let read = reads c.args.tool (app_of c.in_ok-command.command) c.in_ok-command.ensures c.args.words.now c.in-Ok.matches c.in-Ok.ensures.matches c.in-Ok.ensures.kinds
-    (known_words c.args.tool (said_by c.args.words.now) accepts) in
-    let none : first_value (found_of c.in-Ok.matches) (codes "formula") ≡ None = sym c.in_default.ensures in
-    absurd (has_formula c.args.tool (said_by c.args.words.now) accepts (sym read.formula ∙ (sym (first_value-rows (found_of c.in-Ok.matches) (codes "formula")) ∙ none)))
+    let words = said_by c.args.words.now in
+    let found = found_of c.in-Ok.matches in
+    let read =
+    reads c.args.tool (app_of c.in_ok-command.command) c.in_ok-command.ensures c.args.words.now
+    c.in-Ok.matches c.in-Ok.ensures.matches c.in-Ok.ensures.kinds
+    (known_words c.args.tool words accepts)
+    in
+    let none : first_value found (codes "formula") ≡ None = sym c.in_default.ensures in
+    absurd (has_formula c.args.tool words accepts
+    (sym read.formula ∙ (sym (first_value-rows found (codes "formula")) ∙ none)))
 
--- the second name that was found
-second_found : (c : After-is_any_empty) → option_map string_bytes c.match-get_str-2.second ≡ first_value (found_of c.in-Ok.matches) (codes "second")
-second_found c = elim c.match-get_str-2.branch [
-  | in-Some-get_str+in_ok-to_string-in-Some-get_str w ↦ ap (option_map string_bytes) w.second-is
-      ∙ (ap (λ l. Some l) w.in_ok-to_string-in-Some-get_str.ensures.ok ∙ w.in-Some-get_str.ensures)
-  | in-None w ↦ ap (option_map string_bytes) w.second-is ∙ w.in-None.ensures
-]
+-- what was found is what the words say
+abbrev Found : After-is_any_empty → Type 0
+Found c = Reads c.args.tool (said_by c.args.words.now) (rows_of (found_of c.in-Ok.matches))
 
--- the first one
-formula_found : (c : After-is_any_empty) → Some (string_bytes c.in_ok-formula.formula) ≡ first_value (found_of c.in-Ok.matches) (codes "formula")
-formula_found c = ap (λ l. Some l) c.in_ok-formula.ensures.ok ∙ c.in-Some.ensures
+found_accepted : (c : After-is_any_empty) → Accepts c.args.tool (said_by c.args.words.now) → Found c
+found_accepted c accepts =
+    reads c.args.tool (app_of c.in_ok-command.command) c.in_ok-command.ensures c.args.words.now
+    c.in-Ok.matches c.in-Ok.ensures.matches c.in-Ok.ensures.kinds
+    (known_words c.args.tool (said_by c.args.words.now) accepts)
+
+-- the first name that was found
+formula_found : (c : After-is_any_empty) → Found c →
+    Some (string_bytes c.in_ok-formula.formula) ≡
+    slice_get (names c.args.tool (said_by c.args.words.now)) 0
+formula_found c read =
+    ap (λ l. Some l) c.in_ok-formula.ensures.ok ∙ c.in-Some.ensures
+    ∙ first_value-rows (found_of c.in-Ok.matches) (codes "formula") ∙ read.formula
+
+-- the second one
+second_found : (c : After-is_any_empty) → Found c →
+    option_map string_bytes c.match-get_str-2.second ≡
+    slice_get (names c.args.tool (said_by c.args.words.now)) 1
+second_found c read =
+    elim c.match-get_str-2.branch [
+      | in-Some-get_str+in_ok-to_string-in-Some-get_str w ↦
+          ap (option_map string_bytes) w.second-is
+          ∙ (ap (λ l. Some l) w.in_ok-to_string-in-Some-get_str.ensures.ok
+          ∙ w.in-Some-get_str.ensures)
+      | in-None w ↦ ap (option_map string_bytes) w.second-is ∙ w.in-None.ensures
+    ]
+    ∙ first_value-rows (found_of c.in-Ok.matches) (codes "second") ∙ read.second
 
 pub returns-clause-asked : goal.returns-clause-asked
 returns-clause-asked c free =
     let app = app_of c.in_ok-command.command in
-    let found = found_of c.in-Ok.matches in
-    let read = reads c.args.tool app c.in_ok-command.ensures c.args.words.now c.in-Ok.matches c.in-Ok.ensures.matches c.in-Ok.ensures.kinds free in
-    let flag = flag_given c.args.tool app c.in_ok-command.ensures c.args.words.now c.in-Ok.matches c.in-Ok.ensures.matches c.in-Ok.ensures.kinds free in
-    let binary = flag (codes "binary") (λ read. read.binary) c.get_flag.result c.get_flag.ensures.none c.get_flag.ensures.value c.get_flag.ensures.other in
-    let trace = flag (codes "trace") (λ read. read.trace) c.get_flag-2.result c.get_flag-2.ensures.none c.get_flag-2.ensures.value c.get_flag-2.ensures.other in
-    let strict = flag (codes "strict") (λ read. read.strict) c.get_flag-3.result c.get_flag-3.ensures.none c.get_flag-3.ensures.value c.get_flag-3.ensures.other in
-    let pr = flag (codes "pr") (λ read. read.pr) c.get_flag-4.result c.get_flag-4.ensures.none c.get_flag-4.ensures.value c.get_flag-4.ensures.other in
-    let keep_units = flag (codes "keep-units") (λ read. read.keep_units) c.get_flag-5.result c.get_flag-5.ensures.none c.get_flag-5.ensures.value c.get_flag-5.ensures.other in
-    let formula = formula_found (goal.at.returns-clause-asked c).After-is_any_empty ∙ (first_value-rows found (codes "formula") ∙ read.formula) in
-    let second = second_found (goal.at.returns-clause-asked c).After-is_any_empty ∙ (first_value-rows found (codes "second") ∙ read.second) in
-    λ i. record { binary = binary i; trace = trace i; strict = strict i; pr = pr i; keep_units = keep_units i; formula = formula i; second = second i }
+    let tool = c.args.tool in
+    let found = c.in-Ok.matches in
+    let kinds = c.in-Ok.ensures.kinds in
+    let is = c.in_ok-command.ensures in
+    let matches = c.in-Ok.ensures.matches in
+    let read = reads tool app is c.args.words.now found matches kinds free in
+    let flag = flag_given tool app is c.args.words.now found matches kinds free in
+    let binary = c.get_flag.ensures in
+    let trace = c.get_flag-2.ensures in
+    let strict = c.get_flag-3.ensures in
+    let pr = c.get_flag-4.ensures in
+    let keep_units = c.get_flag-5.ensures in
+    let path = (goal.at.returns-clause-asked c).After-is_any_empty in λ i. record {
+      binary =
+          flag (codes "binary") (λ read. read.binary) c.get_flag.result binary.none binary.value
+          binary.other i;
+      trace =
+          flag (codes "trace") (λ read. read.trace) c.get_flag-2.result trace.none trace.value
+          trace.other i;
+      strict =
+          flag (codes "strict") (λ read. read.strict) c.get_flag-3.result strict.none strict.value
+          strict.other i;
+      pr = flag (codes "pr") (λ read. read.pr) c.get_flag-4.result pr.none pr.value pr.other i;
+      keep_units =
+          flag (codes "keep-units") (λ read. read.keep_units) c.get_flag-5.result keep_units.none
+          keep_units.value keep_units.other i;
+      formula = formula_found path read i;
+      second = second_found path read i;
+    }
 
+-- more names than two are not read
 pub returns-clause-names : goal.returns-clause-names
 returns-clause-names c free =
-    (reads c.args.tool (app_of c.in_ok-command.command) c.in_ok-command.ensures c.args.words.now c.in-Ok.matches c.in-Ok.ensures.matches c.in-Ok.ensures.kinds free).few
+    (reads c.args.tool (app_of c.in_ok-command.command) c.in_ok-command.ensures c.args.words.now
+    c.in-Ok.matches c.in-Ok.ensures.matches c.in-Ok.ensures.kinds free).few
 
 pub returns-clause-hyphens : goal.returns-clause-hyphens
-returns-clause-hyphens c free = knows c.args.tool (app_of c.in_ok-command.command) c.in_ok-command.ensures c.args.words.now c.in-Ok.ensures.kinds free
+returns-clause-hyphens c free =
+    knows c.args.tool (app_of c.in_ok-command.command) c.in_ok-command.ensures c.args.words.now
+    c.in-Ok.ensures.kinds free
 
 pub returns-then-is_any_empty-clause-accepts : goal.returns-then-is_any_empty-clause-accepts
 returns-then-is_any_empty-clause-accepts c accepts =
-    let words = said_by c.args.words.now in
-    let read = reads c.args.tool (app_of c.in_ok-command.command) c.in_ok-command.ensures c.args.words.now c.in-Ok.matches c.in-Ok.ensures.matches c.in-Ok.ensures.kinds
-    (known_words c.args.tool words accepts) in
     let path = (goal.at.returns-then-is_any_empty-clause-accepts c).After-is_any_empty in
-    let full = names_full c.args.tool words (string_bytes c.in_ok-formula.formula) c.match-get_str-2.second accepts
-    (formula_found path ∙ (first_value-rows (found_of c.in-Ok.matches) (codes "formula") ∙ read.formula))
-    (second_found path ∙ (first_value-rows (found_of c.in-Ok.matches) (codes "second") ∙ read.second)) in
+    let read = found_accepted path accepts in
+    let full =
+    names_full c.args.tool (said_by c.args.words.now) (string_bytes c.in_ok-formula.formula)
+    c.match-get_str-2.second accepts (formula_found path read) (second_found path read)
+    in
     absurd (true≢false (sym c.if-is_any_empty.true ∙ c.is_any_empty.ensures ∙ full))
 
 pub returns-then-is_read_twice-clause-accepts : goal.returns-then-is_read_twice-clause-accepts
 returns-then-is_read_twice-clause-accepts c accepts =
-    let words = said_by c.args.words.now in
-    let read = reads c.args.tool (app_of c.in_ok-command.command) c.in_ok-command.ensures c.args.words.now c.in-Ok.matches c.in-Ok.ensures.matches c.in-Ok.ensures.kinds
-    (known_words c.args.tool words accepts) in
     let path = (goal.at.returns-then-is_read_twice-clause-accepts c).After-is_any_empty in
-    let apart = names_apart c.args.tool words (string_bytes c.in_ok-formula.formula) c.match-get_str-2.second accepts
-    (formula_found path ∙ (first_value-rows (found_of c.in-Ok.matches) (codes "formula") ∙ read.formula))
-    (second_found path ∙ (first_value-rows (found_of c.in-Ok.matches) (codes "second") ∙ read.second)) in
+    let read = found_accepted path accepts in
+    let apart =
+    names_apart c.args.tool (said_by c.args.words.now) (string_bytes c.in_ok-formula.formula)
+    c.match-get_str-2.second accepts (formula_found path read) (second_found path read)
+    in
     absurd (true≢false (sym c.if-is_read_twice.true ∙ c.is_read_twice.ensures ∙ apart))
