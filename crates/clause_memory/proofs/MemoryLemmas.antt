@@ -1,5 +1,5 @@
 -- A memory through a change: a block gets a clause, and loses it, and literals change places.
-use Rattle.std.proofs.Common.{◌≡◌, ◌≢◌, ℕ, zero, suc, ◌+◌, ◌-◌, ◌*◌, ◌<◌, ◌≤◌, true}
+use Rattle.std.proofs.Common.{◌≡◌, ◌≢◌, ℕ, zero, suc, ◌+◌, ◌-◌, ◌*◌, ◌<◌, ◌≤◌, true, false}
 use Rattle.std.proofs.Common.{Option, Some, None, is_some, List, [], ◌∷◌, length, take, drop}
 use Rattle.std.proofs.Common.{get_or, refl, sym, ap, ◌∙◌, subst, arith, inl, inr}
 use Rattle.std.proofs.Math.ListN.{set}
@@ -15,7 +15,7 @@ use Rattle.clause_memory.specs.Blocks.{cells_for}
 use Rattle.clause_memory.specs.Code.Fields.{IsMemory}
 use Rattle.clause_memory.specs.Code.Free.{LeadsTo, link_at, link_of}
 use Rattle.clause_memory.specs.Code.Cells.{IsBlock, blocks_in, clause_at, clauses_in, kept_as, kept_in}
-use Rattle.clause_memory.specs.Code.Cells.{kind_at, rests, size_at, start_of, written}
+use Rattle.clause_memory.specs.Code.Cells.{is_rest, kind_at, rests, size_at, start_of, written}
 use Rattle.clause_memory.specs.declared.kind.Kind.{Kind}
 use Rattle.clause_memory.specs.declared.kind.Kind.TheVariants.{Live, Free, Rest}
 use Rattle.clause_memory.proofs.BlockLemmas.{blocks_same, rests_alike}
@@ -135,6 +135,25 @@ module _ {ks : List Kind} {words : List ℕ} {heads : ℕ → Option ℕ} (memor
       let few = memory.few in
       omega arith
 
+-- ---- A block whose first cell is of another kind now
+
+module _ {ks : List Kind} {s n : ℕ} (kind : Kind) (block : IsBlock ks s n) where
+  kind_now : kind_at (set ks s kind) s ≡ kind
+  kind_now = get_or-set_same ks s kind Rest (begins_inside ks s block.begins)
+
+  changed_kind : {words now : List ℕ} → is_rest kind ≡ false → length now ≡ length words
+      → ((i : ℕ) → i < 4 * s → get_or now i 0 ≡ get_or words i 0)
+      → ((i : ℕ) → 4 * (s + n) ≤ i → get_or now i 0 ≡ get_or words i 0)
+      → IsChanged ks (set ks s kind) words now s n
+  changed_kind begins same_len before behind = record {
+    block = block;
+    alike = alike_set ks s kind block.begins begins;
+    others = λ u ne. get_or-set_other ks s u kind Rest ne;
+    same_len = same_len;
+    before = before;
+    behind = behind;
+  }
+
 module _ {ks : List Kind} {words now : List ℕ} {heads heads_now : ℕ → Option ℕ} {s : ℕ} {c : Clause} (put : IsPutIn ks words now heads heads_now s c) where
   abbrev cells : ℕ
   cells = cells_for (length c)
@@ -146,17 +165,12 @@ module _ {ks : List Kind} {words now : List ℕ} {heads heads_now : ℕ → Opti
   block = first_block put.memory cells s put.first
 
   live_now : kind_at filled s ≡ Live
-  live_now = get_or-set_same ks s Live Rest (begins_inside ks s block.begins)
+  live_now = kind_now Live block
 
   changed : IsChanged ks filled words now s cells
-  changed = record {
-    block = block;
-    alike = alike_set ks s Live block.begins refl;
-    others = λ u ne. get_or-set_other ks s u Live Rest ne;
-    same_len = put.same_len;
-    before = put.before;
-    behind = λ i high. put.behind i (let hold = cells_hold (length c) in omega arith);
-  }
+  changed =
+      changed_kind Live block refl put.same_len put.before
+      (λ i high. put.behind i (let hold = cells_hold (length c) in omega arith))
 
   size_now : size_at now s ≡ length c
   size_now = let header = put.header in omega arith
@@ -214,17 +228,10 @@ module _ {ks : List Kind} {words now : List ℕ} {heads heads_now : ℕ → Opti
   block_out = subst (IsBlock ks s) (sym out.cells) (out.memory.block s out.live)
 
   free_now : kind_at emptied s ≡ Free
-  free_now = get_or-set_same ks s Free Rest (begins_inside ks s block_out.begins)
+  free_now = kind_now Free block_out
 
   changed_out : IsChanged ks emptied words now s n
-  changed_out = record {
-    block = block_out;
-    alike = alike_set ks s Free block_out.begins refl;
-    others = λ u ne. get_or-set_other ks s u Free Rest ne;
-    same_len = out.same_len;
-    before = out.before;
-    behind = out.behind;
-  }
+  changed_out = changed_kind Free block_out refl out.same_len out.before out.behind
 
   inside_words : 4 * (s + n) ≤ length now
   inside_words =

@@ -7,9 +7,7 @@ pub returns : goal.returns
 returns c =
     let words = c.args.words.now.items in
     let slot = c.args.slot in
-    let first = c.requires.first in
-    let second = c.requires.second in
     let from : slot * 4 + 1 ≡ 4 * slot + 1 = omega arith in
     c.exchange_behind.ensures
-    ∙ swapped_behind words (slot * 4 + 1) c.args.a c.args.b (omega (arith, first)) (omega (arith, second))
+    ∙ swapped_behind words (slot * 4 + 1) c.args.a c.args.b (omega arith) (omega arith)
     ∙ ap (λ n. swap words (n + c.args.a) (n + c.args.b)) from
