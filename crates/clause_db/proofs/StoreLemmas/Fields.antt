@@ -73,22 +73,14 @@ module _ (live : FinMap nat_cmp Clause) (stored : ℕ) (marks : Filled Bool) (su
       ];
       clear = clear;
       stored_is = kept_is;
-      sum_is =
-          let more = sum_insert length live k x free in
-          let sum_is = sound.sum_is in
-          let stored_is = sound.stored_is in
-          omega arith;
+      sum_is = omega (arith, sum_insert length live k x free, sound.sum_is, sound.stored_is);
     }
 
   -- ---- One clause less
 
   module _ (k : ℕ) (x : Clause) (here : maps.get live k ≡ Some x) where
     pub within_sum : length x ≤ sum
-    within_sum =
-        let split = sum_remove length live k x here in
-        let sum_is = sound.sum_is in
-        let stored_is = sound.stored_is in
-        omega arith
+    within_sum = omega (arith, sum_remove length live k x here, sound.sum_is, sound.stored_is)
 
     pub sound_without : (kept : ℕ) → kept ≡ memory.literals_in (maps.remove live k) → IsStore (maps.remove live k) kept marks (sum - length x)
     sound_without kept kept_is = record {
@@ -97,11 +89,7 @@ module _ (live : FinMap nat_cmp Clause) (stored : ℕ) (marks : Filled Bool) (su
       known = λ s c is. sound.known s c (after_remove live k s c is);
       clear = sound.clear;
       stored_is = kept_is;
-      sum_is =
-          let split = sum_remove length live k x here in
-          let sum_is = sound.sum_is in
-          let stored_is = sound.stored_is in
-          omega arith;
+      sum_is = omega (arith, sum_remove length live k x here, sound.sum_is, sound.stored_is);
     }
 
     -- ---- A clause in the place of one with the same literals

@@ -1,0 +1,41 @@
+-- A clause in the place of one with the same literals, in all fields of a store.
+use Rattle.std.proofs.Common.{◌≡◌, ℕ, Bool, Option, Some, length, sym, subst, ap, ◌∙◌}
+use Rattle.std.specs.Ordering.{nat_cmp}
+use Rattle.std.specs.FinMap as maps
+use Rattle.std.specs.FinMap.{FinMap}
+use Rattle.cnf_base.specs.Literals.{Clause, has}
+use Rattle.occurrences.specs.declared.by_literal.Occurrences.{Occurrences}
+use Rattle.tables.specs.declared.filled.Filled.{Filled}
+use Rattle.clause_memory.specs.Memory as memory
+use Rattle.clause_index.specs.Code.Index.{Indexes}
+use Rattle.clause_index.specs.declared.index.Index.{Index}
+use Rattle.clause_index.proofs.IndexLemmas.Hashes.{hash_same}
+use Rattle.clause_index.proofs.IndexLemmas.Whole.{index_swapped}
+use Rattle.clause_db.specs.Code.Counts.{AreCounted}
+use Rattle.clause_db.specs.Code.Fields.{IsStore}
+use Rattle.clause_db.specs.Code.Kept.{AreKept}
+use Rattle.clause_db.proofs.StoreLemmas.Counts.{counted_replaced}
+use Rattle.clause_db.proofs.StoreLemmas.Fields.{sound_replaced}
+use Rattle.clause_db.proofs.StoreLemmas.Kept.{kept_replaced}
+
+module _ (index : Index) (occurrences : Option Occurrences) (counts : Option (Filled ℕ))
+    (marks : Filled Bool) (sum : ℕ) where
+  -- what is so of the fields
+  abbrev pub AreFields : FinMap nat_cmp Clause → ℕ → Type 0
+  AreFields live stored =
+      IsStore live stored marks sum × Indexes index live × AreKept occurrences live
+      × AreCounted counts live
+
+  pub all_replaced : (live now : FinMap nat_cmp Clause) (stored kept k : ℕ) (x y : Clause)
+      → AreFields live stored → maps.get live k ≡ Some x
+      → ((l : ℕ) → has y l ≡ has x l) → length y ≡ length x
+      → now ≡ maps.insert live k y → kept ≡ memory.literals_in now → AreFields now kept
+  all_replaced live now stored kept k x y are here alike as_long is alone =
+      let hashes = hash_same index.seed y x (λ l h. sym (alike l) ∙ h) (λ l h. alike l ∙ h) in
+      let kept_is = alone ∙ ap memory.literals_in is in
+      subst (λ l. AreFields l kept) (sym is) (
+        sound_replaced live stored marks sum are.0 k x here y alike as_long kept kept_is,
+        index_swapped index live are.1 k x y here hashes,
+        kept_replaced occurrences live k x y here alike are.2,
+        counted_replaced counts live k x y here alike are.3,
+      )
