@@ -4,8 +4,8 @@ ghost use Rattle.std.specs.Prelude.{◌≡◌, ◌++◌, ℕ, Some, [], IsSome, 
 ghost use Rattle.std.specs.List.{list_any};
 ghost use Rattle.std.specs.FinMap as maps;
 ghost use Rattle.cnf_base.specs.Literals.{Clause, Literal, complement, complements, has};
-ghost use Rattle.propagation.specs.Assumptions.{HasAt, IsAnswer, LastIsAnswered, MayAssume};
-ghost use Rattle.propagation.specs.Assumptions.{assumed_by};
+ghost use Rattle.propagation.specs.Assumptions.{AssumingPart, HasAt, IsAnswer, LastIsAnswered};
+ghost use Rattle.propagation.specs.Assumptions.{MayAssume, assumed_by};
 ghost use Rattle.propagation.specs.declared.answer.Answer.TheVariants.{Quiet};
 ghost use Rattle.theory.specs.Propagation.{Clash};
 ghost use Rattle.drat_steps.specs.Code.Candidates.{CanTry, HasClashed, IsWithin, PassesIn, SearchedIn};
@@ -124,6 +124,19 @@ impl Candidates<'_> {
         }
     }
 
+    /// Assumes false what is left of one, beside what is assumed, and propagates.
+    fn assume_left<P: Propagate>(&self, clauses: &mut P, slot: Slot) -> Result<Answer, OutOfMemory>
+        requires may { MayAssume (P.state clauses.old).assumptions }
+        requires alive { IsSome (maps.get (P.state clauses.old).live slot) }
+        ensures { AssumingPart (P.state clauses.old) (P.state clauses.new) slot
+            (is_left self.now) result }
+    {
+        match *self {
+            Candidates::Holding(l) => clauses.assume_rest(slot, l),
+            Candidates::ReducedBy(witness) => clauses.assume_reduced(slot, witness),
+        }
+    }
+
     /// What propagation says where the rest of one is assumed false too, for that moment.
     fn answer_with<P: Propagate>(&self, clauses: &mut P, slot: Slot) -> Result<Answer, OutOfMemory>
         requires { CanTry (P.state clauses.old) slot }
@@ -133,10 +146,7 @@ impl Candidates<'_> {
             (P.state clauses.old).assumptions ++ complements (rest_of self.now c)) a) }
         ensures same { IsAsBefore (P.state clauses.old) (P.state clauses.new) }
     {
-        let answer = match *self {
-            Candidates::Holding(l) => clauses.assume_rest(slot, l),
-            Candidates::ReducedBy(witness) => clauses.assume_reduced(slot, witness),
-        }?;
+        let answer = self.assume_left(clauses, slot)?;
         clauses.undo();
         Ok(answer)
     }
