@@ -1,10 +1,9 @@
 -- What an accepted LRAT step shows.
-use Rattle.std.proofs.Common.{◌≡◌, ℕ, Bool, true, false, not, eqb, eqb-true, nat_le, Option}
+use Rattle.std.proofs.Common.{◌≡◌, ℕ, true, false, not, eqb, eqb-true, nat_le, Option}
 use Rattle.std.proofs.Common.{Some, None, Ok, Err, List, [], ◌∷◌, ◌++◌, refl, sym, ap}
 use Rattle.std.proofs.Common.{◌∙◌, subst, inl, inr}
 use Rattle.std.proofs.lemmas.Bool.{false≢true, true≢false, cases_Bool, or_cases, and_cases}
 use Rattle.std.proofs.lemmas.Bool.{not-false, MatchBool-at_true, MatchBool-at_false}
-use Rattle.std.specs.Bool.{then_some}
 use Rattle.std.specs.Option.{option_or}
 use Rattle.std.specs.List.{list_any}
 use Rattle.std.proofs.lemmas.Option.{none-some}
@@ -35,10 +34,6 @@ use Rattle.theory.proofs.LratLemmas.Chains.{ChainMeans, chain_means}
 or_none : {A : Type 0} (a b : Option A) → option_or a b ≡ None → (a ≡ None) × (b ≡ None)
 or_none None b e = (refl, e)
 or_none (Some x) b e = absurd (none-some x (sym e))
-
-then_none : {A : Type 0} (b : Bool) (x : A) → then_some b x ≡ None → b ≡ false
-then_none false x e = refl
-then_none true x e = absurd (none-some x (sym e))
 
 conflict_of_none : (r : Refusal) (end : ChainEnd) → chain_refusal r end ≡ None → end ≡ conflict
 conflict_of_none r conflict e = refl

@@ -80,10 +80,3 @@ sum_without live after top id zero_none none is c at =
   where
     apart : (c : Clause) → Some c ≡ None → ⊥
     apart c e = cc
-
--- nothing is taken off
-pub sum_without_none : (live after : Live) (top id : ℕ) → ((k : ℕ) → after k ≡ without_id live id k) → live id ≡ None → (k : ℕ) → after k ≡ live k
-sum_without_none live after top id is at k = elim (cases_eq k id) [
-  | inl e ↦ is k ∙ ap (without_id live id) e ∙ without_here live id ∙ sym at ∙ ap live (sym e)
-  | inr apart ↦ is k ∙ without_other live id k apart
-]
