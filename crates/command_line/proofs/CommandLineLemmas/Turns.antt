@@ -80,10 +80,6 @@ module _ (c : List Rule) (name : Text) (r : List Row) (p : Option (Text × List 
   Taken word = (turn_fault (shape name c) [] (at r p n) word ≡ step_fault (shape name c) n (holding r p) value)
       × (walked c [] (at r p n) word ≡ to_positional c (arg_by_index c n) word (at r p n) (holding r p))
 
-  -- by the tests that the walk makes of the word
-  met_by : Text → Bool → Option (Text × Option Text) → Held × Step
-  met_by word b l = if b then (holding r p, trailing n) else long_or_other c idle word l (holding r p)
-
   -- neither `--`, nor a long flag
   short_fault_is : (word : Text) → bytes_eq word (45 ∷ 45 ∷ []) ≡ false → long_of word ≡ None → (s : Option Text) → short_of word ≡ s
       → turn_fault (shape name c) [] (at r p n) word

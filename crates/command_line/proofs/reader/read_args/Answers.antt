@@ -35,12 +35,6 @@ returns-in_default-clause-accepts c accepts =
 abbrev Found : After-is_any_empty → Type 0
 Found c = Reads c.args.tool (said_by c.args.words.now) (rows_of (found_of c.in-Ok.matches))
 
-found_accepted : (c : After-is_any_empty) → Accepts c.args.tool (said_by c.args.words.now) → Found c
-found_accepted c accepts =
-    reads c.args.tool (app_of c.in_ok-command.command) c.in_ok-command.ensures c.args.words.now
-    c.in-Ok.matches c.in-Ok.ensures.matches c.in-Ok.ensures.kinds
-    (known_words c.args.tool (said_by c.args.words.now) accepts)
-
 -- the first name that was found
 formula_found : (c : After-is_any_empty) → Found c →
     Some (string_bytes c.in_ok-formula.formula) ≡
@@ -62,6 +56,20 @@ second_found c read =
       | in-None w ↦ ap (option_map string_bytes) w.second-is ∙ w.in-None.ensures
     ]
     ∙ first_value-rows (found_of c.in-Ok.matches) (codes "second") ∙ read.second
+
+-- both, where the words are accepted
+named_in : (c : After-is_any_empty) → Accepts c.args.tool (said_by c.args.words.now) →
+    (Some (string_bytes c.in_ok-formula.formula) ≡
+    slice_get (names c.args.tool (said_by c.args.words.now)) 0)
+    × (option_map string_bytes c.match-get_str-2.second ≡
+    slice_get (names c.args.tool (said_by c.args.words.now)) 1)
+named_in c accepts =
+    let read =
+    reads c.args.tool (app_of c.in_ok-command.command) c.in_ok-command.ensures c.args.words.now
+    c.in-Ok.matches c.in-Ok.ensures.matches c.in-Ok.ensures.kinds
+    (known_words c.args.tool (said_by c.args.words.now) accepts)
+    in
+    (formula_found c read, second_found c read)
 
 pub returns-clause-asked : goal.returns-clause-asked
 returns-clause-asked c free =
@@ -109,20 +117,12 @@ returns-clause-hyphens c free =
 
 pub returns-then-is_any_empty-clause-accepts : goal.returns-then-is_any_empty-clause-accepts
 returns-then-is_any_empty-clause-accepts c accepts =
-    let path = (goal.at.returns-then-is_any_empty-clause-accepts c).After-is_any_empty in
-    let read = found_accepted path accepts in
-    let full =
-    names_full c.args.tool (said_by c.args.words.now) (string_bytes c.in_ok-formula.formula)
-    c.match-get_str-2.second accepts (formula_found path read) (second_found path read)
-    in
+    let named = named_in (goal.at.returns-then-is_any_empty-clause-accepts c).After-is_any_empty in
+    let full = names_full _ _ _ c.match-get_str-2.second accepts (named accepts).0 (named accepts).1 in
     absurd (true≢false (sym c.if-is_any_empty.true ∙ c.is_any_empty.ensures ∙ full))
 
 pub returns-then-is_read_twice-clause-accepts : goal.returns-then-is_read_twice-clause-accepts
 returns-then-is_read_twice-clause-accepts c accepts =
-    let path = (goal.at.returns-then-is_read_twice-clause-accepts c).After-is_any_empty in
-    let read = found_accepted path accepts in
-    let apart =
-    names_apart c.args.tool (said_by c.args.words.now) (string_bytes c.in_ok-formula.formula)
-    c.match-get_str-2.second accepts (formula_found path read) (second_found path read)
-    in
+    let named = named_in (goal.at.returns-then-is_read_twice-clause-accepts c).After-is_any_empty in
+    let apart = names_apart _ _ _ c.match-get_str-2.second accepts (named accepts).0 (named accepts).1 in
     absurd (true≢false (sym c.if-is_read_twice.true ∙ c.is_read_twice.ensures ∙ apart))
