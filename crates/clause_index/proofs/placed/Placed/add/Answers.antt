@@ -6,11 +6,6 @@ use Rattle.clause_index.proofs.IndexLemmas.Indexed.{undone}
 use Rattle.clause_index.proofs.IndexLemmas.Index.{index_same, index_with, other_place, wrote_place}
 use Rattle.clause_index.proofs.placed.Placed.add.Goals as goal
 
-pub returns-in_err-place-clause-err : goal.returns-in_err-place-clause-err
-returns-in_err-place-clause-err c =
-    let old = c.args.self.now in
-    on_err_from c.from_residual.result _ (λ seed live sound. index_same seed (under old) (noted_place old) live sound _ (noted_place old) c.in_err-place.ensures.err (λ s. refl))
-
 pub returns-in-Err-clause-err : goal.returns-in-Err-clause-err
 returns-in-Err-clause-err c seed live sound =
     let old = c.args.self.now in
