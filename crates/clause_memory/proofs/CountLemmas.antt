@@ -59,9 +59,3 @@ one_more_block old new live slot added full free here others n =
   where
     grown : new ≡ maps.insert old slot added
     grown = inserted_is old new slot added here others
-
--- the same blocks as before
-pub same_blocks_few : (old new : FinMap nat_cmp ℕ) (live : FinMap nat_cmp Clause) (added : ℕ) → new ≡ old → AddsFewBlocks old new live added
-same_blocks_few old new live added same n =
-    let is = ap (blocks_with n) same in
-    omega (arith, is)
