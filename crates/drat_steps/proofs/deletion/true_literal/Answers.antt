@@ -12,9 +12,6 @@ use Rattle.drat_steps.proofs.DratLemmas.Losses.{not_forced}
 use Rattle.drat_steps.proofs.deletion.true_literal.Goals.{in-True, in_default}
 use Rattle.drat_steps.proofs.deletion.true_literal.Goals as goal
 
-pub loop-l-init : goal.loop-l-init
-loop-l-init g c x h f = false≢true h
-
 pub loop-l-preserved : goal.loop-l-preserved
 loop-l-preserved g c x h =
     let state = g.P.Propagate.state c.args.clauses.now in

@@ -1,10 +1,9 @@
-use Rattle.std.proofs.Common.{ap, ◌∙◌, subst}
+use Rattle.std.proofs.Common.{◌∙◌, subst}
 use Rattle.std.specs.FinMap as maps
-use Rattle.std.proofs.lemmas.Bool.{false≢true}
 use Rattle.std.proofs.lemmas.List.{take_all}
 use Rattle.propagation.specs.Assumptions.{assumed_by}
 use Rattle.drat_steps.proofs.DratLemmas.Candidates.{Passed, all_touched_passed, can_try, clashed_after}
-use Rattle.drat_steps.proofs.DratLemmas.Candidates.{none_clashed, none_is_one, passed_more, stops_at}
+use Rattle.drat_steps.proofs.DratLemmas.Candidates.{none_is_one, passed_more, stops_at}
 use Rattle.drat_steps.proofs.DratLemmas.Candidates.{touched_alive}
 use Rattle.drat_steps.proofs.candidates.Candidates.all_clash.Goals as goal
 
@@ -12,13 +11,6 @@ pub returns-then-none_touched-clause-searched : goal.returns-then-none_touched-c
 returns-then-none_touched-clause-searched g c =
     let now = g.P.Propagate.state c.args.clauses.now in
     none_is_one (maps.get now.live) (assumed_by now.assumptions) c.args.self.now c.args.lits.now c.requires.touched (c.none_touched.ensures c.if-none_touched.true)
-
-pub loop-slot-init : goal.loop-slot-init
-loop-slot-init g c = record {
-  passed = λ s none. absurd (false≢true none);
-  same = record { live = ap (λ p. p.live) c.touched.ensures.same; assumptions = ap (λ p. p.assumptions) c.touched.ensures.same };
-  clashed = none_clashed (g.P.Propagate.state c.touched.new.self) c.args.self.now _ c.clear.ensures;
-}
 
 pub passes-requires-clause-can_try : goal.passes-requires-clause-can_try
 passes-requires-clause-can_try g c =
