@@ -106,10 +106,6 @@ module _ {E : Type 0} (ls now : List Literal) (c : Clause) (r : Result Unit E) w
           | inr ne ↦ absurd (true≢false (sym (others m w.0 ne) ∙ w.1))
         ])
 
-  -- where all are added, what follows is
-  pub all_take : OnOk r ((l : Literal) → has now l ≡ has (ls ++ c) l) → OnOk r (TakesIn ls now c)
-  all_take = on_ok_weaker r (λ lits m member others. lits m ∙ has_append_right ls c m member)
-
 pub more_is_closed : (ls : List Literal) (c : Clause) → how_many (open_literals ls c) ≡ More → IsClosedAt (has ls) c
 more_is_closed ls c e = settled_at ls c (subst (IsSettled ls) (sym e) tt)
 
@@ -168,12 +164,6 @@ module _ (live : FinMap nat_cmp Clause) (lits after : List Literal) (done : ℕ)
         | inr apart ↦ taken_apart c (so_far.takes k c at) apart
       ];
     }
-
-pub followed_start : (live : Live) (lits : List Literal) → AreForced live lits → ((k : ℕ) (c : Clause) → live k ≡ Some c → TakesIn [] lits c) → IsFollowed live 0 lits
-followed_start live lits sound takes = record { sound = sound; takes = takes }
-
-pub none_forced : (live : Live) → AreForced live []
-none_forced live l h = absurd (false≢true h)
 
 -- nothing more follows from any of them
 pub followed_whole : (live : Live) (done : ℕ) (lits : List Literal) → IsFollowed live done lits → length lits ≤ done → IsWhole live lits
