@@ -53,13 +53,13 @@ write_clause-requires-clause-inside c =
 pub returns-clause-memory : goal.returns-clause-memory
 returns-clause-memory c = put_in_memory (put (goal.at.returns-clause-memory c).After-write_clause)
 
+pub returns-clause-free : goal.returns-clause-free
+returns-clause-free c = was_none (put (goal.at.returns-clause-free c).After-write_clause)
+
 pub returns-clause-block : goal.returns-clause-block
 returns-clause-block c =
     block_is
     (first_block c.requires.memory (cells_for (length c.args.lits.now)) c.args.slot c.requires.first)
-
-pub returns-clause-free : goal.returns-clause-free
-returns-clause-free c = was_none (put (goal.at.returns-clause-free c).After-write_clause)
 
 pub returns-clause-blocks : goal.returns-clause-blocks
 returns-clause-blocks c = put_in_blocks (put (goal.at.returns-clause-blocks c).After-write_clause)
