@@ -7,7 +7,7 @@ use Rattle.std.specs.Prelude.{nat_le, slice_index, if◌then◌else◌, ◌==◌
 use Rattle.std.proofs.lemmas.Bool.Decides.{nat_tests}
 use Rattle.std.proofs.lemmas.Grind.{common_steps}
 use Rattle.std.proofs.lemmas.List.{take-append-le, length-drop, length-take-le}
-use Rattle.cnf_base.specs.Stream.{Stream, next_count, more_count, most_to_come, skipped}
+use Rattle.cnf_base.specs.Stream.{Stream, next_count, more_count, skipped}
 use Rattle.cnf_base.proofs.StreamLemmas.{Along-still, Along-then, Along-skipped, Splits-first, Splits-second}
 use Rattle.cnf_base.specs.declared.input.Ending.{Ending}
 use Rattle.proofs.specs.Steps.{Step, with_literal}
@@ -161,10 +161,3 @@ RunsOn-more old now first s count value so_far whole =
       fewer = let less = length-drop count now.ahead in let was = so_far.fewer in omega (arith, was, less);
       mark = so_far.mark;
     }
-
-pub whole_fewer : (now : Stream) (count value : ℕ) → IsWhole now.ahead count value → most_to_come (skipped count now) < most_to_come now
-whole_fewer now count value whole =
-    let less = length-drop count now.ahead in
-    let some = whole.count_is in
-    let within = whole.within in
-    omega (arith, less, some, within)
