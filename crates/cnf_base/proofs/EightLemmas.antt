@@ -135,9 +135,6 @@ marks_of word = bit_and (bit_or ((bit_and word 9187201950435737471 + 85361403948
 zero_low : (b : ℕ) → b < 256 → from_zero b < 256
 zero_low b low = xor_lt 8 b 48 low (omega arith)
 
-seven_low : (b : ℕ) → b < 256 → bit_and (from_zero b) 127 < 256
-seven_low b low = omega (arith, and_le_r (from_zero b) 127)
-
 plus_low : (b : ℕ) → b < 256 → bit_and (from_zero b) 127 + 118 < 256
 plus_low b low = omega (arith, and_le_r (from_zero b) 127)
 

@@ -28,7 +28,7 @@ use Rattle.cnf_base.specs.declared.word.Word.{Word}
 use Rattle.cnf_base.specs.declared.word.Word.TheVariants as words
 use Rattle.cnf_base.specs.declared.token.Token as tokens
 use Rattle.cnf_base.specs.declared.token.Token.TheVariants as token
-use Rattle.cnf_base.proofs.PrintLemmas.{both, AreAllDigits, numerals, count_word, minus_word}
+use Rattle.cnf_base.proofs.PrintLemmas.{both, AreAllDigits, numerals}
 use Rattle.cnf_base.proofs.TextLemmas.{first_part, is_comment-lines_of}
 
 -- ---- Tokens without their places
@@ -296,12 +296,6 @@ pub number_spelled : (run : List ℕ) (is_negative : Bool) (n : ℕ) → n ≤ 9
     → (run ≡ number_text is_negative n) × (is_negative ≡ true → 1 ≤ n)
 number_spelled run is_negative n small e = subst (λ w. IsSpelled w run) e (word_spelled run) small
 
-pub number_word : (is_negative : Bool) (n : ℕ) → n ≤ 9223372036854775807
-    → (is_negative ≡ true → 1 ≤ n)
-    → word_of (number_text is_negative n) ≡ words.Number (number is_negative n)
-number_word false n small some = count_word n (omega arith)
-number_word true n small some = minus_word n (some refl) (omega arith)
-
 -- and so do the fixed words
 pub p_spelled : (run : List ℕ) → word_of run ≡ words.P → run ≡ codes "p"
 p_spelled run e = subst (λ w. IsSpelled w run) e (word_spelled run)
@@ -321,10 +315,3 @@ v_spelled run e = subst (λ w. IsSpelled w run) e (word_spelled run)
 pub satisfiable_spelled : (run : List ℕ) → word_of run ≡ words.Satisfiable
     → run ≡ codes "SATISFIABLE"
 satisfiable_spelled run e = subst (λ w. IsSpelled w run) e (word_spelled run)
-
-pub unsatisfiable_spelled : (run : List ℕ) → word_of run ≡ words.Unsatisfiable
-    → run ≡ codes "UNSATISFIABLE"
-unsatisfiable_spelled run e = subst (λ w. IsSpelled w run) e (word_spelled run)
-
-pub unknown_spelled : (run : List ℕ) → word_of run ≡ words.Unknown → run ≡ codes "UNKNOWN"
-unknown_spelled run e = subst (λ w. IsSpelled w run) e (word_spelled run)

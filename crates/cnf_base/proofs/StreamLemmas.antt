@@ -357,11 +357,3 @@ most_to_come-bumped s some = grind (arith, common_steps)
 pub some_input : (left : Option (List ℕ)) → (i : Input) × MayGive left i.bytes i.ending
 some_input None = (record { bytes = []; ending = End }, tt)
 some_input (Some all) = (record { bytes = all; ending = End }, refl)
-
--- and so may each source
-pub some_rest : (s : Stream) → (j : Suffix) × MayCome s j
-some_rest s = by s.met
-  where
-    by : (met : Option Ending) → (j : Suffix) × MayFollow met s.reader.left s.ahead j.bytes j.ending
-    by (Some e) = (suffix 0 s.ahead e, (refl, refl))
-    by None = let i = some_input s.reader.left in (suffix 0 (s.ahead ++ i.0.bytes) i.0.ending, (i.0.bytes, refl, i.1))
