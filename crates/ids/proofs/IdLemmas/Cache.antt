@@ -135,21 +135,5 @@ module _ (lines : List Line) (mask i : ℕ) (line : Line) (low : i < length line
     | inr apart ↦ moved_other k apart
   ]
 
-  pub moved_one : (now : ℕ → ℕ) → bit_and line.number mask ≡ i → ((k : ℕ) → now k ≡ cond (eqb k line.number) line.page (cached k)) → (k : ℕ) → now k ≡ moved_to lines mask (i + 1) k
-  moved_one now own changes k = elim (cases_eq k line.number) [
-    | inl is ↦
-        changes k ∙ ap (λ b. cond b line.page (cached k)) (eq-eqb k line.number is)
-        ∙ sym (here k (ap (λ n. bit_and n mask) is ∙ own) ∙ page_of-here line k (sym is))
-    | inr other ↦
-        changes k ∙ ap (λ b. cond b line.page (cached k)) (ne_eqb k line.number other)
-        ∙ elim (cases_eq (bit_and k mask) i) [
-          | inl at ↦ before_it k at ∙ sym (here k at ∙ page_of-other line k (λ e. other (sym e)))
-          | inr apart ↦ moved_other k apart
-        ]
-  ]
-
-pub moved_none : (lines : List Line) (mask k : ℕ) → 0 ≡ moved_to lines mask 0 k
-moved_none lines mask k = sym (ap (λ b. cond b (page_among lines mask k) 0) (le-ltb (bit_and k mask) 0 (omega arith)))
-
 pub moved_all : (lines : List Line) (mask i k : ℕ) → mask < i → moved_to lines mask i k ≡ page_among lines mask k
 moved_all lines mask i k past = let most = and_le_r k mask in ap (λ b. cond b (page_among lines mask k) 0) (lt-ltb (bit_and k mask) i (omega arith))

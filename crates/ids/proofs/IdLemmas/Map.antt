@@ -1,5 +1,5 @@
 -- Identifiers by pages, and as a finite map.
-use Rattle.std.proofs.Common.{◌≡◌, ◌≢◌, ℕ, zero, suc, ◌+◌, ◌-◌, ◌*◌, ◌/◌, ◌%◌, ◌^◌, ◌<◌, ◌≤◌, cond}
+use Rattle.std.proofs.Common.{◌≡◌, ◌≢◌, ℕ, zero, suc, ◌+◌, ◌-◌, ◌/◌, ◌%◌, ◌^◌, ◌<◌, ◌≤◌, cond}
 use Rattle.std.proofs.Common.{eqb, eq-eqb, ne_eqb, Option, Some, None, List, length, get_or, set}
 use Rattle.std.proofs.Common.{nat_cmp, refl, sym, ap, ◌∙◌, subst, arith, inl, inr, get_or-set_same}
 use Rattle.std.proofs.Common.{get_or-set_other, IfNone}
@@ -75,9 +75,6 @@ same_at entry after q same = elim (cases_lt q (2 ^ 64)) [
   | inl low ↦ get-as_map after q low ∙ ap slot_from same ∙ sym (get-as_map entry q low)
   | inr past ↦ get-past after q past ∙ sym (get-past entry q past)
 ]
-
-pub as_map-same : (entry after : ℕ → ℕ) → ((k : ℕ) → after k ≡ entry k) → as_map after ≡ as_map entry
-as_map-same entry after same = same_maps _ _ (λ q. same_at entry after q (same q))
 
 -- a change of one entry
 module _ (entry after : ℕ → ℕ) (id value : ℕ) (fits : id < 2 ^ 64) (changes : (k : ℕ) → after k ≡ cond (eqb k id) value (entry k)) where
@@ -171,18 +168,6 @@ module _ (directory : Directory) (pages : Pages) (paged : IsPaged directory page
 
   pub entry_is : (id : ℕ) → page_at directory (id / 1024) ≢ 0 → entry_at directory pages id ≡ get_or pages.entries.items (place (page_at directory (id / 1024)) id) 0
   entry_is id some = ap (λ b. cond b 0 (get_or pages.entries.items (place (page_at directory (id / 1024)) id) 0)) (ne_eqb (page_at directory (id / 1024)) 0 some)
-
--- nothing is bound past a page, where no later page number has one
-module _ (page : ℕ → ℕ) (entries : List ℕ) (from start : ℕ) (passed : (k : ℕ) → from ≤ k → k < start → entry_in page entries k ≡ 0) (rest : (k : ℕ) → start ≤ k → k < 1024 * (start / 1024) + 1024 → entry_in page entries k ≡ 0)
-    (none : (k : ℕ) → start / 1024 + 1 ≤ k → k < 2 ^ 64 → page k ≡ 0) where
-  pub passed_all : (k : ℕ) → from ≤ k → k < 2 ^ 64 → entry_in page entries k ≡ 0
-  passed_all k above fits = elim (cases_lt k start) [
-    | inl before ↦ passed k above before
-    | inr past ↦ elim (cases_lt (k / 1024) (start / 1024 + 1)) [
-      | inl here ↦ rest k past (omega arith)
-      | inr later ↦ has_no_page page entries k (none (k / 1024) later (omega arith))
-    ]
-  ]
 
 -- ---- Entries in pages and far ones
 
