@@ -71,9 +71,6 @@ passes_before before after same candidates slot found passes is h =
 
 -- ---- A candidate that has all that is left of one that clashed
 
-pub none_clashed : (clauses : Propagation) (them : Candidates) (last : Clashed) → last.rest.items ≡ [] → HasClashed clauses them last
-none_clashed clauses them last none = record { left = λ l h. absurd (false≢true (ap (λ ls. has ls l) (sym none) ∙ h)); clashes = λ some. absurd (some none) }
-
 pub clashed_after : (before after : Propagation) → IsAsBefore before after → (them : Candidates) (last : Clashed) → HasClashed before them last → HasClashed after them last
 clashed_after before after same them last known = record {
   left = known.left;
