@@ -9,7 +9,7 @@ ghost use Rattle.std.specs.Prelude.{Some, None, IfSome, IfNone, IfOk, OnOk, OnEr
 ghost use Rattle.std.specs.FinMap as maps;
 ghost use Rattle.ids.specs.Code.Far.{far_at};
 ghost use Rattle.ids.specs.Code.Ids.{entry_at, entry_for, page_at, slot_from};
-ghost use Rattle.ids.specs.Code.Ids.{IsPaged, IsFirst};
+ghost use Rattle.ids.specs.Code.Ids.{IsEmptyPage, IsPaged, IsFirst};
 
 use crate::by_slot::{note_far, note_paged};
 use crate::credit::Credit;
@@ -120,8 +120,25 @@ fn open(directory: &mut Directory, pages: &mut Pages, number: u64) -> Result<u32
     Ok(page)
 }
 
+/// Takes a page, in which nothing is bound, from its number. It takes no memory.
+#[cold]
+#[inline(never)]
+fn take_page(directory: &mut Directory, pages: &mut Pages, number: u64, page: u32)
+    requires paged { IsPaged directory.old pages.old }
+    requires page { page_at directory.old number ≡ page }
+    requires some { page ≢ 0 }
+    requires empty { IsEmptyPage pages.old page }
+    ensures paged { IsPaged directory.new pages.new }
+    ensures same { (id : ℕ) → entry_at directory.new pages.new id ≡
+        entry_at directory.old pages.old id }
+{
+    directory.remove(number);
+    pages.release(page);
+}
+
 /// Takes the page from a page number, where nothing is bound in it and another number is the one
 /// that keeps its page. It takes no memory.
+#[inline(always)]
 fn close(directory: &mut Directory, pages: &mut Pages, number: u64, kept: u64)
     requires paged { IsPaged directory.old pages.old }
     ensures paged { IsPaged directory.new pages.new }
@@ -133,8 +150,7 @@ fn close(directory: &mut Directory, pages: &mut Pages, number: u64, kept: u64)
     }
     let page = directory.page(number);
     if page != 0 && pages.is_empty(page) {
-        directory.remove(number);
-        pages.release(page);
+        take_page(directory, pages, number, page);
     }
 }
 
