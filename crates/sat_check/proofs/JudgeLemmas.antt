@@ -72,10 +72,6 @@ pub Judging-start : (listed : List Literal) (r : FormulaReading) → r.complete 
 Judging-start listed r none = record { clauses = []; reads = Reads-start r none; all = refl; count = refl }
 
 module _ (listed : List Literal) (old now new : FormulaReading) (met : ℕ) (so_far : Judging listed old now met) (c : Clause) where
-  -- as many clauses are complete
-  pub Judging-count : met ≡ now.complete
-  Judging-count = so_far.count ∙ so_far.reads.count
-
   pub Judging-clause : Gave now new (Ok true) c → meets listed c ≡ true
       → new.complete ≡ now.complete + 1 → new.header ≡ now.header → Judging listed old new (met + 1)
   Judging-clause gives is count header = record {

@@ -120,23 +120,26 @@ unused rule s is = let P : SessionState → Type 0 = λ s. IsLoaded (rule_of (vi
     none_there : (e : Clause) (k : ℕ) (c : Clause) → maps.get (fresh lrat).held.live k ≡ Some c → same_clause c e ≡ true → ⊥
     none_there e k c at same = absurd (none-some c (sym (get-empty nat_cmp k) ∙ at))
 
+    none_held : (rule : Rule) → Same (view_of (fresh rule)).state
+        (start (rule_of (view_of (fresh rule)).state) [])
+    none_held lrat =
+        (SameClauses-eq (maps.get (fresh lrat).held.live) (numbered []) none_numbered, refl)
+    none_held (drat rules) =
+        let live = (fresh lrat).held.live in
+        (refl, record { copies = λ e. none_alive e (maps.values live) (none_listed live e (none_there e)) })
+
+    no_sum : (rule : Rule) → 0 ≡ sum_of (start (rule_of (view_of (fresh rule)).state) [])
+    no_sum lrat = refl
+    no_sum (drat rules) = refl
+
     by : (rule : Rule) → IsLoaded (rule_of (view_of (fresh rule)).state) (view_of (fresh rule)) []
-    by lrat = record {
-      state = (SameClauses-eq (maps.get (fresh lrat).held.live) (numbered []) none_numbered, refl);
+    by rule = record {
+      state = none_held rule;
       verified = refl;
       sound = refl;
       unstepped = refl;
       none_lost = refl;
-      peak = refl;
-      room = omega arith;
-    }
-    by (drat rules) = record {
-      state = (refl, record { copies = λ e. none_alive e (maps.values (fresh lrat).held.live) (none_listed (fresh lrat).held.live e (none_there e)) });
-      verified = refl;
-      sound = refl;
-      unstepped = refl;
-      none_lost = refl;
-      peak = refl;
+      peak = no_sum rule;
       room = omega arith;
     }
 

@@ -1,6 +1,6 @@
 -- A whole report.
 use Rattle.theory.specs.Verdicts.{system_of}
-use Rattle.std.proofs.Common.{◌≡◌, ℕ, ◌≤◌, max, Bool, true, false, ◌||◌, Option, None, Some, List}
+use Rattle.std.proofs.Common.{◌≡◌, ℕ, ◌≤◌, max, Bool, true, false, Option, None, Some, List}
 use Rattle.std.proofs.Common.{[], ◌∷◌, refl, sym, ap, ◌∙◌, subst, codes, arith}
 use Rattle.std.specs.Prelude.{Result, Ok, Err}
 use Rattle.std.specs.Bool.{MatchBool}
@@ -15,7 +15,7 @@ use Rattle.dimacs.specs.declared.header.Header.{Header}
 use Rattle.proofs.specs.Reading.{Proof}
 use Rattle.proofs.specs.Steps.{Step}
 use Rattle.theory.specs.declared.accepted.Accepted.{Accepted}
-use Rattle.steps.specs.ProofSession.{View, is_over}
+use Rattle.steps.specs.ProofSession.{View}
 use Rattle.theory.specs.Rules.{Rule, start, sum_of, IsFinite}
 use Rattle.theory.specs.Verdicts.{verified, Ends}
 use Rattle.theory.proofs.LawLemmas.Existence.{same_finite, start_finite}
@@ -41,9 +41,6 @@ module _ (rule : Rule) (s : View) (clauses : List Clause) (l : IsLoaded rule s c
 
   pub loaded_least : sum_of s.state ≤ s.peak
   loaded_least = let e = sum_same s.state (start rule clauses) l.state in omega (arith, e, l.peak)
-
-  pub loaded_sound : s.is_verified ≡ false → is_over s ≡ false
-  loaded_sound h = ap (λ b. b || s.is_verified) l.sound ∙ h
 
   -- no clause is empty, and the steps were checked
   pub checks_rest : (trace : Bool) (h : Header) (p : Proof) (r : Report) → s.is_verified ≡ false → Rest trace s.state 0 s.peak p r

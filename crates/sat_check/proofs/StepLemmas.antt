@@ -30,9 +30,6 @@ pub given : (r : Refusal) (P : Type 0) → is_memory r ≡ false → UnlessOutOf
 given OutOfMemory P h x = absurd (let e : true ≡ false = h in cc)
 given _ P h x = x
 
-pub given_ok : (w : Accepted) (P : Type 0) → UnlessOutOfMemory (Ok w) P → P
-given_ok w P x = x
-
 pub last_word : (w : Accepted) → is_last w ≡ true → w ≡ Empty
 last_word Empty h = refl
 last_word _ h = absurd (let e : false ≡ true = h in cc)
