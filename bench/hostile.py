@@ -277,6 +277,27 @@ def chain_from_front(n):
     return [(1,), *chain], deletions(chain, clause(1, n + 1))
 
 
+def unit_under_roots(n):
+    """A clause of which all literals but a new one are false by the first literal of a chain, and the line that deletes it."""
+    return clause(n + 2, -1), "d " + clause(n + 2, -1)
+
+
+@kind(DRAT, 1000)
+def doubts_that_go(n):
+    """A clause that makes a literal true by the first one of a chain is added and deleted again and again, a step after each."""
+    (one, gone), step = unit_under_roots(n), clause(1, n + 1)
+    return [(1,), *implications(1, n)], [one, step, gone, step] * n
+
+
+@kind(DRAT, 1000, is_linear=False)
+def doubts_that_stay(n):
+    """The same, where each time the last implication of the chain is deleted before the clause is. Visits that are made again begin with
+    the clause's literal true, so that each time one more of them is made again."""
+    (one, gone), step = unit_under_roots(n), clause(1, n + 1)
+    chain = implications(1, n)
+    return [(1,), *chain], [line for c in chain[::-1] for line in (one, step, "d " + clause(*c), step, gone)]
+
+
 @kind(DRAT, 1000)
 def units_from_behind(n):
     """Unit clauses are deleted from the last, with a step after each. No other clause has their variables."""
