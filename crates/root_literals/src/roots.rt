@@ -6,7 +6,7 @@
 //! the literal goes alone where nothing needs it, and otherwise the kept literals are cut
 //! back to it: those before it have reasons of literals before them alone. What still follows is
 //! found again at the next assumption. So a deletion costs what was cut, and a look at each unit
-//! clause.
+//! clause and at each that is doubtful.
 //!
 //! A unit clause that is added becomes the reason of its literal even where that is true already:
 //! solvers add one, and then delete the clauses that it satisfies. A reason stays in the table when

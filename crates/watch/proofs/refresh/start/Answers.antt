@@ -1,4 +1,4 @@
-use Rattle.std.proofs.Common.{◌≡◌, IfSome, IfNone, [], refl, ap, subst, take}
+use Rattle.std.proofs.Common.{IfSome, IfNone, [], refl, ap, subst, take}
 use Rattle.std.specs.FinMap as maps
 use Rattle.std.proofs.lemmas.Bool.{true≢false}
 use Rattle.tables.specs.Filled.{at}
