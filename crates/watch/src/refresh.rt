@@ -1,15 +1,17 @@
 //! What follows with nothing assumed, brought up to date.
 
-ghost use Rattle.std.specs.Prelude.{◌≡◌, [], true, false, IsSome, IfSome, IfNone, OnOk, take};
+ghost use Rattle.std.specs.Prelude.{◌≡◌, ◌≤◌, ◌⊎◌, ℕ, [], true, false, IsSome, IfSome, IfNone};
+ghost use Rattle.std.specs.Prelude.{OnOk, length, take};
 ghost use Rattle.std.specs.FinMap as maps;
 ghost use Rattle.cnf_base.specs.Literals.{Literal};
 ghost use Rattle.trail.specs.Trail.{HasRoomForAll};
 ghost use Rattle.theory.specs.Sets.{SameSet};
 ghost use Rattle.root_literals.specs.Order.{each_in_order};
-ghost use Rattle.root_literals.specs.History.{visits};
+ghost use Rattle.root_literals.specs.History.{sure_of, visits};
 ghost use Rattle.root_literals.specs.Roots.{IsFalseAt, IsKept, is_cut, is_up_to_date};
 ghost use Rattle.root_literals.specs.Watched.{IsShortList, IsWatched};
 ghost use Rattle.root_literals.specs.declared.roots.Kept.TheVariants.{Cut};
+ghost use Rattle.watch.specs.Code.Doubts.{HasGrown};
 ghost use Rattle.watch.specs.Code.State.{IsWatch};
 ghost use Rattle.watch.specs.Code.Visits.{CanFollow, Followed};
 ghost use Rattle.tables.specs.Filled.{at};
@@ -39,6 +41,8 @@ fn settle(store: &Store, assumptions: &mut Assumptions, roots: &mut Roots) -> Op
     ensures sure { IfNone result (IsWatched (maps.get store.now.live)
         (take (visits roots.new.history) assumptions.new.trail.lits)
         assumptions.new.trail.lits) }
+    ensures begun { (visits roots.new.history ≡ 0) ⊎ HasGrown roots.old.history roots.new.history
+        assumptions.old.trail.lits assumptions.new.trail.lits }
     ensures noted { (l : Literal) → IsSome (at roots.old.reasons l) →
         IsSome (at roots.new.reasons l) }
     ensures reserved { SameSet assumptions.new.trail.reserved assumptions.old.trail.reserved }
@@ -66,6 +70,8 @@ fn start(store: &Store, short: &SlotList, assumptions: &mut Assumptions, roots: 
     requires kept { IsKept store.now.live roots.old assumptions.old.trail.lits }
     ensures kept { IsKept store.now.live roots.new assumptions.new.trail.lits }
     ensures known { is_cut roots.new.kept ≡ false }
+    ensures begun { (visits roots.new.history ≡ 0) ⊎ HasGrown roots.old.history roots.new.history
+        assumptions.old.trail.lits assumptions.new.trail.lits }
     ensures noted { (l : Literal) → IsSome (at roots.old.reasons l) →
         IsSome (at roots.new.reasons l) }
     ensures reserved { SameSet assumptions.new.trail.reserved assumptions.old.trail.reserved }
@@ -85,8 +91,8 @@ fn start(store: &Store, short: &SlotList, assumptions: &mut Assumptions, roots: 
 }
 
 /// Propagates the literals that are kept and were not propagated yet, up to a clash. It notes how
-/// many literals were true when each visit began: a cut goes back to the last one that began with
-/// no more than it keeps.
+/// many literals were true when each visit began, and of the first how many were when the ones
+/// before were over: a cut goes back to the last one that began with no more than it keeps.
 ///
 /// # Errors
 ///
@@ -96,7 +102,12 @@ fn catch_up(
     lists: &mut WatchLists,
     assumptions: &mut Assumptions,
     roots: &mut Roots,
+    mut trues: usize,
 ) -> Result<(), OutOfMemory>
+    requires begun { (p : ℕ) → trues ≤ p → p ≤ length assumptions.old.trail.lits →
+        IsWatched (sure_of roots.old.history.doubts.items (maps.get store.old.live))
+        (take (visits roots.old.history) assumptions.old.trail.lits)
+        (take p assumptions.old.trail.lits) }
     requires can { CanFollow store.old.live lists.old assumptions.old (at roots.old.reasons) }
     requires kept { IsKept store.old.live roots.old assumptions.old.trail.lits }
     requires known { is_cut roots.old.kept ≡ false }
@@ -111,7 +122,7 @@ fn catch_up(
     let mut done = roots.history.len();
     while done < assumptions.trail().len() {
         let l = assumptions.trail().lits()[done].neg();
-        roots.history.begin(assumptions.trail().len())?;
+        roots.history.begin(trues.max(done + 1))?;
         match follow(store, lists, assumptions, &mut roots.reasons, l)? {
             Some(slot) => {
                 roots.kept = Kept::Clash(slot);
@@ -119,6 +130,7 @@ fn catch_up(
             }
             None => done += 1,
         }
+        trues = assumptions.trail().len();
     }
     roots.kept = Kept::All;
     Ok(())
@@ -146,8 +158,9 @@ pub(crate) fn refresh(
     if roots.is_up_to_date() {
         return Ok(());
     }
+    let trues = assumptions.trail().len();
     start(store, short, assumptions, roots);
-    match catch_up(store, lists, assumptions, roots) {
+    match catch_up(store, lists, assumptions, roots, trues) {
         Ok(()) => Ok(()),
         Err(refused) => {
             roots.cut(store, assumptions, 0);

@@ -99,19 +99,17 @@ history_one_more live history lits more longer begins watched is = record {
     front : (k : ℕ) → k ≤ length lits → take k more ≡ take k lits
     front k low = sym (take-take k (length lits) more low) ∙ ap (take k) begins
 
--- the next visit begins
-pub history_begun : (live : Live) (history begun : History) (lits : List Literal) → visits history < length lits → begun.visited.items ≡ history.visited.items ++ length lits ∷ [] → begun.floor ≡ history.floor →
-    IsWatched live (take (visits history) lits) lits → IsHistory live history lits → IsHistory live begun lits
-history_begun live history begun lits fits pushed floor_is watched is = record {
+-- the next visit begins, where those before are propagated among so many literals already, and among more
+pub history_begun : (live : Live) (history begun : History) (lits : List Literal) (trues : ℕ) → visits history < length lits → visits history < trues → begun.visited.items ≡ history.visited.items ++ trues ∷ [] → begun.floor ≡ history.floor →
+    ((p : ℕ) → trues ≤ p → p ≤ length lits → IsWatched live (take (visits history) lits) (take p lits)) → IsHistory live history lits → IsHistory live begun lits
+history_begun live history begun lits trues fits low_enough pushed floor_is watched is = record {
   inside = omega (arith, one_more, fits);
   began = λ d low. elim (cases_eq d (visits history)) [
-    | inl e ↦ let here = last d e in omega (arith, here, e, fits)
+    | inl e ↦ let here = last d e in omega (arith, here, e, low_enough)
     | inr ne ↦ let old = earlier d (before_last d low ne) in let was = is.began d (before_last d low ne) in omega (arith, old, was)
   ];
   before = λ d p low at_most above inside. elim (cases_eq d (visits history)) [
-    | inl e ↦
-        let here = last d e in
-        subst (λ ls. IsWatched live (take d lits) ls) (sym (take_all p lits (omega (arith, here, at_most)))) (subst (λ n. IsWatched live (take n lits) lits) (sym e) watched)
+    | inl e ↦ let here = last d e in subst (λ n. IsWatched live (take n lits) (take p lits)) (sym e) (watched p (omega (arith, here, at_most)) inside)
     | inr ne ↦
         let old = earlier d (before_last d low ne) in
         is.before d p (before_last d low ne) (omega (arith, old, at_most)) (subst (λ n. n < p) floor_is above) inside
@@ -119,7 +117,7 @@ history_begun live history begun lits fits pushed floor_is watched is = record {
 }
   where
     one_more : visits begun ≡ visits history + 1
-    one_more = ap length pushed ∙ length-append history.visited.items (length lits ∷ [])
+    one_more = ap length pushed ∙ length-append history.visited.items (trues ∷ [])
 
     before_last : (d : ℕ) → d < visits begun → d ≢ visits history → d < visits history
     before_last d low ne = elim (cases_lt d (visits history)) [
@@ -128,10 +126,10 @@ history_begun live history begun lits fits pushed floor_is watched is = record {
     ]
 
     earlier : (d : ℕ) → d < visits history → trues_at begun d ≡ trues_at history d
-    earlier d low = ap (λ ns. get_or ns d 0) pushed ∙ get_or_append_left history.visited.items (length lits ∷ []) 0 d low
+    earlier d low = ap (λ ns. get_or ns d 0) pushed ∙ get_or_append_left history.visited.items (trues ∷ []) 0 d low
 
-    last : (d : ℕ) → d ≡ visits history → trues_at begun d ≡ length lits
-    last d e = ap (λ k. get_or begun.visited.items k 0) e ∙ ap (λ ns. get_or ns (visits history) 0) pushed ∙ get_or-append_seam history.visited.items (length lits) [] 0
+    last : (d : ℕ) → d ≡ visits history → trues_at begun d ≡ trues
+    last d e = ap (λ k. get_or begun.visited.items k 0) e ∙ ap (λ ns. get_or ns (visits history) 0) pushed ∙ get_or-append_seam history.visited.items trues [] 0
 
 -- ---- Fewer literals
 

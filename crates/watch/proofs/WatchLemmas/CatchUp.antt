@@ -1,27 +1,29 @@
 -- What is kept where more follows.
 use Rattle.std.proofs.Common.{◌≡◌, ℕ, ◌+◌, ◌<◌, ◌≤◌, Bool, true, false, cond, Option, Some, ◌∷◌, ◌++◌, []}
-use Rattle.std.proofs.Common.{List, length, take, get_or, refl, sym, ap, ◌∙◌, subst, arith}
+use Rattle.std.proofs.Common.{◌⊎◌, inl, inr, List, length, take, get_or, refl, sym, ap, ◌∙◌, subst, arith}
 use Rattle.std.specs.Ordering.{nat_cmp}
 use Rattle.std.specs.FinMap as maps
 use Rattle.std.specs.FinMap.{FinMap}
-use Rattle.std.proofs.lemmas.List.{take-take, take_more}
+use Rattle.std.proofs.lemmas.List.{take-take, take_all, take_more}
 use Rattle.cnf_base.specs.Literals.{Literal, complement, Clause, has}
 use Rattle.tables.specs.Filled.{at}
 use Rattle.propagation.specs.Assumptions.{AssumptionsState}
 use Rattle.theory.specs.Propagation.{Live}
 use Rattle.root_literals.specs.History.{IsHistory, sure_of, visits}
 use Rattle.root_literals.specs.Roots.{AreReasoned, IsKept, IsKnown, has_clash, is_cut, seen_of}
-use Rattle.watch.specs.Code.Doubts.{AreSettled}
+use Rattle.watch.specs.Code.Doubts.{AreSettled, HasGrown}
 use Rattle.watch.specs.Code.Visits.{PropagatesTo}
 use Rattle.root_literals.specs.Watched.{IsPart, IsMet, IsWatched}
 use Rattle.root_literals.specs.declared.history.History.{History}
 use Rattle.root_literals.specs.declared.roots.Roots.{Roots}
+use Rattle.propagation.proofs.PropagationLemmas.Exact.{begins_on, longer_from}
 use Rattle.trail.proofs.TrailLemmas.Longer.{has_begun}
 use Rattle.root_literals.specs.declared.roots.Kept.TheVariants.{Cut}
 use Rattle.root_literals.proofs.RootLemmas.Kept.{seen_same}
 use Rattle.root_literals.proofs.RootLemmas.Watched.{front_part, sure_by, watched_done, watched_grown, watched_more}
-use Rattle.root_literals.proofs.RootLemmas.Watched.{watched_most}
-use Rattle.root_literals.proofs.RootLemmas.History.{history_longer, watched_part}
+use Rattle.root_literals.proofs.RootLemmas.Watched.{watched_all, watched_most}
+use Rattle.root_literals.proofs.RootLemmas.History.{front_in_front, history_longer, watched_nothing}
+use Rattle.root_literals.proofs.RootLemmas.History.{watched_part}
 use Rattle.root_literals.proofs.RootLemmas.Uses.{counted_in_order, counted_longer}
 use Rattle.root_literals.specs.Uses.{AreCounted}
 use Rattle.watch.proofs.WatchLemmas.Kept.{history_carried, noted_carried, visited_carried}
@@ -102,3 +104,27 @@ kept_settled live x y roots now carried kept cut kept_is history_is uses_are =
     kept_started live x y roots now carried kept (ap has_clash cut) history_is (subst (λ k. IsKnown live k y.trail.lits) (sym (kept_is ∙ cut)) tt) uses_are
     (seen_same (maps.get live) roots now y.trail.lits kept_is history_is
     (λ quiet. visited_grown live live x y (at roots.reasons) (at now.reasons) carried (cond (is_cut roots.kept) roots.history.doubts.items []) (visits roots.history) kept.history.inside (kept.visited quiet)))
+
+-- all that was visited is propagated among all literals
+pub begun_again : (b : FinMap nat_cmp Clause) (doubts : List ℕ) (n : ℕ) (lits : List Literal) (trues : ℕ) → trues ≡ length lits → IsWatched (maps.get b) (take n lits) lits → (p : ℕ) → trues ≤ p → p ≤ length lits → IsWatched (sure_of doubts (maps.get b)) (take n lits) (take p lits)
+begun_again b doubts n lits trues is watched p low inside =
+    watched_all (maps.get b) doubts (take n lits) (take p lits) (subst (λ ls. IsWatched (maps.get b) (take n lits) ls) (sym (take_all p lits (omega (arith, is, low)))) watched)
+
+-- what was visited among the literals of before is propagated among those of now
+pub begun_from : (live : FinMap nat_cmp Clause) (roots now : Roots) (before after : List Literal) → IsKept live roots before → has_clash roots.kept ≡ false → (visits now.history ≡ 0) ⊎ HasGrown roots.history now.history before after → (p : ℕ) → length before ≤ p → p ≤ length after →
+    IsWatched (sure_of now.history.doubts.items (maps.get live)) (take (visits now.history) after) (take p after)
+begun_from live roots now before after kept quiet grown p low inside = elim grown [
+  | inl none ↦ watched_nothing (sure_of now.history.doubts.items (maps.get live)) (take (visits now.history) after) (take p after) (ap (λ n. take n after) none)
+  | inr same ↦
+      subst (λ h. IsWatched (sure_of h.doubts.items (maps.get live)) (take (visits h) after) (take p after)) (sym same.0)
+      (watched_part (sure_of roots.history.doubts.items (maps.get live)) (take (visits roots.history) before) (take (visits roots.history) after) before (take p after)
+      (λ l h. ap (λ ls. has ls l) (sym (sym (take-take (visits roots.history) (length before) after kept.history.inside) ∙ ap (take (visits roots.history)) same.1)) ∙ h)
+      (λ l h. front_in_front after (length before) p low l (ap (λ ls. has ls l) same.1 ∙ h))
+      (watched_most (maps.get live) roots.history.doubts.items (is_cut roots.kept) (take (visits roots.history) before) before (kept.visited quiet)))
+]
+
+pub grown_on : (old now : History) (x y z : List Literal) → (visits now ≡ 0) ⊎ HasGrown old now x y → take (length y) z ≡ y → (visits now ≡ 0) ⊎ HasGrown old now x z
+grown_on old now x y z first begins = elim first [
+  | inl none ↦ inl none
+  | inr same ↦ inr (same.0, begins_on x y z same.1 (longer_from x y same.1) begins)
+]

@@ -59,6 +59,12 @@ pub nothing_stands : (kept : Kept) (assumptions : List Assumption) → IsStandin
 nothing_stands kept [] standing up = refl
 nothing_stands kept (last ∷ rest) standing up = absurd (true≢false (sym standing ∙ up))
 
+pub not_clash : (kept : Kept) → is_up_to_date kept ≡ false → has_clash kept ≡ false
+not_clash Cut up = refl
+not_clash Behind up = refl
+not_clash All up = refl
+not_clash (KeptClash slot) up = absurd (true≢false up)
+
 pub roots_alone : (lits : List Literal) (assumptions : List Assumption) (starts : List ℕ) → assumptions ≡ [] → roots_in lits assumptions starts ≡ lits
 roots_alone lits assumptions starts nothing = ap (λ xs. roots_in lits xs starts) nothing
 

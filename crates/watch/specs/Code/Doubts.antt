@@ -2,12 +2,13 @@
 use Rattle.std.specs.FinMap as maps
 use Rattle.std.specs.FinMap.{FinMap}
 use Rattle.std.specs.Ordering.{nat_cmp}
-use Rattle.std.specs.Prelude.{◌≡◌, ℕ, List, Some, IsTrue, ⊤}
+use Rattle.std.specs.Prelude.{◌≡◌, ℕ, List, Some, IsTrue, length, take, ⊤}
 use Rattle.cnf_base.specs.Literals.{Literal, Clause, complement, has}
 use Rattle.theory.specs.Propagation.{Live}
 use Rattle.root_literals.specs.Order.{each_in_order}
 use Rattle.root_literals.specs.Roots.{IsFalseAt}
 use Rattle.root_literals.specs.Watched.{IsMet}
+use Rattle.root_literals.specs.declared.history.History.{History}
 use Rattle.watch.specs.declared.doubts.Looked.{Looked}
 use Rattle.watch.specs.declared.doubts.Looked.TheVariants.{Settled, Clash, Open}
 
@@ -23,3 +24,7 @@ abbrev pub IsLooked : FinMap nat_cmp Clause → List ℕ → List Literal → Li
 IsLooked live slots before now Settled = AreSettled (maps.get live) slots before now
 IsLooked live slots before now (Clash s) = IsFalseAt (maps.get (each_in_order live)) s now
 IsLooked live slots before now Open = ⊤
+
+-- the same visits were made, and more literals are true
+abbrev pub HasGrown : History → History → List Literal → List Literal → Type 0
+HasGrown old now before after = (now ≡ old) × (take (length before) after ≡ before)

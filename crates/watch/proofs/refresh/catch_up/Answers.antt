@@ -9,7 +9,7 @@ use Rattle.root_literals.specs.History.{IsHistory, sure_of, visits}
 use Rattle.root_literals.specs.Order.{each_in_order}
 use Rattle.root_literals.specs.Roots.{IsFalseAt, IsKnown, has_clash, is_cut}
 use Rattle.root_literals.specs.Watched.{IsMet, IsWatched}
-use Rattle.watch.proofs.WatchLemmas.CatchUp.{history_grown, kept_grown, visited_more}
+use Rattle.watch.proofs.WatchLemmas.CatchUp.{begun_again, history_grown, kept_grown, visited_more}
 use Rattle.watch.proofs.WatchLemmas.Closed.{units_kept}
 use Rattle.root_literals.proofs.RootLemmas.History.{history_begun}
 use Rattle.root_literals.proofs.RootLemmas.Watched.{watched_all}
@@ -33,6 +33,7 @@ loop-done-init c =
           let history = c.args.roots.now.history in
           subst (λ n. IsWatched live (take n lits) lits) (sym c.len-done.ensures)
           (subst (λ k. IsWatched (sure_of (cond (is_cut k) history.doubts.items []) live) (take (visits history) lits) lits) c.in-Behind.is (kept.visited (ap has_clash c.in-Behind.is)));
+      begun = subst (λ n. (p : ℕ) → c.args.trues ≤ p → p ≤ length c.args.assumptions.now.trail.lits → IsWatched (sure_of c.args.roots.now.history.doubts.items (maps.get c.args.store.now.live)) (take n c.args.assumptions.now.trail.lits) (take p c.args.assumptions.now.trail.lits)) (sym c.len-done.ensures) c.requires.begun;
       followed = followed_none c.requires.can;
       uses = refl;
     }
@@ -69,13 +70,14 @@ loop-visited c =
     let step = c.in_ok-slot.ensures.followed.propagates in
     let count = so_far.count in
     let inside : c.loop-done.done < length c.loop-done.assumptions.trail.lits = let low = c.loop-done-test.true in let n = c.len.ensures.value ∙ ap (λ t. length t.lits) c.trail.ensures in omega arith in
-    let trues = c.len-in-loop-done.ensures.value ∙ ap (λ t. length t.lits) c.trail-in-loop-done-2.ensures in
-    let pushed = c.in_ok-begin.ensures.visited ∙ ap (λ n. before.roots.history.visited.items ++ n ∷ []) trues in
-    let one_more = ap length pushed ∙ length-append before.roots.history.visited.items (length x.trail.lits ∷ []) in
+    let t = c.max.result in
+    let pushed = c.in_ok-begin.ensures.visited in
+    let one_more = ap length pushed ∙ length-append before.roots.history.visited.items (t ∷ []) in
     let ds = before.roots.history.doubts.items in
-    let sure = λ (n : ℕ). watched_all (maps.get a) ds (take n x.trail.lits) x.trail.lits in
-    let watched = sure (visits before.roots.history) (subst (λ n. IsWatched (maps.get a) (take n x.trail.lits) x.trail.lits) (sym count) so_far.watched) in
-    let begun = history_begun (sure_of ds (maps.get a)) before.roots.history c.begin.new.self x.trail.lits (omega (arith, count, inside)) pushed c.in_ok-begin.ensures.floor watched so_far.history in (
+    let most = c.max.ensures in
+    let watched = subst (λ n. (p : ℕ) → before.trues ≤ p → p ≤ length x.trail.lits → IsWatched (sure_of ds (maps.get a)) (take n x.trail.lits) (take p x.trail.lits)) (sym count) so_far.begun in
+    let begun = history_begun (sure_of ds (maps.get a)) before.roots.history c.begin.new.self x.trail.lits t (omega (arith, count, inside)) (omega (arith, count, most)) pushed c.in_ok-begin.ensures.floor (λ p low. watched p (omega (arith, low, most))) so_far.history in
+    let sure = λ (n : ℕ). watched_all (maps.get a) ds (take n x.trail.lits) x.trail.lits in (
       one_more ∙ ap (λ n. n + 1) count,
       subst (λ v. IsHistory (sure_of v.items (maps.get b)) c.begin.new.self y.trail.lits) (sym c.in_ok-begin.ensures.doubts)
           (history_grown a b x y (at before.roots.reasons) (at c.follow.new.reasons) step ds c.begin.new.self before.done (omega (arith, one_more, count)) (sure before.done so_far.watched) begun),
@@ -93,10 +95,12 @@ loop-done-preserved c =
     let inside : c.loop-done.done < length c.loop-done.assumptions.trail.lits = let low = c.loop-done-test.true in let n = c.len.ensures.value ∙ ap (λ t. length t.lits) c.trail.ensures in omega arith in
     let shown = c.lits.ensures.value ∙ ap (λ t. t.lits) c.trail-in-loop-done.ensures in
     let read = read_at x.trail.lits inside shown c.index-lits-done.is in
-    let partners = subst (λ o. IfNone o ((s : ℕ) (d : Clause) → maps.get b s ≡ Some d → IsMet d c.neg-l.result y.trail.lits)) c.in-None.is e.met in record {
+    let partners = subst (λ o. IfNone o ((s : ℕ) (d : Clause) → maps.get b s ≡ Some d → IsMet d c.neg-l.result y.trail.lits)) c.in-None.is e.met in
+    let watched = visited_more before.store.live b x y (at before.roots.reasons) (at c.follow.new.reasons) e.followed.propagates before.done inside so_far.watched (λ s d is. subst (λ p. IsMet d p y.trail.lits) (c.neg-l.ensures ∙ ap complement read) (partners s d is)) in record {
       count = visited.0;
       history = visited.1;
-      watched = visited_more before.store.live b x y (at before.roots.reasons) (at c.follow.new.reasons) e.followed.propagates before.done inside so_far.watched (λ s d is. subst (λ p. IsMet d p y.trail.lits) (c.neg-l.ensures ∙ ap complement read) (partners s d is));
+      watched = watched;
+      begun = begun_again b c.begin.new.self.doubts.items (before.done + 1) y.trail.lits c.len-trues.result (c.len-trues.ensures.value ∙ ap (λ t. length t.lits) c.trail-in-loop-done-2.ensures) watched;
       followed = followed_on so_far.followed e.followed;
       uses = so_far.uses;
     }

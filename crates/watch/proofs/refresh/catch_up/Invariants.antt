@@ -1,4 +1,4 @@
-use Rattle.std.proofs.Common.{◌≡◌, ◌-◌, length, take}
+use Rattle.std.proofs.Common.{◌≡◌, ◌-◌, ◌≤◌, ℕ, length, take}
 use Rattle.std.specs.FinMap as maps
 use Rattle.tables.specs.Filled.{at}
 use Rattle.root_literals.specs.History.{IsHistory, sure_of, visits}
@@ -15,6 +15,9 @@ invariant-loop-done l = record {
   watched :
       IsWatched (maps.get l.store.live)
       (take l.done l.assumptions.trail.lits) l.assumptions.trail.lits;
+  begun : (p : ℕ) → l.trues ≤ p → p ≤ length l.assumptions.trail.lits →
+      IsWatched (sure_of l.roots.history.doubts.items (maps.get l.store.live))
+      (take l.done l.assumptions.trail.lits) (take p l.assumptions.trail.lits);
   followed :
       Followed l.fn.store.live l.store.live l.fn.lists l.lists l.fn.assumptions l.assumptions
       (at l.fn.roots.reasons) (at l.roots.reasons);

@@ -3,10 +3,11 @@ use Rattle.std.specs.FinMap as maps
 use Rattle.tables.specs.Filled.{at}
 use Rattle.root_literals.specs.History.{IsRewound}
 use Rattle.root_literals.specs.Order.{each_in_order}
-use Rattle.root_literals.specs.Roots.{AreNoted}
+use Rattle.root_literals.specs.Roots.{AreNoted, IsKept}
 use Rattle.root_literals.proofs.RootLemmas.History.{rewound_none}
 use Rattle.root_literals.proofs.RootLemmas.Kept.{kept_nothing}
-use Rattle.watch.proofs.WatchLemmas.Kept.{noted_carried, nothing_stands}
+use Rattle.watch.proofs.WatchLemmas.CatchUp.{begun_from}
+use Rattle.watch.proofs.WatchLemmas.Kept.{not_clash, noted_carried, nothing_stands, roots_alone}
 use Rattle.watch.proofs.WatchLemmas.State.{watch_refreshed}
 use Rattle.watch.proofs.refresh.refresh.Goals as goal
 
@@ -40,3 +41,11 @@ returns-in-Err-clause-watch c =
     (noted_carried c.args.store.now.live after c.start.new.assumptions c.catch_up.new.assumptions (at c.start.new.roots.reasons) (at roots.reasons) p c.start.ensures.kept.noted)) u.kept (rewound_none (subst (IsRewound roots.history c.cut.new.self.history) zero u.history)) (u.lits ∙ ap (λ n. take n c.catch_up.new.assumptions.trail.lits) zero)
     (let no_more = u.no_more in omega (arith, no_more, zero)))
     (λ l h. ap (λ t. is_some (at t l)) u.reasons ∙ p.noted l (c.start.ensures.noted l h))
+
+pub catch_up-requires-clause-begun : goal.catch_up-requires-clause-begun
+catch_up-requires-clause-begun c p low =
+    let held = c.args.assumptions.now in
+    let nothing = nothing_stands c.args.roots.now.kept held.assumptions c.requires.watch.standing (sym c.is_up_to_date.ensures ∙ c.if-is_up_to_date.false) in
+    let trues = c.len-trues.ensures.value ∙ ap (λ t. length t.lits) c.trail.ensures in
+    begun_from c.args.store.now.live c.args.roots.now c.start.new.roots held.trail.lits c.start.new.assumptions.trail.lits (subst (IsKept c.args.store.now.live c.args.roots.now) (roots_alone held.trail.lits held.assumptions held.starts nothing) c.requires.watch.kept)
+    (not_clash c.args.roots.now.kept (sym c.is_up_to_date.ensures ∙ c.if-is_up_to_date.false)) c.start.ensures.begun p (omega (arith, trues, low))

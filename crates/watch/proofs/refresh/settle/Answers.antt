@@ -1,6 +1,8 @@
-use Rattle.std.proofs.Common.{refl, ap, subst}
+use Rattle.std.proofs.Common.{◌≡◌, length, inl, inr, refl, ap, subst, arith}
 use Rattle.std.specs.FinMap as maps
+use Rattle.root_literals.specs.History.{IsRewound}
 use Rattle.root_literals.specs.Roots.{has_clash}
+use Rattle.root_literals.proofs.RootLemmas.History.{rewound_none}
 use Rattle.watch.specs.Code.Doubts.{AreSettled}
 use Rattle.watch.proofs.WatchLemmas.CatchUp.{kept_settled, settled_all}
 use Rattle.watch.proofs.refresh.settle.Goals as goal
@@ -19,3 +21,15 @@ returns-in-Settled-clause-sure c =
 pub returns-in-Clash-clause-kept : goal.returns-in-Clash-clause-kept
 returns-in-Clash-clause-kept c =
     kept_settled c.args.store.now.live c.args.assumptions.now c.look_at.new.assumptions c.args.roots.now _ c.look_at.ensures.propagates c.requires.kept c.requires.cut refl refl refl
+
+pub returns-in-Settled-clause-begun : goal.returns-in-Settled-clause-begun
+returns-in-Settled-clause-begun c = inr (refl, c.look_at.ensures.propagates.extends.begins)
+
+pub returns-in-Clash-clause-begun : goal.returns-in-Clash-clause-begun
+returns-in-Clash-clause-begun c = inr (refl, c.look_at.ensures.propagates.extends.begins)
+
+pub returns-in-Open-clause-begun : goal.returns-in-Open-clause-begun
+returns-in-Open-clause-begun c =
+    let fewer = c.cut.ensures.fewer in
+    let zero : length c.cut.new.assumptions.trail.lits ≡ 0 = omega (arith, fewer) in
+    inl (rewound_none (subst (IsRewound c.args.roots.now.history c.cut.new.self.history) zero c.cut.ensures.history))

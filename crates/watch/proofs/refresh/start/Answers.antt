@@ -1,4 +1,4 @@
-use Rattle.std.proofs.Common.{IfSome, IfNone, [], refl, ap, subst, take}
+use Rattle.std.proofs.Common.{length, inr, arith, IfSome, IfNone, [], refl, ap, subst, take}
 use Rattle.std.specs.FinMap as maps
 use Rattle.std.proofs.lemmas.Bool.{true≢false}
 use Rattle.tables.specs.Filled.{at}
@@ -6,7 +6,8 @@ use Rattle.root_literals.specs.History.{visits}
 use Rattle.root_literals.specs.Order.{each_in_order}
 use Rattle.root_literals.specs.Roots.{HaveUnits, IsFalseAt, has_clash}
 use Rattle.root_literals.specs.Watched.{IsWatched}
-use Rattle.watch.proofs.WatchLemmas.CatchUp.{kept_started, visited_grown}
+use Rattle.std.proofs.lemmas.List.{take_all}
+use Rattle.watch.proofs.WatchLemmas.CatchUp.{grown_on, kept_started, visited_grown}
 use Rattle.watch.proofs.WatchLemmas.PropagatesTo.{propagates_none}
 use Rattle.watch.proofs.refresh.start.Goals as goal
 
@@ -38,3 +39,15 @@ returns-in-None-clause-kept c =
     (subst (λ o. IfNone o (HaveUnits (maps.get live) y.trail.lits)) c.in-None.is e.units) refl
     (λ _. visited_grown live live x y (at roots.reasons) (at c.set_units.new.reasons) e.propagates [] (visits roots.history) kept.history.inside
     (subst (λ o. IfNone o (IsWatched (maps.get live) (take (visits roots.history) x.trail.lits) x.trail.lits)) c.in_default-settle.is c.settle.ensures.sure))
+
+pub returns-in-Some-clause-begun : goal.returns-in-Some-clause-begun
+returns-in-Some-clause-begun c = c.settle.ensures.begun
+
+pub returns-in-Some-set_units-clause-begun : goal.returns-in-Some-set_units-clause-begun
+returns-in-Some-set_units-clause-begun c = grown_on c.args.roots.now.history c.settle.new.roots.history c.args.assumptions.now.trail.lits c.settle.new.assumptions.trail.lits c.set_units.new.assumptions.trail.lits c.settle.ensures.begun c.set_units.ensures.propagates.extends.begins
+
+pub returns-in-None-clause-begun : goal.returns-in-None-clause-begun
+returns-in-None-clause-begun c = grown_on c.args.roots.now.history c.settle.new.roots.history c.args.assumptions.now.trail.lits c.settle.new.assumptions.trail.lits c.set_units.new.assumptions.trail.lits c.settle.ensures.begun c.set_units.ensures.propagates.extends.begins
+
+pub returns-in_default-clause-begun : goal.returns-in_default-clause-begun
+returns-in_default-clause-begun c = inr (refl, take_all (length c.args.assumptions.now.trail.lits) c.args.assumptions.now.trail.lits (omega arith))
