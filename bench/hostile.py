@@ -289,10 +289,9 @@ def doubts_that_go(n):
     return [(1,), *implications(1, n)], [one, step, gone, step] * n
 
 
-@kind(DRAT, 1000, is_linear=False)
+@kind(DRAT, 1000)
 def doubts_that_stay(n):
-    """The same, where each time the last implication of the chain is deleted before the clause is. Visits that are made again begin with
-    the clause's literal true, so that each time one more of them is made again."""
+    """The same, where each time the last implication of the chain is deleted before the clause is."""
     (one, gone), step = unit_under_roots(n), clause(1, n + 1)
     chain = implications(1, n)
     return [(1,), *chain], [line for c in chain[::-1] for line in (one, step, "d " + clause(*c), step, gone)]
