@@ -187,8 +187,8 @@ impl Roots {
         self.reasons.reserve(key(l.neg()), 0)
     }
 
-    /// Takes note of a clause that was added, of which this is left and stands first. It takes no
-    /// memory.
+    /// Takes note of a clause that was added, of which this is left and stands first. It does so
+    /// where there is no memory too.
     pub fn enter(&mut self, store: &Store, assumptions: &mut Assumptions, slot: Slot, left: Left)
         requires alive { IsSome (maps.get store.now.live slot) }
         requires low { slot < 4294967296 }
