@@ -5,7 +5,7 @@ use Rattle.std.proofs.Common.{false, cond, List, [], ◌∷◌, ◌++◌, length
 use Rattle.std.proofs.Common.{ap, ◌∙◌, subst, arith, length-append}
 use Rattle.std.specs.Prelude.{fold, slice_index, replicate}
 use Rattle.std.specs.Int.Bits.{bit_and, bit_or, bit_xor}
-use Rattle.std.specs.Int.{from_le_bytes, w64}
+use Rattle.std.specs.Int.{from_le_bytes, w64, from_bool}
 use Rattle.std.specs.Int.Count.{count_trailing_zeros, under}
 use Rattle.std.specs.List.{list_all, prefix_len}
 use Rattle.std.specs.Simd.Lanes.{zip2}
@@ -19,7 +19,7 @@ use Rattle.std.proofs.lemmas.Nat.{mod_low, shr_high}
 use Rattle.cnf_base.specs.Words.{is_digit}
 use Rattle.cnf_base.specs.Code.Digits.{decimal_after, decimal_value}
 use Rattle.cnf_base.specs.Code.Eight.{packed, eight, from_zero, AreBelow, AreEight, AreFront}
-use Rattle.cnf_base.specs.Code.Eight.{decimal}
+use Rattle.cnf_base.specs.Code.Eight.{decimal, unsigned}
 
 -- an operation that works on each byte alone
 record Bytewise (op : ℕ → ℕ → ℕ) : Type 0 where
@@ -513,14 +513,85 @@ module _ (bytes : List ℕ) (long : 8 ≤ length bytes) (low : (i : ℕ) → sli
       front_value : ((ds : List ℕ) → AreEight 10 ds → (word * 2 ^ (64 - 8 * count)) % 2 ^ 64 ≡ packed ds → value ≡ decimal ds) → AreFront bytes count value
       front_value says = record { some = some; most = front_most; each = front_each; says = value_says says }
 
+-- the first byte is taken for a digit, and one that is a `-` for a `0`
+module _ (b : ℕ) (bs : List ℕ) (long : 8 ≤ length (b ∷ bs)) (low : (i : ℕ) → slice_index (b ∷ bs) i < 256)
+    (word count value : ℕ) (is : word ≡ packed (map from_zero (eight (b ∷ bs))))
+    (counted : (xs : List ℕ) → AreEight 256 xs → (word / 256 * 256) % 2 ^ 64 ≡ packed (map from_zero xs) → count ≡ prefix_len is_digit xs)
+    (some : 0 < count) where
+  low_zero : (i : ℕ) → slice_index (48 ∷ bs) i < 256
+  low_zero zero = omega arith
+  low_zero (suc i) = low (suc i)
+
+  rest : ℕ
+  rest = packed (map from_zero (eight (48 ∷ bs)))
+
+  rest_below : rest < 2 ^ 64
+  unfolding rest scale
+  rest_below = packed-below (map from_zero (eight (48 ∷ bs)))
+      (zero_low 48 (omega arith), (zero_low _ (low 1), (zero_low _ (low 2), (zero_low _ (low 3), (zero_low _ (low 4), (zero_low _ (low 5), (zero_low _ (low 6), (zero_low _ (low 7), tt))))))))
+
+  word_is : word ≡ rest + from_zero b
+  unfolding rest
+  word_is = is ∙ (omega arith)
+
+  cleared : (word / 256 * 256) % 2 ^ 64 ≡ rest
+  unfolding rest
+  cleared =
+      let first = zero_low b (low 0) in
+      ap (λ v. (v / 256 * 256) % 2 ^ 64) word_is ∙ (omega (arith, first, rest_below))
+
+  follow : count ≡ prefix_len is_digit (eight (48 ∷ bs))
+  unfolding rest
+  follow = counted (eight (48 ∷ bs)) (are_bytes (48 ∷ bs) long low_zero) cleared
+
+  word_below : word < 2 ^ 64
+  unfolding scale
+  word_below =
+      let below : packed (map from_zero (eight (b ∷ bs))) < 2 ^ 64
+      = packed-below (map from_zero (eight (b ∷ bs)))
+      (zero_low b (low 0), (zero_low _ (low 1), (zero_low _ (low 2), (zero_low _ (low 3), (zero_low _ (low 4), (zero_low _ (low 5), (zero_low _ (low 6), (zero_low _ (low 7), tt)))))))) in
+      subst (λ w. w < 2 ^ 64) (sym is) below
+
+  wrapped : (word + (2 ^ 64 - 0)) % 2 ^ 64 ≡ word
+  wrapped = let below = word_below in omega (arith, below)
+
+  taken : b ≡ 45 → (word + (2 ^ 64 - 29)) % 2 ^ 64 ≡ rest
+  taken minus =
+      let below = rest_below in
+      let first : from_zero b ≡ 29 = ap from_zero minus in
+      let whole = word_is in
+      omega (arith, below, first, whole)
+
+  -- what is written where no `-` stands
+  plain : is_digit b ≡ true → (digits : ℕ) → digits ≡ word
+      → ((ds : List ℕ) → AreEight 10 ds → (digits * 2 ^ (64 - 8 * count)) % 2 ^ 64 ≡ packed ds → value ≡ decimal ds)
+      → AreFront (b ∷ bs) count value
+  plain digit digits same says =
+      front_value (b ∷ bs) long low count
+      (follow ∙ sym (ap (λ v. cond v (1 + prefix_len is_digit (drop 1 (eight (b ∷ bs)))) 0) digit))
+      some digits value (same ∙ is) says
+
+  -- and where one does
+  signed : (digits : ℕ) → digits ≡ rest
+      → ((ds : List ℕ) → AreEight 10 ds → (digits * 2 ^ (64 - 8 * count)) % 2 ^ 64 ≡ packed ds → value ≡ decimal ds)
+      → AreFront (48 ∷ bs) count value
+  unfolding rest
+  signed digits same says = front_value (48 ∷ bs) long low_zero count follow some digits value same says
+
 -- what stands first of the bytes that were read as one number
-pub front : (bytes : List ℕ) → 8 ≤ length bytes → ((i : ℕ) → slice_index bytes i < 256) → (bits count value : ℕ)
+pub front : (bytes : List ℕ) → 8 ≤ length bytes → ((i : ℕ) → slice_index bytes i < 256)
+    → (is_negative : Bool) → is_negative ≡ (slice_index bytes 0 == 45) → (bits count value : ℕ)
     → bits ≡ from_le_bytes w64 (eight bytes)
-    → ((xs : List ℕ) → AreEight 256 xs → bit_xor bits 3472328296227680304 ≡ packed (map from_zero xs) → count ≡ prefix_len is_digit xs)
+    → ((xs : List ℕ) → AreEight 256 xs → (bit_xor bits 3472328296227680304 / 256 * 256) % 2 ^ 64 ≡ packed (map from_zero xs) → count ≡ prefix_len is_digit xs)
     → 0 < count
-    → ((ds : List ℕ) → AreEight 10 ds → (bit_xor bits 3472328296227680304 * 2 ^ (64 - 8 * count)) % 2 ^ 64 ≡ packed ds → value ≡ decimal ds)
-    → AreFront bytes count value
-front bytes long low bits count value is counted some says =
-    let zeroes = zeroed bytes long low bits (is ∙ pack_is _ _ _ _ _ _ _ _) in
-    let count_is = counted (eight bytes) (are_bytes bytes long low) zeroes in
-    front_value bytes long low count count_is some (bit_xor bits 3472328296227680304) value zeroes says
+    → ((ds : List ℕ) → AreEight 10 ds → ((bit_xor bits 3472328296227680304 + (2 ^ 64 - 29 * from_bool is_negative)) % 2 ^ 64 * 2 ^ (64 - 8 * count)) % 2 ^ 64 ≡ packed ds → value ≡ decimal ds)
+    → is_digit (slice_index (unsigned is_negative bytes) 0) ≡ true
+    → AreFront (unsigned is_negative bytes) count value
+front [] long low is_negative sign bits count value is counted some says digit = absurd (omega (arith, long))
+front (b ∷ bs) long low false sign bits count value is counted some says digit =
+    let word = zeroed (b ∷ bs) long low bits (is ∙ pack_is _ _ _ _ _ _ _ _) in
+    plain b bs long low _ count value word counted some digit _ (wrapped b bs long low _ count value word counted some) says
+front (b ∷ bs) long low true sign bits count value is counted some says digit =
+    let word = zeroed (b ∷ bs) long low bits (is ∙ pack_is _ _ _ _ _ _ _ _) in
+    let minus : b ≡ 45 = grind (arith, nat_tests) in
+    signed b bs long low _ count value word counted some _ (taken b bs long low _ count value word counted some minus) says

@@ -1,7 +1,7 @@
 -- What a scanner has seen of a text, byte by byte.
 use Rattle.std.proofs.Common.{◌≡◌, ℕ, ◌+◌, ◌<◌, ◌≤◌, ◌==◌, cond, true, false, List, [], ◌∷◌, ◌++◌}
 use Rattle.std.proofs.Common.{length, take, drop, length-drop, refl, sym, ap, subst, ◌∙◌, arith}
-use Rattle.std.proofs.Common.{Some, length-append}
+use Rattle.std.proofs.Common.{Some, length-append, Bool}
 use Rattle.std.specs.Prelude.{slice_index, slice_range, ◌-◌, ◌&&◌, Result, Ok, Err, IsErr}
 use Rattle.cnf_base.specs.declared.input.ReadFailed.{ReadFailed}
 use Rattle.std.proofs.lemmas.Bool.Decides.{nat_tests}
@@ -13,7 +13,8 @@ use Rattle.cnf_base.specs.Code.Text.{col_after, line_after, listed}
 use Rattle.cnf_base.specs.Text.{skips_at, listing_at}
 use Rattle.cnf_base.specs.Code.Text.{col_along, comment_at, FailsAt}
 use Rattle.cnf_base.specs.Words.{word_of}
-use Rattle.cnf_base.specs.Ahead.{IsWholeNumber}
+use Rattle.cnf_base.specs.Ahead.{IsWholeNumber, IsNumberAhead}
+use Rattle.cnf_base.proofs.WordLemmas.{number-first}
 use Rattle.cnf_base.specs.declared.word.Number.{Number}
 use Rattle.cnf_base.specs.declared.word.Word.TheVariants as words
 use Rattle.std.proofs.lemmas.List.{length-take-le, take_all}
@@ -318,26 +319,67 @@ pub Stands-cut_word : (old now new : Stream) → Stands old now
 Stands-cut_word old now new s run =
     Along-then old now new _ _ _ s.text run (λ i j k m p q. (p ∙ q.0, ap (λ l. l.tokens) p ∙ q.1, ap (λ l. l.ending) p ∙ q.2))
 
--- ---- A number after a space
+-- ---- A number after a space, or after nothing
 
-pub spaced-read : (old : Stream) (p : Place) (count : ℕ) (number : Number) → 0 < old.place.col → 2 ≤ length old.ahead → slice_index old.ahead 0 ≡ 32
-    → IsWholeNumber (slice_range old.ahead 1 (length old.ahead)) count number → p ≡ (bumped old).place
-    → Along old (skipped count (bumped old)) (λ i j. listing_at old.place i
-    ≡ with_front (listed (token.Word p (words.Number number)) j.offset ∷ []) (listing_at (skipped count (bumped old)).place j))
-spaced-read old p count number from_one enough space w here =
-    Stands-word old (bumped old) (skipped count (bumped old)) p (words.Number number)
-    (Stands-separator old old 32 (Stands-start old) from_one (omega arith) (sym space) refl refl)
-    here
-    (whole_number-read (bumped old) (slice_index (drop 1 old.ahead) 0) count number (omega (arith, length-drop 1 old.ahead)) refl skips number_is)
+pub IsNumberAhead-spaced : (s : Stream) (count : ℕ) (number : Number) → 2 ≤ length s.ahead → slice_index s.ahead 0 ≡ 32
+    → IsWholeNumber (slice_range s.ahead 1 (length s.ahead)) count number → IsNumberAhead s (1 + count) number
+IsNumberAhead-spaced s count number enough space w = record {
+  enough = enough;
+  whole =
+      let C : Bool → Type 0 = λ v. cond v (IsWholeNumber (drop 1 s.ahead) (1 + count - 1) number) (IsWholeNumber s.ahead (1 + count) number) in
+      subst C (sym (ap (λ b. b == 32) space)) (subst Q (sym same) (subst P rest_is w));
+  some = omega arith;
+}
   where
-    rest_is : slice_range old.ahead 1 (length old.ahead) ≡ drop 1 old.ahead
-    rest_is = take_all (length old.ahead - 1) (drop 1 old.ahead) (omega (arith, length-drop 1 old.ahead))
+    P : List ℕ → Type 0
+    P xs = IsWholeNumber xs count number
 
-    number_is : IsWholeNumber (drop 1 old.ahead) count number
-    number_is = let P : List ℕ → Type 0 = λ xs. IsWholeNumber xs count number in subst P rest_is w
+    Q : ℕ → Type 0
+    Q n = IsWholeNumber (drop 1 s.ahead) n number
+
+    same : 1 + count - 1 ≡ count
+    same = omega arith
+
+    rest_is : slice_range s.ahead 1 (length s.ahead) ≡ drop 1 s.ahead
+    rest_is = take_all (length s.ahead - 1) (drop 1 s.ahead) (omega (arith, length-drop 1 s.ahead))
+
+pub spaced-read : (old : Stream) (p : Place) (count : ℕ) (number : Number) → 0 < old.place.col → slice_index old.ahead 0 ≡ 32
+    → IsNumberAhead old count number → p ≡ (bumped old).place
+    → Along old (skipped (count - 1) (bumped old)) (λ i j. listing_at old.place i
+    ≡ with_front (listed (token.Word p (words.Number number)) j.offset ∷ []) (listing_at (skipped (count - 1) (bumped old)).place j))
+spaced-read old p count number from_one space w here =
+    Stands-word old (bumped old) (skipped (count - 1) (bumped old)) p (words.Number number)
+    (Stands-separator old old 32 (Stands-start old) from_one (let enough = w.enough in omega (arith, enough)) (sym space) refl refl)
+    here
+    (whole_number-read (bumped old) (slice_index (drop 1 old.ahead) 0) (count - 1) number (let enough = w.enough in omega (arith, enough, length-drop 1 old.ahead)) refl skips number_is)
+  where
+    number_is : IsWholeNumber (drop 1 old.ahead) (count - 1) number
+    number_is =
+        let T : ℕ → Type 0 = λ b. cond (b == 32) (IsWholeNumber (drop 1 old.ahead) (count - 1) number) (IsWholeNumber old.ahead count number) in
+        subst T space w.whole
 
     later : (next_count old.place.col == 1) ≡ false
     later = grind (arith, nat_tests)
 
     skips : skips_at (bumped old).place (slice_index (drop 1 old.ahead) 0 ∷ []) ≡ false
     skips = ap (λ b. skips_at (place_after b old.place) (slice_index (drop 1 old.ahead) 0 ∷ [])) space ∙ ap (λ b. b && is_comment (slice_index (drop 1 old.ahead) 0 ∷ [])) later
+
+pub at_once-read : (old : Stream) (p : Place) (count : ℕ) (number : Number) → (slice_index old.ahead 0 == 32) ≡ false
+    → IsNumberAhead old count number → p ≡ old.place
+    → Along old (skipped count old) (λ i j. listing_at old.place i
+    ≡ with_front (listed (token.Word p (words.Number number)) j.offset ∷ []) (listing_at (skipped count old).place j))
+at_once-read old p count number other w here =
+    Stands-word old old (skipped count old) p (words.Number number) (Stands-start old) here
+    (whole_number-read old (slice_index old.ahead 0) count number (let enough = w.enough in omega (arith, enough)) refl skips number_is)
+  where
+    number_is : IsWholeNumber old.ahead count number
+    number_is =
+        let T : Bool → Type 0 = λ v. cond v (IsWholeNumber (drop 1 old.ahead) (count - 1) number) (IsWholeNumber old.ahead count number) in
+        subst T other w.whole
+
+    not_both : (v b : Bool) → b ≡ false → (v && b) ≡ false
+    not_both true b e = e
+    not_both false b e = refl
+
+    skips : skips_at old.place (slice_index old.ahead 0 ∷ []) ≡ false
+    skips = not_both (old.place.col == 1) (slice_index old.ahead 0 == 99) (number-first old.ahead count number number_is)

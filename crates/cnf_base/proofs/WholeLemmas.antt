@@ -18,6 +18,7 @@ use Rattle.cnf_base.specs.Words.{is_digit, number, word_of}
 use Rattle.cnf_base.specs.Code.Digits.{decimal_after}
 use Rattle.cnf_base.specs.Code.Digits.{digits_word, AreDigits}
 use Rattle.cnf_base.specs.Ahead.{is_inner, IsEnded, IsWholeNumber}
+use Rattle.cnf_base.specs.Code.Eight.{unsigned, AreFront}
 use Rattle.cnf_base.specs.Code.Whole.{GoOn}
 use Rattle.cnf_base.specs.declared.scanner.digits.Digits.{Digits}
 use Rattle.cnf_base.specs.declared.scanner.digits.Digits.TheVariants.{Counting, Zero}
@@ -107,19 +108,15 @@ digits-inner (d ∷ ds) h =
         ap not other
 
 -- digits after a `-`
-IsWholeNumber-negative : (bytes : List ℕ) (count : ℕ) (digits : Digits) (number : Number) → 0 < length bytes → slice_index bytes 0 ≡ 45
-    → AreWholeDigits (slice_range bytes 1 (length bytes)) count digits → digits_word true digits ≡ words.Number number → IsWholeNumber bytes (count + 1) number
-IsWholeNumber-negative [] count digits number front minus d says = absurd (omega arith)
-IsWholeNumber-negative (b ∷ bs) count digits number front minus d says = record {
+IsWholeNumber-negative : (b : ℕ) (bs : List ℕ) (count : ℕ) (digits : Digits) (number : Number) → b ≡ 45
+    → AreWholeDigits bs count digits → digits_word true digits ≡ words.Number number → IsWholeNumber (b ∷ bs) (count + 1) number
+IsWholeNumber-negative b bs count digits number minus rest says = record {
   some = omega arith;
   ended = IsEnded-front count b bs rest.ended;
   inner = ap (list_all is_inner) run ∙ digits-inner (take count bs) rest.each;
   says = ap word_of run ∙ negative_word digits (take count bs) rest.says ∙ says;
 }
   where
-    rest : AreWholeDigits bs count digits
-    rest = let P : List ℕ → Type 0 = λ xs. AreWholeDigits xs count digits in subst P (tail b bs) d
-
     run : take (count + 1) (b ∷ bs) ≡ 45 ∷ take count bs
     run = take-front count b bs ∙ ap (λ x. x ∷ take count bs) minus
 
@@ -140,58 +137,88 @@ IsWholeNumber-positive bytes count digits number d says = record {
     by [] some each is = absurd (omega arith)
     by (b ∷ bs) some each is = let both = and_parts _ _ each in positive_word digits b bs both.0 is
 
+digit_inner : (d : ℕ) → is_digit d ≡ true → is_separator d ≡ true → ⊥
+digit_inner d digit other = grind (arith, nat_tests)
+
+-- digits behind one that is a 0
+GoOn-rest : (bs : List ℕ) (n size : ℕ) → is_digit (slice_index bs 0) ≡ true → GoOn 0 (48 ∷ bs) (suc n) size → (0 < n) × GoOn 0 bs n size
+GoOn-rest bs zero size lead m = absurd (digit_inner (slice_index bs 0) lead m.ended.separator)
+GoOn-rest bs (suc n) size lead m = (
+  omega arith,
+  record {
+    ended = record { within = let inside = m.ended.within in omega (arith, inside); separator = m.ended.separator };
+    each = m.each;
+    says = m.says;
+  },
+)
+
+-- more digits stand behind the first ones, whatever the first one is
+pub unsigned-behind : (is_negative : Bool) (bytes : List ℕ) (count : ℕ) → 0 < count → count ≤ length bytes
+    → slice_range bytes count (length bytes) ≡ slice_range (unsigned is_negative bytes) count (length (unsigned is_negative bytes))
+unsigned-behind false bytes count some inside = refl
+unsigned-behind true bytes zero some inside = absurd (omega (arith, some))
+unsigned-behind true [] (suc n) some inside = absurd (omega (arith, inside))
+unsigned-behind true (b ∷ bs) (suc n) some inside = refl
+
+-- the first digits are all
+pub GoOn-front : (is_negative : Bool) (bytes : List ℕ) (count size : ℕ) → AreFront (unsigned is_negative bytes) count size
+    → count < length bytes → is_separator (slice_index bytes count) ≡ true → GoOn 0 (unsigned is_negative bytes) count size
+GoOn-front false bytes count size front inside last = record {
+  ended = record { within = inside; separator = last };
+  each = front.each;
+  says = front.says;
+}
+GoOn-front true bytes zero size front inside last = absurd (let some = front.some in omega (arith, some))
+GoOn-front true [] (suc n) size front inside last = absurd (omega (arith, inside))
+GoOn-front true (b ∷ bs) (suc n) size front inside last = record {
+  ended = record { within = omega (arith, inside); separator = last };
+  each = front.each;
+  says = front.says;
+}
+
 -- digits after an optional `-`
 pub IsWholeNumber-signed : (bytes : List ℕ) (is_negative : Bool) (minus count size : ℕ) → 0 < length bytes
     → is_negative ≡ (slice_index bytes 0 == 45) → minus ≡ from_bool is_negative
-    → GoOn 0 (slice_range bytes minus (length bytes)) count size → 0 < count → size < 2 ^ 64
-    → (slice_index bytes minus ≡ 48 → count + minus ≤ 1)
-    → IsWholeNumber bytes (count + minus) (record { is_negative = is_negative; size = size })
-IsWholeNumber-signed [] is_negative minus count size front sign is m some low alone = absurd (omega (arith, front))
-IsWholeNumber-signed (b ∷ bs) true minus count size front sign is m some low alone =
-    subst (λ k. IsWholeNumber (b ∷ bs) (count + k) (number true size)) (sym is)
-    (IsWholeNumber-negative (b ∷ bs) count (Counting size) (number true size) front (eqb-true b 45 (sym sign)) digits refl)
+    → is_digit (slice_index bytes minus) ≡ true
+    → GoOn 0 (unsigned is_negative bytes) count size → 0 < count → size < 2 ^ 64
+    → (slice_index bytes minus ≡ 48 → count ≤ 1)
+    → IsWholeNumber bytes count (record { is_negative = is_negative; size = size })
+IsWholeNumber-signed [] is_negative minus count size front sign is lead m some low alone = absurd (omega (arith, front))
+IsWholeNumber-signed (b ∷ bs) true minus zero size front sign is lead m some low alone = absurd (omega (arith, some))
+IsWholeNumber-signed (b ∷ bs) true minus (suc n) size front sign is lead m some low alone =
+    subst (λ k. IsWholeNumber (b ∷ bs) k (number true size)) (add-one n)
+    (IsWholeNumber-negative b bs n (Counting size) (number true size) (eqb-true b 45 (sym sign)) (counting bs n size rest.1 rest.0 low other) refl)
   where
-    m' : GoOn 0 (slice_range (b ∷ bs) 1 (length (b ∷ bs))) count size
-    m' = let P : ℕ → Type 0 = λ k. GoOn 0 (slice_range (b ∷ bs) k (length (b ∷ bs))) count size in subst P is m
+    lead' : is_digit (slice_index bs 0) ≡ true
+    lead' = let P : ℕ → Type 0 = λ k. is_digit (slice_index (b ∷ bs) k) ≡ true in subst P is lead
 
-    alone' : slice_index bs 0 ≡ 48 → count + 1 ≤ 1
-    alone' = let P : ℕ → Type 0 = λ k. slice_index (b ∷ bs) k ≡ 48 → count + k ≤ 1 in subst P is alone
+    rest : (0 < n) × GoOn 0 bs n size
+    rest = GoOn-rest bs n size lead' m
+
+    alone' : slice_index bs 0 ≡ 48 → suc n ≤ 1
+    alone' = let P : ℕ → Type 0 = λ k. slice_index (b ∷ bs) k ≡ 48 → suc n ≤ 1 in subst P is alone
 
     by : (v : Bool) → (slice_index bs 0 == 48) ≡ v → (slice_index bs 0 == 48) ≡ false
-    by true e = absurd (let few = alone' (eqb-true (slice_index bs 0) 48 e) in omega (arith, few, some))
+    by true e = absurd (let few = alone' (eqb-true (slice_index bs 0) 48 e) in let more = rest.0 in omega (arith, few, more))
     by false e = e
 
-    other : (slice_index (slice_range (b ∷ bs) 1 (length (b ∷ bs))) 0 == 48) ≡ false
-    other = ap (λ xs. slice_index xs 0 == 48) (tail b bs) ∙ by (slice_index bs 0 == 48) refl
-
-    digits : AreWholeDigits (slice_range (b ∷ bs) 1 (length (b ∷ bs))) count (Counting size)
-    digits = counting (slice_range (b ∷ bs) 1 (length (b ∷ bs))) count size m' some low other
-IsWholeNumber-signed (b ∷ bs) false minus count size front sign is m some low alone =
+    other : (slice_index bs 0 == 48) ≡ false
+    other = by (slice_index bs 0 == 48) refl
+IsWholeNumber-signed (b ∷ bs) false minus count size front sign is lead m some low alone =
     by (b == 48) refl
   where
-    m' : GoOn 0 (b ∷ bs) count size
-    m' =
-        let P : ℕ → Type 0 = λ k. GoOn 0 (slice_range (b ∷ bs) k (length (b ∷ bs))) count size in
-        let Q : List ℕ → Type 0 = λ xs. GoOn 0 xs count size in
-        subst Q (after 0 (b ∷ bs)) (subst P is m)
+    alone' : b ≡ 48 → count ≤ 1
+    alone' = let P : ℕ → Type 0 = λ k. slice_index (b ∷ bs) k ≡ 48 → count ≤ 1 in subst P is alone
 
-    alone' : b ≡ 48 → count + 0 ≤ 1
-    alone' = let P : ℕ → Type 0 = λ k. slice_index (b ∷ bs) k ≡ 48 → count + k ≤ 1 in subst P is alone
-
-    same : count + minus ≡ count
-    same = omega (arith, is)
-
-    by : (v : Bool) → (b == 48) ≡ v → IsWholeNumber (b ∷ bs) (count + minus) (number false size)
+    by : (v : Bool) → (b == 48) ≡ v → IsWholeNumber (b ∷ bs) count (number false size)
     by true e =
         let first : b ≡ 48 = eqb-true b 48 e in
         let one : count ≡ 1 = let few = alone' first in omega (arith, few, some) in
         let P : ℕ → Type 0 = λ k. GoOn 0 (b ∷ bs) k size in
-        let alone : GoOn 0 (b ∷ bs) 1 size = subst P one m' in
+        let alone : GoOn 0 (b ∷ bs) 1 size = subst P one m in
         let nought : size ≡ 0 = zero_size (b ∷ bs) size alone first in
         let whole : IsWholeNumber (b ∷ bs) 1 (number false 0) = IsWholeNumber-positive (b ∷ bs) 1 Zero (number false 0) (zero_alone (b ∷ bs) size alone first) refl in
         let R : ℕ → Type 0 = λ k. IsWholeNumber (b ∷ bs) 1 (number false k) in
         let S : ℕ → Type 0 = λ k. IsWholeNumber (b ∷ bs) k (number false size) in
-        subst S (sym (same ∙ one)) (subst R (sym nought) whole)
-    by false e =
-        let S : ℕ → Type 0 = λ k. IsWholeNumber (b ∷ bs) k (number false size) in
-        subst S (sym same) (IsWholeNumber-positive (b ∷ bs) count (Counting size) (number false size) (counting (b ∷ bs) count size m' some low e) refl)
+        subst S (sym one) (subst R (sym nought) whole)
+    by false e = IsWholeNumber-positive (b ∷ bs) count (Counting size) (number false size) (counting (b ∷ bs) count size m some low e) refl

@@ -1,13 +1,16 @@
 -- What a run says, byte by byte.
 use Rattle.std.proofs.Common.{◌≡◌, ℕ, ◌+◌, ◌-◌, ◌*◌, ◌^◌, ◌≤◌, ◌==◌, ◌&&◌, min, cond, not, Bool}
 use Rattle.std.proofs.Common.{true, false, List, [], ◌∷◌, ◌++◌, length, None, refl, sym, ap, ◌∙◌}
-use Rattle.std.proofs.Common.{subst, arith, length-append}
-use Rattle.std.specs.Prelude.{codes}
+use Rattle.std.proofs.Common.{subst, arith, length-append, zero, suc, take}
+use Rattle.std.specs.Prelude.{codes, slice_index}
 use Rattle.std.specs.List.{list_all}
 use Rattle.std.specs.Str.{bytes_eq}
 use Rattle.std.proofs.lemmas.Grind.{fold-append}
+use Rattle.std.proofs.lemmas.Bool.{eqb-true}
 use Rattle.std.proofs.lemmas.Bool.Decides.{nat_tests}
 use Rattle.cnf_base.specs.Words.{is_digit, is_counting, size_of, number, number_of}
+use Rattle.cnf_base.specs.Ahead.{IsWholeNumber}
+use Rattle.cnf_base.specs.declared.word.Number.{Number}
 use Rattle.cnf_base.specs.Code.Digits.{decimal_value}
 use Rattle.cnf_base.specs.Words.{fixed_word, word_of}
 use Rattle.cnf_base.specs.Code.Digits.{number_or}
@@ -174,3 +177,44 @@ pub IsName-word : (run : List ℕ) (word : Word) → IsName run → word ≡ fix
 IsName-word run word n is =
     let P : List ℕ → Type 0 = λ x. word_of x ≡ fixed_word x in
     is ∙ sym (subst P (sym n.is) (name_is_no_number n.first n.others n.begins))
+
+-- ---- No number begins as a comment does
+
+abbrev is_number : Word → Bool
+is_number (words.Number n) = true
+is_number words.P = false
+is_number words.Cnf = false
+is_number words.D = false
+is_number words.S = false
+is_number words.V = false
+is_number words.Satisfiable = false
+is_number words.Unsatisfiable = false
+is_number words.Unknown = false
+is_number words.Other = false
+
+neither : (v : Bool) (a b : Word) → is_number a ≡ false → is_number b ≡ false → is_number (cond v a b) ≡ false
+neither true a b first second = first
+neither false a b first second = second
+
+fixed-is_number : (run : List ℕ) → is_number (fixed_word run) ≡ false
+fixed-is_number run =
+    neither (bytes_eq run (codes "p")) words.P _ refl (
+    neither (bytes_eq run (codes "cnf")) words.Cnf _ refl (
+    neither (bytes_eq run (codes "d")) words.D _ refl (
+    neither (bytes_eq run (codes "s")) words.S _ refl (
+    neither (bytes_eq run (codes "v")) words.V _ refl (
+    neither (bytes_eq run (codes "SATISFIABLE")) words.Satisfiable _ refl (
+    neither (bytes_eq run (codes "UNSATISFIABLE")) words.Unsatisfiable _ refl (
+    neither (bytes_eq run (codes "UNKNOWN")) words.Unknown words.Other refl refl)))))))
+
+pub number-first : (bytes : List ℕ) (count : ℕ) (number : Number) → IsWholeNumber bytes count number → (slice_index bytes 0 == 99) ≡ false
+number-first bytes zero told w = absurd (let some = w.some in omega (arith, some))
+number-first [] (suc n) told w = absurd (let within = w.ended.within in omega (arith, within))
+number-first (b ∷ bs) (suc n) told w = by (b == 99) refl
+  where
+    by : (v : Bool) → (b == 99) ≡ v → (b == 99) ≡ false
+    by true e =
+        let is : b ≡ 99 = eqb-true b 99 e in
+        let says : word_of (99 ∷ take n bs) ≡ words.Number told = ap (λ x. word_of (x ∷ take n bs)) (sym is) ∙ w.says in
+        absurd (true≢false' (sym (ap is_number says) ∙ fixed-is_number (99 ∷ take n bs)))
+    by false e = e

@@ -1,7 +1,7 @@
 -- Numbers that stand whole in what was read ahead: a separator follows (our own profile).
 use Rattle.std.specs.List.{list_all}
 use Rattle.std.specs.Prelude.{ℕ, not, Bool, ◌≡◌, ◌<◌, ◌≤◌, true, List, length, slice_index}
-use Rattle.std.specs.Prelude.{slice_range, take, Ok}
+use Rattle.std.specs.Prelude.{cond, drop, take, Ok, ◌==◌, ◌-◌}
 use Rattle.cnf_base.specs.Stream.{Along, Stream}
 use Rattle.cnf_base.specs.Text.{Gives, is_separator, listing_at}
 use Rattle.cnf_base.specs.Words.{word_of}
@@ -26,11 +26,13 @@ pub record IsWholeNumber (bytes : List ℕ) (count : ℕ) (number : Number) : Ty
   pub inner : list_all is_inner (take count bytes) ≡ true
   pub says : word_of (take count bytes) ≡ words.Number number
 
--- the next token of a source is a number of so many bytes, after one space
+-- The next token of a source is a number, before which one space stands or nothing: both have so
+-- many bytes.
 pub record IsNumberAhead (s : Stream) (count : ℕ) (number : Number) : Type 0 where
   pub enough : 2 ≤ length s.ahead
-  pub space : slice_index s.ahead 0 ≡ 32
-  pub whole : IsWholeNumber (slice_range s.ahead 1 (length s.ahead)) count number
+  pub whole : cond (slice_index s.ahead 0 == 32)
+      (IsWholeNumber (drop 1 s.ahead) (count - 1) number) (IsWholeNumber s.ahead count number)
+  pub some : 0 < count
 
 -- the number at this place is taken
 abbrev pub TakesNumber : Place → Number → Stream → Stream → Type 0

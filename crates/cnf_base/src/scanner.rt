@@ -79,8 +79,9 @@ impl<R: In> Scanner<R> {
         any_token(&mut self.source, &mut self.name)
     }
 
-    /// The number that is the next token, where it stands after one space and all of it was read,
-    /// as most tokens of a proof do: how many bytes it has, and what it says. It takes nothing.
+    /// The number that is the next token, where one space stands before it or nothing and all of it
+    /// was read, as nearly all tokens of a proof do: how many bytes both have, and what it says. It
+    /// takes nothing.
     #[inline(always)]
     pub fn number_ahead(&self) -> Option<(usize, Number)>
         ensures { IfSome result (λ r. IsNumberAhead self.now r.0 r.1) }
@@ -110,20 +111,24 @@ impl<R: In> Scanner<R> {
     }
 }
 
-// The number that stands whole after one space.
+// The number that stands whole after one space, or without one.
 #[inline(always)]
 fn number_ahead<R: In>(source: &Source<R>) -> Option<(usize, Number)>
     ensures { IfSome result (λ r. IsNumberAhead source.now r.0 r.1) }
 {
     let ahead = source.ahead();
-    if ahead.len() < 1 + ROOM || ahead[0] != b' ' {
+    if ahead.len() < 1 + ROOM {
         return None;
     }
-    whole_number(&ahead[1..])
+    if ahead[0] != b' ' {
+        return whole_number(ahead);
+    }
+    let (count, number) = whole_number(&ahead[1..])?;
+    Some((1 + count, number))
 }
 
-// Takes the number that is ahead, and tells where it stands. The place in the piece is written once
-// for both, since the next token waits for it.
+// Takes the number that is ahead, and tells where it stands. The place in the piece is written once,
+// since the next token waits for it.
 #[inline(always)]
 fn take_number<R: In>(source: &mut Source<R>, count: usize) -> Place
     requires { (number : Number) × IsNumberAhead source.old count number }
@@ -132,8 +137,13 @@ fn take_number<R: In>(source: &mut Source<R>, count: usize) -> Place
     ensures fewer { most_to_come source.new < most_to_come source.old }
     ensures mark { tells_failure source.new.reader ≡ tells_failure source.old.reader }
 {
-    let _from_one = source.place();
-    source.bump_in_line();
+    if source.ahead()[0] == b' ' {
+        let _from_one = source.place();
+        source.bump_in_line();
+        let place = source.place();
+        source.skip_in_line(count - 1);
+        return place;
+    }
     let place = source.place();
     source.skip_in_line(count);
     place

@@ -2,7 +2,7 @@
 use Rattle.std.specs.Int.Bits.{bit_xor}
 use Rattle.std.specs.List.{list_all}
 use Rattle.std.specs.Prelude.{ℕ, ◌+◌, ◌*◌, ◌<◌, ◌≤◌, ◌≡◌, true, List, [], ◌∷◌, length, take}
-use Rattle.std.specs.Prelude.{fold, slice_index}
+use Rattle.std.specs.Prelude.{fold, slice_index, Bool, cond, drop}
 use Rattle.cnf_base.specs.Words.{is_digit}
 use Rattle.cnf_base.specs.Code.Digits.{decimal_value}
 
@@ -20,6 +20,10 @@ eight bs =
 -- a byte, as its bits differ from those of `0`
 abbrev pub from_zero : ℕ → ℕ
 from_zero b = bit_xor b 48
+
+-- the bytes of a number, with a `0` in the place of a `-`
+abbrev pub unsigned : Bool → List ℕ → List ℕ
+unsigned is_negative bytes = cond is_negative (48 ∷ drop 1 bytes) bytes
 
 -- each number is below this one
 abbrev pub AreBelow : ℕ → List ℕ → Type 0

@@ -1,27 +1,34 @@
 //! The digits at the front of eight bytes, which are read as one number. Where a number ends can't
 //! be foretold, and a wrong guess costs more than all digits do: so no digit has a branch.
-ghost use Rattle.std.specs.Prelude.{◌≡◌, ◌<◌, ◌≤◌, length, map, ℕ, List};
+ghost use Rattle.std.specs.Prelude.{◌≡◌, ◌==◌, ◌<◌, ◌≤◌, length, map, ℕ, List, slice_index, true};
 ghost use Rattle.std.specs.List.{prefix_len};
 ghost use Rattle.cnf_base.specs.Words.{is_digit};
-ghost use Rattle.cnf_base.specs.Code.Eight.{packed, from_zero, decimal, AreEight, AreFront};
+ghost use Rattle.cnf_base.specs.Code.Eight.{packed, from_zero, decimal, unsigned, AreEight, AreFront};
 
-/// How many digits stand at the front of eight bytes, and the number that they write. How many
-/// can't be foretold, so that a branch for each would often be guessed wrong.
+/// A `-`, as its bits differ from those of `0`.
+const MINUS: u64 = 29;
+
+/// How many digits stand at the front of eight bytes, and the number that they write, where a `-` in
+/// the place of the first one counts as a 0. The first byte is taken for one, and how many follow
+/// doesn't wait for what it is: the next token waits for this.
 #[inline(always)]
-pub fn front_digits(bytes: &[u8]) -> (usize, u64)
-    requires { 8 ≤ length bytes.now }
-    ensures { 0 < result.0 → AreFront bytes.now result.0 result.1 }
+pub fn front_digits(bytes: &[u8], is_negative: bool) -> (usize, u64)
+    requires long { 8 ≤ length bytes.now }
+    requires sign { is_negative ≡ (slice_index bytes.now 0 == 45) }
+    ensures { 0 < result.0 → is_digit (slice_index (unsigned is_negative bytes.now) 0) ≡ true →
+        AreFront (unsigned is_negative bytes.now) result.0 result.1 }
 {
     let Some(eight) = bytes.first_chunk::<8>() else {
         return (0, 0);
     };
     let packed = u64::from_le_bytes(*eight);
     let word = packed ^ 0x3030_3030_3030_3030;
-    let count = digit_count(word);
+    let count = digit_count(word >> 8 << 8);
     if count == 0 {
         return (0, 0);
     }
-    (count, value_of(word << (64 - 8 * count)))
+    let digits = word.wrapping_sub(MINUS * u64::from(is_negative));
+    (count, value_of(digits << (64 - 8 * count)))
 }
 
 // How many of the bytes are digits, from the lowest on: each other one gets its highest bit.

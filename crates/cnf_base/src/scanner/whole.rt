@@ -1,7 +1,9 @@
 //! Numbers that stand whole in what was read at once, without a look at the source for each byte.
-ghost use Rattle.std.specs.Prelude.{◌≡◌, ◌+◌, ◌*◌, ◌<◌, ◌≤◌, length, take, IfSome};
+ghost use Rattle.std.specs.Prelude.{◌≡◌, ◌==◌, ◌+◌, ◌*◌, ◌<◌, ◌≤◌, length, take, IfSome, true};
+ghost use Rattle.std.specs.Prelude.{if◌then◌else◌, slice_index};
 ghost use Rattle.cnf_base.specs.Ahead.{IsWholeNumber};
-ghost use Rattle.cnf_base.specs.Code.Eight.{AreFront};
+ghost use Rattle.cnf_base.specs.Code.Eight.{AreFront, unsigned};
+ghost use Rattle.cnf_base.specs.Words.{is_digit};
 ghost use Rattle.cnf_base.specs.Code.Whole.{GoOn};
 
 use super::eight::front_digits;
@@ -26,38 +28,44 @@ pub fn whole_number(bytes: &[u8]) -> Option<(usize, Number)>
     }
     let is_negative = bytes[0] == b'-';
     let minus = usize::from(is_negative);
-    let (count, size) = whole_digits(&bytes[minus..])?;
-    if bytes[minus] == b'0' && count + minus > 1 {
+    let lead = bytes[minus];
+    if !lead.is_ascii_digit() {
         return None;
     }
-    Some((count + minus, Number { is_negative, size }))
+    let (count, size) = whole_digits(bytes, is_negative)?;
+    if lead == b'0' && count > 1 {
+        return None;
+    }
+    Some((count, Number { is_negative, size }))
 }
 
-// The digits at the front of the bytes, where a separator follows.
+// The digits at the front of the bytes, where a separator follows. A `-` counts as a 0.
 #[inline(always)]
-fn whole_digits(bytes: &[u8]) -> Option<(usize, u64)>
-    requires { 9 ≤ length bytes.now }
+fn whole_digits(bytes: &[u8], is_negative: bool) -> Option<(usize, u64)>
+    requires long { 9 ≤ length bytes.now }
+    requires sign { is_negative ≡ (slice_index bytes.now 0 == 45) }
+    requires lead { is_digit (slice_index bytes.now (if is_negative then 1 else 0)) ≡ true }
     ensures some { IfSome result (λ r. 0 < r.0) }
-    ensures digits { IfSome result (λ r. GoOn 0 bytes.now r.0 r.1) }
+    ensures digits { IfSome result (λ r. GoOn 0 (unsigned is_negative bytes.now) r.0 r.1) }
 {
-    let (count, size) = front_digits(bytes);
+    let (count, size) = front_digits(bytes, is_negative);
     if count == 0 {
         return None;
     }
     if is_separator(bytes[count]) {
         return Some((count, size));
     }
-    long_digits(bytes, count, size)
+    long_digits(bytes, is_negative, count, size)
 }
 
 // The same where these first digits go on. It stands apart, as the room that it clears for the rest
 // would else be cleared for each number.
 #[inline(always)]
-fn long_digits(bytes: &[u8], count: usize, size: u64) -> Option<(usize, u64)>
+fn long_digits(bytes: &[u8], is_negative: bool, count: usize, size: u64) -> Option<(usize, u64)>
     requires inside { count ≤ length bytes.now }
-    requires front { AreFront bytes.now count size }
+    requires front { AreFront (unsigned is_negative bytes.now) count size }
     ensures some { IfSome result (λ r. 0 < r.0) }
-    ensures digits { IfSome result (λ r. GoOn 0 bytes.now r.0 r.1) }
+    ensures digits { IfSome result (λ r. GoOn 0 (unsigned is_negative bytes.now) r.0 r.1) }
 {
     let (more, size) = go_on_long(&bytes[count..], size)?;
     Some((count + more, size))
