@@ -6,3 +6,4 @@ pub mod Options
 pub mod Replaced
 pub mod Search
 pub mod Swap
+pub mod Taken

@@ -33,7 +33,9 @@ ghost use Rattle.tables.specs.Filled.{at};
 use crate::Slot;
 use crate::store::counts::{count_in, count_out, count_with, keep};
 use crate::store::kept::{find_slots, forget, note};
-use crate::store::marks::{all_known, gather, mark_all, mark_new, unmark_all};
+use crate::store::marks::{
+    all_known, are_different, gather, make_known, mark_all, mark_new, unmark_all,
+};
 use crate::store::search::{find_marked, find_unit};
 use clause_index::{Index, Indexing, NoIndex};
 use clause_memory::{Blocks, Memory};
@@ -42,6 +44,9 @@ use occurrences::Occurrences;
 use std::alloc::Global;
 use std::marker::Model;
 use tables::Filled;
+
+/// So many literals are compared with one another.
+const FEW: usize = 8;
 
 /// The live clauses of a proof checker, each in a slot that the store picks.
 ///
@@ -136,6 +141,31 @@ fn put_in<M: Memory>(
     memory.insert(&kept)
 }
 
+/// Puts a clause into the memory, without repeated literals. A short one is compared in place, since
+/// a mark is a load that no cache has where there are many variables.
+fn take_in<M: Memory>(
+    alloc: Global,
+    memory: &mut M,
+    marks: &mut Filled<bool>,
+    lits: &[Lit],
+) -> Result<usize, OutOfMemory>
+    requires { (l : ℕ) → is_marked (at marks.old l) ≡ false }
+    ensures taken { IfOk result (λ slot.
+        IsTakenIn (M.seen memory.old) (M.seen memory.new) slot lits.now) }
+    ensures known { OnOk result ((l : ℕ) → has lits.now l ≡ true → IsSome (at marks.new l)) }
+    ensures still_known { (l : ℕ) → IsSome (at marks.old l) → IsSome (at marks.new l) }
+    ensures clear { (l : ℕ) → is_marked (at marks.new l) ≡ false }
+    ensures err { OnErr result (M.seen memory.new ≡ M.seen memory.old) }
+{
+    if lits.len() <= FEW && are_different(lits) {
+        make_known(marks, lits)?;
+        return memory.insert(lits);
+    }
+    let taken = put_in(alloc, memory, marks, lits);
+    unmark_all(marks, lits);
+    taken
+}
+
 /// Counts the literals of a clause, and adds its slot to what finds it again.
 fn list_up<I: Indexing>(
     index: &mut I,
@@ -179,8 +209,7 @@ fn list_up<I: Indexing>(
 }
 
 impl<M: Memory, I: Indexing> Store<M, I> {
-    fn empty(alloc: Global, seed: u64, counts: Option<Filled<u32>>) -> Self
-        requires { AreCounted counts maps.empty }
+    fn empty(alloc: Global, seed: u64) -> Self
         ensures { result ≡ no_clauses }
     {
         Store {
@@ -188,7 +217,7 @@ impl<M: Memory, I: Indexing> Store<M, I> {
             memory: M::new(alloc),
             index: I::new(alloc, seed),
             marks: Filled::new(alloc),
-            counts,
+            counts: None,
             sum: 0,
             occurrences: None,
         }
@@ -206,9 +235,7 @@ impl<M: Memory, I: Indexing> Store<M, I> {
         ensures err_live { OnErr result (self.new.live ≡ self.old.live) }
         ensures err_stored { OnErr result (self.new.stored ≡ self.old.stored) }
     {
-        let taken = put_in(self.alloc, &mut self.memory, &mut self.marks, lits);
-        unmark_all(&mut self.marks, lits);
-        let slot = taken?;
+        let slot = take_in(self.alloc, &mut self.memory, &mut self.marks, lits)?;
         let kept = self.memory.clause(slot);
         match list_up(
             &mut self.index,
@@ -318,8 +345,8 @@ impl<M: Memory, I: Indexing> Store<M, I> {
         keep(&mut self.counts, self.alloc, &self.memory)
     }
 
-    /// How many of the clauses have the literal. It takes constant time where these are counted, as
-    /// in a store with an index, and else goes over all clauses.
+    /// How many of the clauses have the literal. It takes constant time where these are counted, and
+    /// else goes over all clauses.
     pub fn count_with(&self, l: Lit) -> u64
         ensures { result ≡ copies_with self.now.live l }
     {
@@ -328,13 +355,11 @@ impl<M: Memory, I: Indexing> Store<M, I> {
 }
 
 impl<M: Memory> Store<M, NoIndex> {
-    /// No clauses, and none will be searched for by its literals. The clauses with each literal are
-    /// counted from when [`Store::keep_counts`] is called.
+    /// No clauses, and none will be searched for by its literals.
     pub fn without_index(alloc: Global) -> Result<Self, OutOfMemory>
         ensures { IfOk result (λ s. s ≡ no_clauses) }
     {
-        let store = Store::empty(alloc, 0, None);
-        Ok(store)
+        Ok(Store::empty(alloc, 0))
     }
 }
 
@@ -352,9 +377,7 @@ impl<M: Memory> Store<M, Index> {
     pub fn seeded(alloc: Global, seed: u64) -> Result<Self, OutOfMemory>
         ensures { IfOk result (λ s. s ≡ no_clauses) }
     {
-        let counts = Some(Filled::new(alloc));
-        let store = Store::empty(alloc, seed, counts);
-        Ok(store)
+        Ok(Store::empty(alloc, seed))
     }
 
     /// A slot with the same clause as a set, if there is one. It takes no memory.

@@ -44,6 +44,8 @@ pub struct Trail {
     lits: Vec<Lit>,
     /// The variables that were reserved.
     seen: Table<()>,
+    /// These are all up to this one: to look each up would be a load that no cache has.
+    dense: u32,
     /// How many these are.
     count: usize,
     /// By literal, for both literals of each variable that was reserved.
@@ -52,7 +54,7 @@ pub struct Trail {
 
 impl Model for Trail {
     ghost use Rattle.std.specs.Prelude.{vec_capacity};
-    ghost use Rattle.std.specs.Prelude.{◌≡◌, length};
+    ghost use Rattle.std.specs.Prelude.{◌≡◌, ◌<◌, ◌≤◌, ℕ, IsSome, length};
     ghost use Rattle.trail.specs.Trail.{TrailState};
     ghost use Rattle.trail.specs.Code.Values.{IsTrail, reserved_in};
     ghost use Rattle.tables.specs.Filled as filled;
@@ -62,14 +64,15 @@ impl Model for Trail {
 
     // Each field has to be named here. The list of the true literals is shown; the tables by
     // variable and by literal have entries only for variables that were met.
-    ghost view = { λ record { lits = lits; seen = seen; count = _; values = _ }. record {
+    ghost view = { λ record { lits = lits; seen = seen; dense = _; count = _; values = _ }. record {
       lits = lits.items;
       reserved = reserved_in (at seen);
     } };
 
     ghost invariant = { λ t.
         IsTrail t.lits.items (reserved_in (at t.seen)) (vec_capacity t.lits) (at t.seen)
-        (filled.at t.values) × (t.count ≡ length (reserved_in (at t.seen))) };
+        (filled.at t.values) × (t.count ≡ length (reserved_in (at t.seen)))
+        × ((v : ℕ) → 0 < v → v ≤ t.dense → IsSome (at t.seen v)) };
 }
 
 /// The literal that says that the variable is true; none for 0 and past the greatest variable.
@@ -81,6 +84,17 @@ fn positive(var: u32) -> Option<Lit>
         return None;
     }
     Lit::new(var as i32)
+}
+
+/// Up to which variable all were reserved, where they were up to this one, and now another is.
+fn dense_with(dense: u32, var: u32) -> u32
+    ensures { (v : ℕ) → v ≤ result → dense < v → v ≡ var }
+{
+    if dense < var && var - dense == 1 {
+        var
+    } else {
+        dense
+    }
 }
 
 impl Truths for Trail {
@@ -100,6 +114,7 @@ impl Trail {
         Ok(Trail {
             lits: Vec::new(alloc),
             seen: Table::new(alloc),
+            dense: 0,
             count: 0,
             values: Filled::new(alloc),
         })
@@ -129,7 +144,7 @@ impl Trail {
     pub fn has_room(&self, var: u32) -> bool
         ensures { result ≡ has self.now.reserved var }
     {
-        self.seen.get(var).is_some()
+        var.wrapping_sub(1) < self.dense || self.seen.get(var).is_some()
     }
 
     /// Makes room for a variable for which there is none.
@@ -149,6 +164,7 @@ impl Trail {
         reserve_both(&mut self.values, lit)?;
         self.seen.reserve(var, ())?;
         self.count += 1;
+        self.dense = dense_with(self.dense, var);
         Ok(())
     }
 

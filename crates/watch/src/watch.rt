@@ -207,6 +207,7 @@ impl Watch {
         ensures loaded { OnOk result (self.new.is_loading ≡ false) }
         ensures none { OnErr result (self.new.entries ≡ 0) }
     {
+        self.store.keep_counts()?;
         self.lists = listed(self.alloc, &self.store)?;
         self.is_loading = false;
         Ok(())

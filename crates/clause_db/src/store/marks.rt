@@ -42,6 +42,33 @@ pub(crate) fn mark_new(marks: &mut Filled<bool>, lits: &[Lit]) -> Result<usize, 
     Ok(len)
 }
 
+/// Whether no literal is repeated. It takes a time that grows with the square of how many there are.
+#[inline(always)]
+pub(crate) fn are_different(lits: &[Lit]) -> bool
+    ensures { result ≡ true → size lits.now ≡ length lits.now }
+{
+    for (i, l) in lits.iter().enumerate() {
+        if lits[..i].contains(l) {
+            return false;
+        }
+    }
+    true
+}
+
+/// Makes room in the table for the literals.
+#[inline(always)]
+pub(crate) fn make_known(marks: &mut Filled<bool>, lits: &[Lit]) -> Result<(), OutOfMemory>
+    ensures known { OnOk result
+        ((l : ℕ) → has lits.now l ≡ true → IsSome (at marks.new l)) }
+    ensures still_known { (l : ℕ) → IsSome (at marks.old l) → IsSome (at marks.new l) }
+    ensures marks { (l : ℕ) → is_marked (at marks.new l) ≡ is_marked (at marks.old l) }
+{
+    for l in lits {
+        marks.reserve(key(*l), false)?;
+    }
+    Ok(())
+}
+
 /// Whether the table has each literal.
 pub(crate) fn all_known(marks: &Filled<bool>, lits: &[Lit]) -> bool
     ensures { result ≡ list_all (λ l. is_some (at marks.now l)) lits.now }

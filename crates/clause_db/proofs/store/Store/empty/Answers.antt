@@ -1,6 +1,5 @@
 use Rattle.std.proofs.Common.{sym, subst}
 use Rattle.std.specs.FinMap as maps
-use Rattle.clause_db.specs.Code.Counts.{AreCounted}
 use Rattle.clause_db.specs.Code.Fields.{IsStore}
 use Rattle.clause_db.proofs.StoreLemmas.Fields.{sound_empty}
 use Rattle.clause_db.proofs.store.Store.empty.Goals as goal
@@ -12,7 +11,7 @@ invariant_of-result g c =
       subst (λ m. IsStore m (g.M.Memory.seen c.new.result).stored c.new-3.result 0) (sym live) (subst (λ n. IsStore maps.empty n c.new-3.result 0) (sym c.new.ensures.stored) sound),
       subst (g.I.Indexing.indexes c.new-2.result) (sym live) c.new-2.ensures,
       tt,
-      subst (AreCounted c.args.counts) (sym live) c.requires,
+      tt,
     )
 
 pub returns : goal.returns

@@ -23,13 +23,13 @@ use Rattle.clause_db.proofs.store.Store.insert.Goals as goal
 pub invariant_of-self : goal.invariant_of-self
 invariant_of-self g c =
     let i = c.self.inside in
-    let marks = c.unmark_all.new.marks in
-    let same = sound_same (g.M.Memory.seen i.memory).live (g.M.Memory.seen i.memory).stored i.marks i.sum c.self.invariant.0 marks (λ l h. c.unmark_all.ensures.known l ∙ c.put_in-taken.ensures.still_known l h) c.unmark_all.ensures.clear in
+    let marks = c.take_in.new.marks in
+    let same = sound_same (g.M.Memory.seen i.memory).live (g.M.Memory.seen i.memory).stored i.marks i.sum c.self.invariant.0 marks (λ l h. c.take_in.ensures.still_known l h) c.take_in.ensures.clear in
     subst (λ (m : MemoryState). IsStore m.live m.stored marks i.sum × g.I.Indexing.indexes i.index m.live × AreKept i.occurrences m.live × AreCounted i.counts m.live) (sym c.in_err-slot.ensures.err)
     (same, c.self.invariant.1, c.self.invariant.2, c.self.invariant.3)
 
 pub returns-in_err-slot-clause-live_alone : goal.returns-in_err-slot-clause-live_alone
-returns-in_err-slot-clause-live_alone g c = live_alone (g.M.Memory.seen c.put_in-taken.new.memory).live (g.M.Memory.seen c.put_in-taken.new.memory).stored c.unmark_all.new.marks _ (invariant_of-self g c).0
+returns-in_err-slot-clause-live_alone g c = live_alone (g.M.Memory.seen c.take_in.new.memory).live (g.M.Memory.seen c.take_in.new.memory).stored c.take_in.new.marks _ (invariant_of-self g c).0
 
 pub returns-in_err-slot-clause-err_live : goal.returns-in_err-slot-clause-err_live
 returns-in_err-slot-clause-err_live g c =
@@ -73,15 +73,15 @@ overflow_add-self g c =
 pub invariant_of-self-in-Ok : goal.invariant_of-self-in-Ok
 invariant_of-self-in-Ok g c =
     let i = c.self.inside in
-    let m = g.M.Memory.seen c.put_in-taken.new.memory in
+    let m = g.M.Memory.seen c.take_in.new.memory in
     let slot = c.in_ok-slot.slot in
-    let marks = c.unmark_all.new.marks in
+    let marks = c.take_in.new.marks in
     let taken = c.in_ok-slot.ensures.taken in
     let x = taken.clause in
     let kept_is = taken_is taken c.clause-kept.ensures in
-    let known = λ (l : ℕ) (h : has x l ≡ true). c.unmark_all.ensures.known l ∙ c.in_ok-slot.ensures.known l (same_there x c.args.lits.now taken.same l h) in
+    let known = λ (l : ℕ) (h : has x l ≡ true). c.in_ok-slot.ensures.known l (same_there x c.args.lits.now taken.same l h) in
     let live_is = ap (maps.insert (g.M.Memory.seen i.memory).live slot) kept_is ∙ sym taken.live in
-    let sound = sound_with (g.M.Memory.seen i.memory).live (g.M.Memory.seen i.memory).stored i.marks i.sum c.self.invariant.0 slot x taken.free taken.different taken.short marks known (λ l h. c.unmark_all.ensures.known l ∙ c.put_in-taken.ensures.still_known l h) c.unmark_all.ensures.clear m.stored (taken.stored ∙ ap memory.literals_in taken.live) in (
+    let sound = sound_with (g.M.Memory.seen i.memory).live (g.M.Memory.seen i.memory).stored i.marks i.sum c.self.invariant.0 slot x taken.free taken.different taken.short marks known (λ l h. c.take_in.ensures.still_known l h) c.take_in.ensures.clear m.stored (taken.stored ∙ ap memory.literals_in taken.live) in (
       subst (λ n. IsStore m.live m.stored marks (i.sum + n)) (ap length (sym kept_is)) (subst (λ l. IsStore l m.stored marks (i.sum + length x)) (sym taken.live) sound),
       subst (g.I.Indexing.indexes c.list_up.new.index) live_is (c.in-Ok.ensures.index (g.M.Memory.seen i.memory).live c.self.invariant.1 taken.free),
       subst (AreKept c.list_up.new.kept) live_is (c.in-Ok.ensures.kept (g.M.Memory.seen i.memory).live c.self.invariant.2 taken.free),
@@ -97,7 +97,7 @@ returns-in-Ok-clause-stored g c =
     let taken = c.in_ok-slot.ensures.taken in
     let slot = c.in_ok-slot.slot in (
       taken.clause,
-      ap (maps.get (g.M.Memory.seen c.put_in-taken.new.memory).live) c.at.ensures ∙ ap (λ l. maps.get l slot) taken.live ∙ insert_here (g.M.Memory.seen c.self.inside.memory).live slot slot taken.clause refl,
+      ap (maps.get (g.M.Memory.seen c.take_in.new.memory).live) c.at.ensures ∙ ap (λ l. maps.get l slot) taken.live ∙ insert_here (g.M.Memory.seen c.self.inside.memory).live slot slot taken.clause refl,
       taken.same,
     )
 
@@ -107,7 +107,7 @@ returns-in-Ok-clause-others g c s apart =
     ap (λ l. maps.get l s) taken.live ∙ insert_other (g.M.Memory.seen c.self.inside.memory).live c.in_ok-slot.slot s taken.clause (λ e. apart (e ∙ sym c.at.ensures)) ∙ ap (λ v. maps.get v.live s) c.self.view_is
 
 pub returns-in-Ok-clause-live_alone : goal.returns-in-Ok-clause-live_alone
-returns-in-Ok-clause-live_alone g c = live_alone (g.M.Memory.seen c.put_in-taken.new.memory).live (g.M.Memory.seen c.put_in-taken.new.memory).stored c.unmark_all.new.marks _ (invariant_of-self-in-Ok g c).0
+returns-in-Ok-clause-live_alone g c = live_alone (g.M.Memory.seen c.take_in.new.memory).live (g.M.Memory.seen c.take_in.new.memory).stored c.take_in.new.marks _ (invariant_of-self-in-Ok g c).0
 
 -- ---- Where no memory is left for the index
 
@@ -124,11 +124,11 @@ pub invariant_of-self-in-Err : goal.invariant_of-self-in-Err
 invariant_of-self-in-Err g c =
     let i = c.self.inside in
     let m = g.M.Memory.seen c.remove.new.self in
-    let marks = c.unmark_all.new.marks in
+    let marks = c.take_in.new.marks in
     let taken = c.in_ok-slot.ensures.taken in
     let live = undone taken c.remove.ensures.live in
     let stored = c.remove.ensures.live_alone ∙ ap memory.literals_in live ∙ sym c.self.invariant.0.stored_is in
-    let same = sound_same (g.M.Memory.seen i.memory).live (g.M.Memory.seen i.memory).stored i.marks i.sum c.self.invariant.0 marks (λ l h. c.unmark_all.ensures.known l ∙ c.put_in-taken.ensures.still_known l h) c.unmark_all.ensures.clear in (
+    let same = sound_same (g.M.Memory.seen i.memory).live (g.M.Memory.seen i.memory).stored i.marks i.sum c.self.invariant.0 marks (λ l h. c.take_in.ensures.still_known l h) c.take_in.ensures.clear in (
       subst (λ n. IsStore m.live n marks i.sum) (sym stored) (subst (λ l. IsStore l (g.M.Memory.seen i.memory).stored marks i.sum) (sym live) same),
       subst (g.I.Indexing.indexes c.list_up.new.index) (sym live) (c.in-Err.ensures.same_index (g.M.Memory.seen i.memory).live c.self.invariant.1),
       subst (AreKept c.list_up.new.kept) (sym live) (c.in-Err.ensures.same_kept (g.M.Memory.seen i.memory).live c.self.invariant.2 taken.free),
@@ -143,4 +143,4 @@ returns-in-Err-clause-err_stored g c =
     c.remove.ensures.live_alone ∙ ap memory.literals_in (undone c.in_ok-slot.ensures.taken c.remove.ensures.live) ∙ sym c.self.invariant.0.stored_is ∙ ap (λ v. v.stored) c.self.view_is
 
 pub returns-in-Err-clause-live_alone : goal.returns-in-Err-clause-live_alone
-returns-in-Err-clause-live_alone g c = live_alone (g.M.Memory.seen c.remove.new.self).live (g.M.Memory.seen c.remove.new.self).stored c.unmark_all.new.marks _ (invariant_of-self-in-Err g c).0
+returns-in-Err-clause-live_alone g c = live_alone (g.M.Memory.seen c.remove.new.self).live (g.M.Memory.seen c.remove.new.self).stored c.take_in.new.marks _ (invariant_of-self-in-Err g c).0

@@ -1,4 +1,4 @@
-use Rattle.std.proofs.Common.{length, ap, sym}
+use Rattle.std.proofs.Common.{length, ap, sym, arith}
 use Rattle.std.specs.Vec.{vec_capacity}
 use Rattle.tables.specs.Table.{at}
 use Rattle.tables.specs.Filled as filled
@@ -13,6 +13,7 @@ invariant_of-result c =
       trail_empty c.new.result.items (reserved_in (at c.new-2.result)) (vec_capacity c.new.result) (at c.new-2.result)
           (filled.at c.new-3.result) c.new.ensures.items none c.new-2.ensures c.new-3.ensures,
       ap length (sym none),
+      (λ v some most. absurd (omega (arith, some, most))),
     )
 
 pub returns-clause-reserved : goal.returns-clause-reserved

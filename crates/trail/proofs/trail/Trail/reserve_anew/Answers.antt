@@ -1,4 +1,4 @@
-use Rattle.std.proofs.Common.{◌≡◌, ℕ, ◌≤◌, ◌∙◌, true, is_some, inl, inr}
+use Rattle.std.proofs.Common.{◌≡◌, ℕ, ◌<◌, ◌≤◌, ◌∙◌, Bool, true, false, cond, eqb, Option, is_some, inl, inr}
 use Rattle.std.proofs.Common.{length, refl, sym, ap, subst, arith}
 use Rattle.std.proofs.lemmas.Bool.{cases_eq}
 use Rattle.std.proofs.lemmas.Bool.Decides.{nat_tests}
@@ -15,6 +15,14 @@ use Rattle.trail.proofs.trail.Trail.reserve_anew.Goals as goal
 in_range : (v : ℕ) → is_variable v ≡ true → (1 ≤ v) × (v ≤ 268435455)
 in_range v h = grind (arith, nat_tests)
 
+seen_or : {A : Type 0} (b : Bool) (x y : Option A) → is_some x ≡ true → (b ≡ false → is_some y ≡ true) → is_some (cond b x y) ≡ true
+seen_or true x y here there = here
+seen_or false x y here there = there refl
+
+-- the variables were all reserved before, but for the one that is
+up_to : (dense w v : ℕ) → (dense < w → w ≡ v) → eqb w v ≡ false → w ≤ dense
+up_to dense w v next other = grind (arith, nat_tests)
+
 pub invariant_of-self-in_err-reserve-2 : goal.invariant_of-self-in_err-reserve-2
 invariant_of-self-in_err-reserve-2 c =
     let t = c.self.inside in
@@ -27,6 +35,7 @@ invariant_of-self-in_err-reserve-2 c =
       subst (λ ls. IsTrail ls (reserved_in (at c.reserve-2.new.self)) (vec_capacity c.reserve.new.self) (at c.reserve-2.new.self) (filled.at c.reserve_both.new.values)) (sym c.reserve.ensures.items)
           (subst (λ vs. IsTrail t.lits.items vs (vec_capacity c.reserve.new.self) (at c.reserve-2.new.self) (filled.at c.reserve_both.new.values)) (sym same) wide),
       c.self.invariant.1 ∙ ap length (sym same),
+      (λ w some most. ap is_some (kept w) ∙ c.self.invariant.2 w some most),
     )
 
 pub invariant_of-self-2 : goal.invariant_of-self-2
@@ -54,6 +63,7 @@ invariant_of-self-2 c =
     room positive negative in (
       subst (λ ls. IsTrail ls after capacity (at c.reserve-2.new.self) (filled.at values)) (sym c.reserve.ensures.items) reserved,
       omega (arith, more, c.self.invariant.1),
+      (λ w some most. ap is_some (puts w) ∙ seen_or (eqb w v) _ _ refl (λ other. c.self.invariant.2 w some (up_to t.dense w v (c.dense_with-self-inside.ensures w most) other))),
     )
 
 pub returns-clause-reserved : goal.returns-clause-reserved

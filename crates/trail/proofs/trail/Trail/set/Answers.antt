@@ -35,4 +35,5 @@ invariant_of-self c =
       subst (λ n. IsTrail c.push_reserved.new.self.items (reserved_in (at t.seen)) n (at t.seen) (filled.at c.set_both.new.values)) (sym c.push_reserved.ensures.capacity)
           (subst (λ ls. IsTrail ls (reserved_in (at t.seen)) (vec_capacity t.lits) (at t.seen) (filled.at c.set_both.new.values)) (sym c.push_reserved.ensures.items) set),
       c.self.invariant.1,
+      c.self.invariant.2,
     )

@@ -28,4 +28,5 @@ invariant_of-self c =
       subst (λ n. IsTrail c.remove-l.new.self.items (reserved_in (at t.seen)) n (at t.seen) (filled.at c.set_both.new.values)) (sym c.remove-l.ensures.capacity)
           (subst (λ ls. IsTrail ls (reserved_in (at t.seen)) (vec_capacity t.lits) (at t.seen) (filled.at c.set_both.new.values)) (sym c.remove-l.ensures.items) out),
       c.self.invariant.1,
+      c.self.invariant.2,
     )

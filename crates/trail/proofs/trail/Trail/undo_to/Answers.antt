@@ -19,4 +19,5 @@ invariant_of-self c =
       subst (λ capacity. IsTrail c.truncate.new.self.items (reserved_in (at t.seen)) capacity (at t.seen) (filled.at c.open_all.new.values)) (sym c.truncate.ensures.capacity)
           (subst (λ ls. IsTrail ls (reserved_in (at t.seen)) (vec_capacity t.lits) (at t.seen) (filled.at c.open_all.new.values)) (ap (take c.args.n) c.deref.ensures.value ∙ sym c.truncate.ensures.items) taken),
       c.self.invariant.1,
+      c.self.invariant.2,
     )
