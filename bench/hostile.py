@@ -342,10 +342,27 @@ def deleted_in(order, clauses):
     return clauses, ["d " + clause(*clauses[i]) for i in order]
 
 
+def shuffled(items):
+    """The same in no order."""
+    source = numbers(1)
+    return sorted(items, key=lambda _: next(source))
+
+
+@kind(DRAT, 8000)
+def list_in_order(n):
+    """All clauses of a long watch list are deleted, from its front on."""
+    return deleted_in(range(n), sharing(n))
+
+
+@kind(DRAT, 8000)
+def list_from_behind(n):
+    """The same from its end."""
+    return deleted_in(range(n)[::-1], sharing(n))
+
+
 @kind(DRAT, 8000)
 def list_from_two_places(n):
-    """All clauses of a long watch list are deleted, by turns from its front and from its middle on. The last entries fill the gaps,
-    so that the rows of a list many times as long fall apart, and it costs more."""
+    """The same by turns from its front and from its middle on."""
     return deleted_in([at for pair in zip(range(n), range(n, 2 * n)) for at in pair], sharing(2 * n))
 
 
@@ -355,11 +372,43 @@ def list_by_strides(n):
     return deleted_in([at for first in range(50) for at in range(first, n, 50)], sharing(n))
 
 
-@kind(DRAT, 8000, is_linear=False)
+@kind(DRAT, 8000)
 def list_in_no_order(n):
     """The same in no order."""
-    source = numbers(1)
-    return deleted_in(sorted(range(n), key=lambda _: next(source)), sharing(n))
+    return deleted_in(shuffled(range(n)), sharing(n))
+
+
+@kind(DRAT, 8000)
+def lists_in_no_order(n):
+    """The same of four such lists by turns."""
+    lists = 4
+    own = range(lists + 1, lists + 2 * lists * n, 2)
+    clauses = [(1 + i % lists, at, at + 1) for i, at in enumerate(own)]
+    return deleted_in(shuffled(range(len(clauses))), clauses)
+
+
+@kind(DRAT, 8000)
+def list_visited_between(n):
+    """The same of one list, in which four additions move the entries meanwhile: each is checked by propagation that visits the list,
+    and takes a fourth of the entries out."""
+    parts = 4
+    of_parts = range(2, parts + 2)
+    clauses = [(1, 2 + i % parts, parts + 2 + i) for i in range(n)]
+    _, lines = deleted_in(shuffled(range(n)), clauses)
+    proof = []
+    for i, one in enumerate(of_parts):
+        proof += [clause(1, *(-it for it in of_parts if it != one)), *lines[i * n // parts:(i + 1) * n // parts]]
+    return clauses, proof
+
+
+@kind(DRAT, 8000)
+def list_with_additions(n):
+    """A clause is added to a long watch list and deleted again, and then one that was there before, in no order. What is assumed first
+    clashes at once, so that propagation doesn't visit the list."""
+    clauses = [(1, 2 * i, 2 * i + 1) for i in range(2, n + 2)]
+    one = clause(2, 1, 3)
+    _, lines = deleted_in(shuffled(range(n)), clauses)
+    return [(2, 3), (2, -3), *clauses], [line for gone in lines for line in (one, "d " + one, gone)]
 
 
 def scattered(count):

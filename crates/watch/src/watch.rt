@@ -419,7 +419,10 @@ impl Propagate for Watch {
         let short = self.short_entries();
         if !self.has_refused && is_sparse(self.store.end(), self.store.literals(), short) {
             self.gather_sparse();
+            return;
         }
+        // Where memory is refused, entries only take longer to find.
+        let _ = self.lists.index_places(self.alloc, self.seed);
     }
 
     fn find(&mut self, lits: &[Lit]) -> Option<Slot> {

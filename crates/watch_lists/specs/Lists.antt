@@ -50,6 +50,9 @@ list_at watches l = by_key.list_at watches.lists l
 abbrev pub has_list_at : WatchLists → Literal → Bool
 has_list_at watches l = by_key.has_list_at watches.lists l
 
--- the entries of all lists; each field has to be named here
+-- the entries of all lists; each field has to be named here; those of the places have numbers, of
+-- lists and of what stands in them
 abbrev pub entries_in : WatchLists → ℕ
-entries_in watches = let record { lists = lists; places = _ } = watches in by_key.entries_in lists
+entries_in watches =
+    let record { lists = lists; places = record { noted = _; tables = _; wanted = _ } } = watches in
+    by_key.entries_in lists

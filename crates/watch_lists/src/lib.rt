@@ -3,6 +3,8 @@
 
 mod cursor;
 mod lists;
+mod place_table;
+mod places;
 mod slot_list;
 mod taken;
 mod watcher;

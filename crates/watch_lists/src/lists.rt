@@ -1,9 +1,7 @@
 //! Watch lists: by literal the entries of the clauses that watch it.
 //!
-//! To remove a clause takes no memory: its two lists are searched for its entries. Solvers delete
-//! clauses in the order in which they have them, or in the opposite one, so a long list is first
-//! searched around the places where its last entries were taken out. There are 128 times four such
-//! places, by the last bits of the literal's key: two long lists that share them only cost a search.
+//! To remove a clause takes no memory: its two lists are searched for its entries. So a table of
+//! places, which shortens the searches of a long list, is made when there is leave to take memory.
 
 ghost use Rattle.std.specs.Prelude.{◌≡◌, ℕ, ◌+◌, ◌==◌, ◌&&◌, ◌++◌, ◌∷◌, [], length, min};
 ghost use Rattle.std.specs.Prelude.{if◌then◌else◌, IsTrue, OnOk, OnErr, true, false, ◌≢◌, ◌<◌, ◌≤◌};
@@ -11,6 +9,7 @@ ghost use Rattle.cnf_base.specs.Literals.{Literal, Clause, has};
 ghost use Rattle.watch_lists.specs.Lists.{entries_in, entries_of, fits, has_list_at};
 ghost use Rattle.watch_lists.specs.Lists.{list_at, marked_entries, unfit_entries};
 
+use crate::places::Places;
 use crate::taken::take_off;
 use crate::watcher::Watcher;
 use cnf_base::{Lit, OutOfMemory};
@@ -21,17 +20,9 @@ use tables::{Lists, key};
 #[derive(Drop)]
 pub struct WatchLists {
     lists: Lists<Watcher>,
-    /// Where in its list the entries stood that were taken out last, the latest first, by the last
-    /// bits of the literal's key. Clauses that are deleted one after the other often stand side by
-    /// side, or by turns in a few such rows.
-    places: [usize; LISTS * EACH],
+    /// Where their entries may stand.
+    places: Places,
 }
-
-/// By how many last bits' numbers places are noted.
-const LISTS: usize = 128;
-
-/// How many places are noted by each.
-const EACH: usize = 4;
 
 impl WatchLists {
     /// No lists.
@@ -41,7 +32,7 @@ impl WatchLists {
     {
         WatchLists {
             lists: Lists::new(alloc),
-            places: [0; LISTS * EACH],
+            places: Places::new(alloc),
         }
     }
 
@@ -121,11 +112,44 @@ impl WatchLists {
             unfit_entries s c k (list_at self.new k) ≤ unfit_entries s c k (list_at self.old k) }
         ensures entries { entries_in self.new + 1 ≡ entries_in self.old }
     {
-        let first = l.index() % LISTS * EACH;
-        let places = &mut self.places[first..first + EACH];
-        let mut watchers = self.lists.take_out(key(l));
-        take_off(&mut watchers, slot, is_binary, places);
-        self.lists.put_back(key(l), watchers);
+        let number = key(l);
+        let mut watchers = self.lists.take_out(number);
+        take_off(&mut watchers, slot, is_binary, &mut self.places, number);
+        self.lists.put_back(number, watchers);
+    }
+
+    /// Makes a table of places for a list in which too many entries were passed over in searches,
+    /// if there is one, so that they are taken off sooner. It hashes by the seed, a number that
+    /// whoever chooses the clauses shouldn't know.
+    ///
+    /// # Errors
+    ///
+    /// Where memory runs out. Entries are taken off all the same.
+    #[inline]
+    pub fn index_places(&mut self, alloc: Global, seed: u64) -> Result<(), OutOfMemory>
+        ensures lists { (l : Literal) → list_at self.new l ≡ list_at self.old l }
+        ensures entries { entries_in self.new ≡ entries_in self.old }
+    {
+        match self.places.take_wanted() {
+            Some(number) => self.index_list(number, alloc, seed),
+            None => Ok(()),
+        }
+    }
+
+    /// Makes a table of places for the list with this number.
+    #[cold]
+    #[inline(never)]
+    fn index_list(&mut self, number: u32, alloc: Global, seed: u64) -> Result<(), OutOfMemory>
+        ensures lists { (l : Literal) → list_at self.new l ≡ list_at self.old l }
+        ensures entries { entries_in self.new ≡ entries_in self.old }
+    {
+        if !self.lists.has_list(number) {
+            return Ok(());
+        }
+        let list = self.lists.take_out(number);
+        let indexed = self.places.index(alloc, seed, number, &list);
+        self.lists.put_back(number, list);
+        indexed
     }
 
     /// Puts the slot of a clause into the lists of two literals of it, or into none where memory is

@@ -2,11 +2,9 @@
 //!
 //! It looks at 64 entries at once, then 16, then one by one. The more at once, the fewer
 //! instructions an entry, up to what a processor's registers allow. It compares slot and mark in
-//! one number, so that no slot is worked out. In a long list it looks around the place first where
-//! an entry was taken out last. In a very long one it then looks around the last four such places,
-//! by turns, and behind the last: so entries that are taken out in a few rows, upwards, downwards or
-//! by strides, cost what lies between two of a row. Entries that are taken out in no order cost a
-//! search of the list.
+//! one number, so that no slot is worked out. Where the list isn't short it looks around the place
+//! first where an entry was taken out last, and where it is long, by a table of places and farther
+//! around that place then.
 
 ghost use Rattle.std.specs.Prelude.{◌≡◌, ℕ, ◌+◌, ◌==◌, length, if◌then◌else◌, IsTrue, IfSome, take};
 ghost use Rattle.std.specs.Prelude.{◌<◌, ◌≤◌};
@@ -14,6 +12,7 @@ ghost use Rattle.cnf_base.specs.Literals.{Clause};
 ghost use Rattle.watch_lists.specs.Lists.{entries_of, marked_entries, unfit_entries};
 ghost use Rattle.watch_lists.specs.Code.Lists.{code_at, entries_with};
 
+use crate::places::{Found, LONG, Places};
 use crate::watcher::{Watcher, code_of};
 
 /// How many entries are looked at without a branch, by a processor's wide registers, where a list
@@ -25,12 +24,6 @@ const FEW_AT_ONCE: usize = 16;
 
 /// How far around a place an entry is looked for, one by one.
 const AROUND: usize = 8;
-
-/// How many entries a list has at least where one is then looked for around all noted places.
-const LONG: usize = 1000;
-
-/// How often it is looked farther around them, as many entries at once behind each and before it.
-const TURNS: usize = 4;
 
 /// Whether none of these entries has the code.
 #[inline(always)]
@@ -119,13 +112,6 @@ fn place_around(list: &[Watcher], code: u32, middle: usize) -> Option<usize>
     place_between(list, code, middle.saturating_sub(AROUND), end)
 }
 
-/// An entry that was found, and which of the noted places it replaces.
-#[derive(Clone, Copy)]
-struct Found {
-    place: usize,
-    replaced: usize,
-}
-
 /// The place of an entry with this code among those so far behind a place, or so far before it.
 fn place_apart(list: &[Watcher], code: u32, middle: usize, apart: usize) -> Option<usize>
     ensures inside { IfSome result (λ place. place < length list.now) }
@@ -141,93 +127,65 @@ fn place_apart(list: &[Watcher], code: u32, middle: usize, apart: usize) -> Opti
     place_within(list, code, before.saturating_sub(MANY_AT_ONCE), before)
 }
 
-/// An entry with this code that stands so far from one of these places.
-fn found_apart(list: &[Watcher], code: u32, places: &[usize], apart: usize) -> Option<Found>
+/// An entry with this code, if one is found, sought by turns behind the place where one was taken
+/// out last, before it, and from the end on, where those stand that came to the list of late.
+#[inline(never)]
+fn found_by_turns(list: &[Watcher], code: u32, last: usize) -> Option<Found>
     ensures inside { IfSome result (λ found. found.place < length list.now) }
     ensures there { IfSome result (λ found. code_at list.now found.place ≡ code) }
 {
-    for at in 0..places.len() {
-        if let Some(place) = place_apart(list, code, places[at], apart) {
-            return Some(Found {
-                place,
-                replaced: at,
-            });
+    for turn in 0..list.len() / (4 * MANY_AT_ONCE) {
+        let apart = turn * MANY_AT_ONCE;
+        let mut place = place_apart(list, code, last, apart);
+        if place.is_none() {
+            place = place_apart(list, code, list.len(), apart);
+        }
+        if let Some(place) = place {
+            let passed = apart.saturating_mul(3);
+            return Some(Found { place, passed });
         }
     }
     None
 }
 
-/// An entry with this code that stands near one of these places, sought around each of them by
-/// turns.
-#[inline(never)]
-fn found_by_turns(list: &[Watcher], code: u32, places: &[usize]) -> Option<Found>
-    ensures inside { IfSome result (λ found. found.place < length list.now) }
-    ensures there { IfSome result (λ found. code_at list.now found.place ≡ code) }
-{
-    for turn in 0..TURNS {
-        let found = found_apart(list, code, places, turn * MANY_AT_ONCE);
-        if found.is_some() {
-            return found;
-        }
-    }
-    None
-}
-
-/// The place of an entry with this code behind a place, if one stands there.
-#[inline(never)]
-fn place_behind(list: &[Watcher], code: u32, middle: usize) -> Option<usize>
-    ensures inside { IfSome result (λ place. place < length list.now) }
-    ensures there { IfSome result (λ place. code_at list.now place ≡ code) }
-{
-    let chunk = pass_over(list, code, middle.min(list.len()), MANY_AT_ONCE);
-    let end = chunk.saturating_add(MANY_AT_ONCE).min(list.len());
-    place_between(list, code, chunk, end)
-}
-
-/// An entry with this code in a list that has one. Where the list is long, it is sought around the
-/// place that was noted last, and where it is very long, around all of them and then behind the
-/// last. One that stands near none of them has a place of its own noted instead of the oldest.
-fn found_in(list: &[Watcher], code: u32, places: &[usize]) -> Found
+/// An entry with this code in a list that has one. Where the list isn't short, it is sought around
+/// the place where one was taken out last, and where it is long, by its table and by turns then.
+fn found_in(list: &[Watcher], code: u32, places: &Places, number: u32) -> Found
     requires { 0 < entries_with code list.now }
     ensures inside { result.place < length list.now }
     ensures there { code_at list.now result.place ≡ code }
 {
-    let last = places.first().copied().unwrap_or(0);
+    let last = places.last(number);
     if list.len() >= MANY_AT_ONCE {
         if let Some(place) = place_around(list, code, last) {
-            return Found { place, replaced: 0 };
+            return Found { place, passed: 0 };
         }
     }
     if list.len() >= LONG {
-        if let Some(found) = found_by_turns(list, code, places) {
-            return found;
+        if let Some(place) = places.place(number, list, code) {
+            return Found { place, passed: 0 };
         }
-        if let Some(place) = place_behind(list, code, last) {
-            return Found {
-                place,
-                replaced: places.len().saturating_sub(1),
-            };
+        if let Some(found) = found_by_turns(list, code, last) {
+            return found;
         }
     }
     let far = pass_over(list, code, 0, MANY_AT_ONCE);
     let near = pass_over(list, code, far, FEW_AT_ONCE);
     Found {
         place: place_from(list, code, near),
-        replaced: places.len().saturating_sub(1),
+        passed: list.len(),
     }
 }
 
-/// Notes a place as the latest, in the stead of one of the others.
-fn note(places: &mut [usize], found: Found) {
-    if found.replaced < places.len() {
-        places.copy_within(0..found.replaced, 1);
-        places[0] = found.place;
-    }
-}
-
-/// Takes the entry of a slot with this mark out of a list that has one, and notes where it stood.
-/// Entries were taken out at these places before, the latest first.
-pub(crate) fn take_off(list: &mut Vec<Watcher>, slot: u32, is_binary: bool, places: &mut [usize])
+/// Takes the entry of a slot with this mark out of a list that has one, and takes note of its
+/// place. The list has a number.
+pub(crate) fn take_off(
+    list: &mut Vec<Watcher>,
+    slot: u32,
+    is_binary: bool,
+    places: &mut Places,
+    number: u32,
+)
     requires low { slot < 2147483648 }
     requires there { 0 < marked_entries slot is_binary list.old.items }
     ensures times { (s : ℕ) → entries_of s list.new.items + (if s == slot then 1 else 0) ≡
@@ -236,7 +194,7 @@ pub(crate) fn take_off(list: &mut Vec<Watcher>, slot: u32, is_binary: bool, plac
         unfit_entries s c l list.new.items ≤ unfit_entries s c l list.old.items }
     ensures len { length list.new.items + 1 ≡ length list.old.items }
 {
-    let found = found_in(list, code_of(slot, is_binary), places);
+    let found = found_in(list, code_of(slot, is_binary), places, number);
     list.swap_remove(found.place);
-    note(places, found);
+    places.note(number, list, found);
 }
