@@ -6,17 +6,20 @@ use Rattle.std.specs.List.{list_any}
 use Rattle.std.specs.Prelude.{◌≡◌, ℕ, List, Some, IsTrue, if◌then◌else◌}
 use Rattle.cnf_base.specs.Literals.{Clause, Literal, complement, has, size}
 use Rattle.cnf_base.specs.Maps.{sum_over}
+pub use Rattle.clause_memory.specs.Memory.{slots_for}
 
 -- a store, as its callers see it
 pub record StoreState : Type 0 where
   -- the live clauses, each in its slot
   pub live : FinMap nat_cmp Clause
+  -- how many slots there are, free ones too: no clause is in a slot from this number on
+  pub slots : ℕ
   -- the sum of the lengths of all lists of literals that it keeps
   pub stored : ℕ
 
 -- a store with nothing in it
 abbrev pub no_clauses : StoreState
-no_clauses = record { live = maps.empty; stored = 0 }
+no_clauses = record { live = maps.empty; slots = 0; stored = 0 }
 
 -- the sum of the sizes of the clauses
 abbrev pub literals_in : FinMap nat_cmp Clause → ℕ

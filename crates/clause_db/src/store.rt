@@ -23,7 +23,8 @@ ghost use Rattle.std.specs.FinMap as maps;
 ghost use Rattle.std.specs.FinMap.{FinMap};
 ghost use Rattle.cnf_base.specs.Literals.{Clause, has, same_clause, size};
 ghost use Rattle.clause_memory.specs.Blocks.{CanRewatch, IsRewatched};
-ghost use Rattle.clause_db.specs.Store.{literals_in, copies_with, no_clauses, IsTouchedAt};
+ghost use Rattle.clause_db.specs.Store.{literals_in, copies_with, no_clauses, slots_for};
+ghost use Rattle.clause_db.specs.Store.{IsTouchedAt};
 ghost use Rattle.clause_db.specs.Code.Counts.{AreCounted};
 ghost use Rattle.clause_db.specs.Code.Fields.{IsTakenIn};
 ghost use Rattle.clause_db.specs.Code.Kept.{AreKept};
@@ -50,9 +51,9 @@ const FEW: usize = 8;
 
 /// The live clauses of a proof checker, each in a slot that the store picks.
 ///
-/// Contracts see it as a finite map from the numbers of the slots to the clauses, and the number of
-/// literals that it keeps. A clause is the set of its literals: the store keeps each literal once,
-/// in an order that it picks. They stand in a memory of either kind. One with
+/// Contracts see it as a finite map from the numbers of the slots to the clauses, how many slots
+/// there are, and how many literals it keeps. A clause is the set of its literals: the store keeps
+/// each literal once, in an order that it picks. They stand in a memory of either kind. One with
 /// [`NoIndex`](crate::NoIndex) finds no clause by its literals, and takes less memory.
 #[derive(Drop)]
 pub struct Store<M: Memory = Blocks, I: Indexing = Index> {
@@ -90,6 +91,7 @@ impl<M: Memory, I: Indexing> Model for Store<M, I> {
       occurrences = _;
     }. record {
       live = (M.seen memory).live;
+      slots = (M.seen memory).slots;
       stored = (M.seen memory).stored;
     } };
 
@@ -132,6 +134,8 @@ fn put_in<M: Memory>(
     ensures still_known { (l : ℕ) → IsSome (at marks.old l) → IsSome (at marks.new l) }
     ensures some { (l : ℕ) → is_marked (at marks.new l) ≡ true → has lits.now l ≡ true }
     ensures err { OnErr result (M.seen memory.new ≡ M.seen memory.old) }
+    ensures few_slots { (M.seen memory.new).slots ≤
+        (M.seen memory.old).slots + slots_for (size lits.now) }
 {
     let len = mark_new(marks, lits)?;
     if len == lits.len() {
@@ -156,6 +160,8 @@ fn take_in<M: Memory>(
     ensures still_known { (l : ℕ) → IsSome (at marks.old l) → IsSome (at marks.new l) }
     ensures clear { (l : ℕ) → is_marked (at marks.new l) ≡ false }
     ensures err { OnErr result (M.seen memory.new ≡ M.seen memory.old) }
+    ensures few_slots { (M.seen memory.new).slots ≤
+        (M.seen memory.old).slots + slots_for (size lits.now) }
 {
     if lits.len() <= FEW && are_different(lits) {
         make_known(marks, lits)?;
@@ -224,7 +230,7 @@ impl<M: Memory, I: Indexing> Store<M, I> {
     }
 
     /// Stores a clause in a slot that is free, and fails only where memory is refused. A repeated
-    /// literal is kept once.
+    /// literal is kept once. Where it fails late, slots that it made stay.
     pub fn insert(&mut self, lits: &[Lit]) -> Result<Slot, OutOfMemory>
         ensures free { IfOk result (λ slot. maps.get self.old.live slot ≡ None) }
         ensures stored { IfOk result (λ slot. (c : Clause) ×
@@ -234,6 +240,7 @@ impl<M: Memory, I: Indexing> Store<M, I> {
         ensures live_alone { self.new.stored ≡ literals_in self.new.live }
         ensures err_live { OnErr result (self.new.live ≡ self.old.live) }
         ensures err_stored { OnErr result (self.new.stored ≡ self.old.stored) }
+        ensures few_slots { self.new.slots ≤ self.old.slots + slots_for (size lits.now) }
     {
         let slot = take_in(self.alloc, &mut self.memory, &mut self.marks, lits)?;
         let kept = self.memory.clause(slot);
@@ -260,6 +267,7 @@ impl<M: Memory, I: Indexing> Store<M, I> {
         requires { IsSome (maps.get self.old.live slot) }
         ensures live { self.new.live ≡ maps.remove self.old.live slot }
         ensures live_alone { self.new.stored ≡ literals_in self.new.live }
+        ensures slots { self.new.slots ≡ self.old.slots }
     {
         let number = slot.number();
         let lits = self.memory.clause(number);
@@ -289,9 +297,10 @@ impl<M: Memory, I: Indexing> Store<M, I> {
         let _sum = self.sum;
     }
 
-    /// No slot from this number on has a clause.
+    /// How many slots there are, free ones too. No slot from this number on has a clause.
     pub fn end(&self) -> usize
-        ensures { (s : ℕ) → IsSome (maps.get self.now.live s) → s < result }
+        ensures value { result ≡ self.now.slots }
+        ensures past { (s : ℕ) → IsSome (maps.get self.now.live s) → s < result }
     {
         self.memory.end()
     }
@@ -421,6 +430,7 @@ impl Store {
         ensures live { (c : Clause) → maps.get self.old.live slot ≡ Some c →
             self.new.live ≡ maps.insert self.old.live slot (swap c a b) }
         ensures live_alone { self.new.stored ≡ literals_in self.new.live }
+        ensures slots { self.new.slots ≡ self.old.slots }
     {
         self.memory.swap(slot.number(), a, b);
     }
@@ -433,6 +443,7 @@ impl Store {
         requires { CanRewatch self.old.live slot other next to l }
         ensures live { IsRewatched self.old.live self.new.live slot other to l }
         ensures live_alone { self.new.stored ≡ literals_in self.new.live }
+        ensures slots { self.new.slots ≡ self.old.slots }
     {
         self.memory.rewatch(slot.number(), other, next, to, l);
     }

@@ -1,19 +1,20 @@
 -- How many blocks and how many clauses there are of one size.
 use Rattle.std.proofs.Common.{◌≡◌, ◌≢◌, ℕ, ◌+◌, ◌≤◌, true, cond, eqb, eq-eqb, ne_eqb}
-use Rattle.std.proofs.Common.{Option, Some, None, is_some, List, length, sym, ap, ◌∙◌, subst, arith, inl, inr}
+use Rattle.std.proofs.Common.{Option, Some, None, is_some, List, length, refl, sym, ap, ◌∙◌, subst, arith, inl, inr}
 use Rattle.std.specs.Ordering.{nat_cmp}
 use Rattle.std.specs.FinMap as maps
 use Rattle.std.specs.FinMap.{FinMap}
 use Rattle.std.proofs.lemmas.Bool.{cases_eq}
 use Rattle.std.proofs.lemmas.Option.{same_Some}
 use Rattle.cnf_base.specs.Literals.{Clause}
-use Rattle.clause_memory.specs.Blocks.{AddsFewBlocks, blocks_with, clauses_with, cells_for}
+use Rattle.clause_memory.specs.Blocks.{AddsFewBlocks, blocks_with, cells_for, cells_in, clauses_with}
 use Rattle.clause_memory.specs.Code.Fields.{IsMemory}
 use Rattle.clause_memory.specs.Code.Cells.{blocks_in, clause_at, clauses_in}
 use Rattle.clause_memory.specs.declared.kind.Kind.{Kind}
 use Rattle.clause_memory.proofs.BlockLemmas.{block_is}
 use Rattle.clause_memory.proofs.ClauseLemmas.{alive_kind, clause_len, get_live}
-use Rattle.cnf_base.proofs.MapLemmas.{inserted_is, sum_insert, sum_lighter, weight_at}
+use Rattle.cnf_base.proofs.MapLemmas.{inserted_is, remove_here, remove_other, sum_insert, sum_lighter}
+use Rattle.cnf_base.proofs.MapLemmas.{sum_remove, weight_at}
 
 -- ---- Blocks and clauses
 
@@ -40,6 +41,20 @@ module _ {ks : List Kind} {words : List ℕ} {heads : ℕ → Option ℕ} (memor
             omega (arith, one, test))
         | inr ne ↦ (let test = ap (λ b. cond {A = ℕ} b 1 0) (ne_eqb m n ne) in omega (arith, test))
       ]
+
+-- one block alone that is new, or has another size
+pub one_block_more : (old new : FinMap nat_cmp ℕ) (slot n : ℕ) → maps.get new slot ≡ Some n → ((s : ℕ) → s ≢ slot → maps.get new s ≡ maps.get old s) → cells_in new ≤ cells_in old + n
+one_block_more old new slot n here others = by_option (maps.get old slot) refl
+  where
+    by_option : (o : Option ℕ) → maps.get old slot ≡ o → cells_in new ≤ cells_in old + n
+    by_option None is =
+        let more = ap cells_in (inserted_is old new slot n here others) ∙ sum_insert (λ m. m) old slot n is in
+        omega arith
+    by_option (Some m) is =
+        let without = sum_remove (λ m. m) old slot m is in
+        let again = inserted_is (maps.remove old slot) new slot n here (λ s ne. others s ne ∙ sym (remove_other old slot s ne)) in
+        let more = ap cells_in again ∙ sum_insert (λ m. m) (maps.remove old slot) slot n (remove_here old slot slot refl) in
+        omega arith
 
 -- a further block, where each of its size has a clause
 pub one_more_block : (old new : FinMap nat_cmp ℕ) (live : FinMap nat_cmp Clause) (slot added : ℕ) → blocks_with added old ≤ clauses_with added live → maps.get old slot ≡ None → maps.get new slot ≡ Some added →

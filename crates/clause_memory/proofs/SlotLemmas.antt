@@ -114,18 +114,18 @@ slots_with old new slot end later v updates is low more few = record {
 
 -- ---- What is seen
 
-pub some_held : (slots : List (Option (SmallVec ℕ))) (state : MemoryState) → slots_seen slots ≡ state → (s : ℕ) → maps.get state.live s ≡ items_of (get_or slots s None)
-some_held slots state view s = ap (λ (v : MemoryState). maps.get v.live s) (sym view) ∙ held_at slots s
+pub some_held : (slots : List (Option (SmallVec ℕ))) (end : ℕ) (state : MemoryState) → slots_seen slots end ≡ state → (s : ℕ) → maps.get state.live s ≡ items_of (get_or slots s None)
+some_held slots end state view s = ap (λ (v : MemoryState). maps.get v.live s) (sym view) ∙ held_at slots s
 
-pub has_slot : (slots : List (Option (SmallVec ℕ))) (state : MemoryState) → slots_seen slots ≡ state → (s : ℕ) → is_some (maps.get state.live s) ≡ true → is_some (get_or slots s None) ≡ true
-has_slot slots state view s some = some_of (get_or slots s None) (ap is_some (sym (some_held slots state view s)) ∙ some)
+pub has_slot : (slots : List (Option (SmallVec ℕ))) (end : ℕ) (state : MemoryState) → slots_seen slots end ≡ state → (s : ℕ) → is_some (maps.get state.live s) ≡ true → is_some (get_or slots s None) ≡ true
+has_slot slots end state view s some = some_of (get_or slots s None) (ap is_some (sym (some_held slots end state view s)) ∙ some)
   where
     some_of : (slot : Option (SmallVec ℕ)) → is_some (items_of slot) ≡ true → is_some slot ≡ true
     some_of None h = h
     some_of (Some v) h = refl
 
-pub few_seen : (slots : List (Option (SmallVec ℕ))) (end : ℕ) → IsSlots slots end → (state : MemoryState) → slots_seen slots ≡ state → maps.len state.live ≤ 4294967295
+pub few_seen : (slots : List (Option (SmallVec ℕ))) (end : ℕ) → IsSlots slots end → (state : MemoryState) → slots_seen slots end ≡ state → maps.len state.live ≤ 4294967295
 few_seen slots end is state view = subst (λ (v : MemoryState). maps.len v.live ≤ 4294967295) view (few_held slots end is)
 
-pub stored_seen : (slots : List (Option (SmallVec ℕ))) (state : MemoryState) → slots_seen slots ≡ state → state.stored ≡ literals_in state.live
-stored_seen slots state view = subst (λ (v : MemoryState). v.stored ≡ literals_in v.live) view (slots_stored slots)
+pub stored_seen : (slots : List (Option (SmallVec ℕ))) (end : ℕ) (state : MemoryState) → slots_seen slots end ≡ state → state.stored ≡ literals_in state.live
+stored_seen slots end state view = subst (λ (v : MemoryState). v.stored ≡ literals_in v.live) view (slots_stored slots)

@@ -18,10 +18,6 @@ pub record BlocksState : Type 0 where
   -- how many of its words hold a literal of a clause
   pub stored : ℕ
 
--- what it is as a memory
-abbrev pub memory_of : BlocksState → MemoryState
-memory_of blocks = record { live = blocks.live; stored = blocks.stored }
-
 -- how many cells of four words a block for so many literals has, with its header of one word
 abbrev pub cells_for : ℕ → ℕ
 cells_for literals = literals / 4 + 1
@@ -29,6 +25,11 @@ cells_for literals = literals / 4 + 1
 -- the cells of all blocks
 abbrev pub cells_in : FinMap nat_cmp ℕ → ℕ
 cells_in blocks = sum_over (λ n. n) blocks
+
+-- what it is as a memory, which has a slot for each cell
+abbrev pub memory_of : BlocksState → MemoryState
+memory_of blocks =
+    record { live = blocks.live; slots = cells_in blocks.blocks; stored = blocks.stored }
 
 -- how many blocks have so many cells
 abbrev pub blocks_with : ℕ → FinMap nat_cmp ℕ → ℕ

@@ -1,6 +1,6 @@
 //! A memory of clauses, in one array of words.
 
-ghost use Rattle.std.specs.Prelude.{◌≡◌, ◌≢◌, ℕ, ◌*◌, ◌<◌, ◌≤◌, length};
+ghost use Rattle.std.specs.Prelude.{◌≡◌, ◌≢◌, ℕ, ◌+◌, ◌*◌, ◌<◌, ◌≤◌, length};
 ghost use Rattle.std.specs.Prelude.{Some, None, IsSome, IfOk, OnErr};
 ghost use Rattle.std.specs.FinMap as maps;
 ghost use Rattle.std.specs.List.{swap};
@@ -98,6 +98,7 @@ impl Memory for Blocks {
         ensures live { result.live ≡ maps.empty }
         ensures stored { result.stored ≡ 0 }
         ensures blocks { result.blocks ≡ maps.empty }
+        ensures slots { cells_in result.blocks ≡ 0 }
     {
         Blocks {
             kinds: Vec::new(alloc),
@@ -129,6 +130,8 @@ impl Memory for Blocks {
             IsSome (maps.get self.old.live s)) }
         ensures few_blocks { AddsFewBlocks self.old.blocks self.new.blocks self.old.live
             (cells_for (length lits.now)) }
+        ensures few_slots { cells_in self.new.blocks ≤
+            cells_in self.old.blocks + cells_for (length lits.now) }
     {
         place(&mut self.kinds, &mut self.words, &mut self.heads, lits)
     }

@@ -4,22 +4,24 @@
 //! clause's literals in another order without reading them: that is for watched literals. `Slots`
 //! are the plain choice for all others.
 
-ghost use Rattle.std.specs.Prelude.{◌≡◌, ℕ, ◌<◌, ◌≤◌, option_map, Some, None, IsSome, IfOk, OnErr};
+ghost use Rattle.std.specs.Prelude.{◌≡◌, ℕ, ◌+◌, ◌<◌, ◌≤◌, length, option_map, Some, None, IsSome};
+ghost use Rattle.std.specs.Prelude.{IfOk, OnErr};
 ghost use Rattle.std.specs.FinMap as maps;
-ghost use Rattle.clause_memory.specs.Memory.{MemoryState, literals_in};
+ghost use Rattle.clause_memory.specs.Memory.{MemoryState, literals_in, slots_for};
 
 use cnf_base::{Lit, OutOfMemory};
 use std::alloc::Global;
 
 /// The live clauses of a proof checker, each in a slot that the memory picks.
 pub trait Memory: Sized {
-    /// The live clauses by their slots, and how many literals are kept.
+    /// The live clauses by their slots, how many slots there are, and how many literals are kept.
     ghost seen: { Self → MemoryState };
 
     /// No clauses. It takes no memory.
     fn new(alloc: Global) -> Self
         ensures live { (seen result).live ≡ maps.empty }
-        ensures stored { (seen result).stored ≡ 0 };
+        ensures stored { (seen result).stored ≡ 0 }
+        ensures slots { (seen result).slots ≡ 0 };
 
     /// Puts a clause into a slot that is free. No other clause is moved.
     ///
@@ -33,13 +35,16 @@ pub trait Memory: Sized {
         ensures low { IfOk result (λ slot. slot < 4294967295) }
         ensures few { maps.len (seen self.new).live ≤ 4294967295 }
         ensures live_alone { (seen self.new).stored ≡ literals_in (seen self.new).live }
-        ensures err { OnErr result (seen self.new ≡ seen self.old) };
+        ensures err { OnErr result (seen self.new ≡ seen self.old) }
+        ensures few_slots { (seen self.new).slots ≤
+            (seen self.old).slots + slots_for (length lits.now) };
 
     /// Removes the clause in the slot. It takes no memory.
     fn remove(&mut self, slot: usize)
         requires { IsSome (maps.get (seen self.old).live slot) }
         ensures live { (seen self.new).live ≡ maps.remove (seen self.old).live slot }
-        ensures live_alone { (seen self.new).stored ≡ literals_in (seen self.new).live };
+        ensures live_alone { (seen self.new).stored ≡ literals_in (seen self.new).live }
+        ensures slots { (seen self.new).slots ≡ (seen self.old).slots };
 
     /// The literals of the clause in the slot.
     fn clause(&self, slot: usize) -> &[Lit]
@@ -50,9 +55,10 @@ pub trait Memory: Sized {
     fn at(&self, number: usize) -> Option<&[Lit]>
         ensures { option_map (λ c. c.now) result ≡ maps.get (seen self.now).live number };
 
-    /// No slot from this number on has a clause.
+    /// How many slots there are, free ones too. No slot from this number on has a clause.
     fn end(&self) -> usize
-        ensures { (s : ℕ) → IsSome (maps.get (seen self.now).live s) → s < result };
+        ensures value { result ≡ (seen self.now).slots }
+        ensures past { (s : ℕ) → IsSome (maps.get (seen self.now).live s) → s < result };
 
     /// What holds of each memory: it keeps no literals but those of the live clauses, and slots
     /// have four bytes.

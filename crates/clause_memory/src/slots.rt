@@ -19,12 +19,13 @@ const MOST: usize = 4294967295;
 /// The live clauses of a proof checker, each in a slot that the memory picks: a short clause lies
 /// in its slot, of 40 bytes, and a longer one in an allocation of its own.
 ///
-/// Contracts see it as a finite map from slots to clauses, and how many literals it keeps.
+/// Contracts see it as a finite map from slots to clauses, how many slots have been used, and how
+/// many literals it keeps.
 #[derive(Drop)]
 pub struct Slots {
     alloc: Global,
     clauses: Slab<SmallVec<Lit, SHORT>>,
-    /// No slot from this number on has a clause.
+    /// No slot from this number on has ever had a clause.
     end: usize,
 }
 
@@ -37,7 +38,7 @@ impl Model for Slots {
     ghost coded = { slots_code };
 
     // Each field has to be named here. Of them the slab alone has literals.
-    ghost view = { λ record { alloc = _; clauses = clauses; end = _ }. slots_seen clauses.slots };
+    ghost view = { λ record { alloc = _; clauses = clauses; end = end }. slots_seen clauses.slots end };
 
     ghost invariant = { λ s. IsSlots s.clauses.slots s.end };
 }
@@ -67,7 +68,9 @@ impl Memory for Slots {
     }
 
     fn insert(&mut self, lits: &[Lit]) -> Result<usize, OutOfMemory> {
-        if self.clauses.vacant_key() >= MOST {
+        // The slab gives out no key past the next one, which its contract leaves open.
+        let key = self.clauses.vacant_key();
+        if key >= MOST || key > self.end {
             return Err(OutOfMemory);
         }
         let clause = SmallVec::from_slice(self.alloc, lits)?;

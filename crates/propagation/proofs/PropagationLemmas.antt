@@ -2,6 +2,7 @@ pub mod Below
 pub mod Closing
 pub mod Counts
 pub mod Exact
+pub mod Gather
 pub mod HasAt
 pub mod Levels
 pub mod Passes

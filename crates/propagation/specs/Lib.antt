@@ -1,3 +1,5 @@
 pub mod Assumptions
 pub mod Closure
+pub mod Scan
+pub mod Slots
 pub mod Code

@@ -9,6 +9,7 @@ mod first_with;
 mod levels;
 mod propagate;
 mod scan;
+mod sparse;
 
 pub use answer::Answer;
 pub use assumptions::Assumptions;
@@ -16,4 +17,5 @@ pub use clause_source::ClauseSource;
 pub use closure::Closure;
 pub use propagate::Propagate;
 pub use scan::Scan;
+pub use sparse::is_sparse;
 pub use trail::Value;

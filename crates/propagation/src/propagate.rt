@@ -3,6 +3,7 @@
 //! - Assumed literals are known up to their order, and not at all after a clash. So propagation may
 //!   stop at the first conflict, and keeps no list of them: they are read off the trail.
 //! - A clause is shown as a set, so that its watched literals may be moved.
+//! - A refused insertion may leave free slots. So how many there are is told beside `state`.
 //! - An assumption that memory was refused to ends all later ones: what it had begun to mark need
 //!   not be known, and a session is over then anyhow.
 //! - `next_with` takes no memory, and so goes over all slots. Sessions use `touched`.
@@ -10,17 +11,17 @@
 //!   literals, and the first call of `touched` notes where each occurs: so both change the store,
 //!   which nobody else may.
 
-ghost use Rattle.std.specs.Prelude.{◌≡◌, ◌≢◌, [], ◌≤◌, ◌<◌, ◌∷◌, ℕ, min, not, true, false, ◌==◌};
+ghost use Rattle.std.specs.Prelude.{◌≡◌, ◌≢◌, [], ◌+◌, ◌≤◌, ◌<◌, ◌∷◌, ℕ, min, not, true, false, ◌==◌};
 ghost use Rattle.std.specs.Prelude.{length, Some, None, List, IsTrue, IsSome, IfSome, IfNone, IfOk};
 ghost use Rattle.std.specs.Prelude.{OnOk, OnErr};
 ghost use Rattle.std.specs.List.Sorted.{IsStrictlyIncreasing};
 ghost use Rattle.std.specs.FinMap as maps;
 ghost use Rattle.cnf_base.specs.Literals.{Clause, has, same_clause, complement, complements, size};
-ghost use Rattle.clause_db.specs.Store.{IsTouchedAt, copies_with};
+ghost use Rattle.clause_db.specs.Store.{IsTouchedAt, copies_with, slots_for};
 ghost use Rattle.propagation.specs.Assumptions.{Propagation, Assumption, Assuming, AssumingPart, AssumingFrom};
 ghost use Rattle.propagation.specs.Assumptions.{AreSameClauses, HoldsLiveAlone, HasAt, IsThere};
-ghost use Rattle.propagation.specs.Assumptions.{LastIsAnswered};
-ghost use Rattle.propagation.specs.Assumptions.{IsValue, MayAssume, assumed_by};
+ghost use Rattle.propagation.specs.Assumptions.{IsValue, LastIsAnswered, MayAssume, assumed_by};
+ghost use Rattle.propagation.specs.Slots.{most_slots};
 ghost use Rattle.theory.specs.Drat.{SameLive};
 ghost use Rattle.theory.specs.Propagation.{IsRootReason};
 ghost use Rattle.trail.specs.LiteralSet.{in_set};
@@ -44,6 +45,9 @@ pub trait Propagate {
     /// assumption was refused.
     ghost state: { Self → Propagation };
 
+    /// How many slots its clauses stand in, free ones too.
+    ghost slot_count: { Self → ℕ };
+
     /// The allocator that its memory comes from.
     fn alloc(&self) -> Global;
 
@@ -52,6 +56,7 @@ pub trait Propagate {
     fn store(&self) -> &Store<Self::Clauses>
         ensures live { AreSameClauses (state self.now).live result.now.live }
         ensures stored { (state self.now).stored ≡ result.now.stored }
+        ensures slots { slot_count self.now ≡ result.now.slots }
         ensures live_alone { HoldsLiveAlone (state self.now) };
 
     /// Stores a clause in a slot that is free, where nothing is assumed. It fails only where memory
@@ -66,7 +71,9 @@ pub trait Propagate {
         ensures nothing_assumed { (state self.new).assumptions ≡ [] }
         ensures live_alone { HoldsLiveAlone (state self.new) }
         ensures refused { (state self.new).has_refused ≡ (state self.old).has_refused }
-        ensures err { OnErr result (state self.new ≡ state self.old) };
+        ensures err { OnErr result (state self.new ≡ state self.old) }
+        ensures few_slots { slot_count self.new ≤
+            slot_count self.old + slots_for (size lits.now) };
 
     /// Takes the clause out of its slot, where nothing is assumed. Other copies of it stay. It
     /// takes no memory.
@@ -76,17 +83,25 @@ pub trait Propagate {
         ensures live { (state self.new).live ≡ maps.remove (state self.old).live slot }
         ensures live_alone { HoldsLiveAlone (state self.new) }
         ensures nothing_assumed { (state self.new).assumptions ≡ [] }
-        ensures refused { (state self.new).has_refused ≡ (state self.old).has_refused };
+        ensures refused { (state self.new).has_refused ≡ (state self.old).has_refused }
+        ensures same_slots { slot_count self.new ≡ slot_count self.old };
 
-    /// Moves the clauses together where most of the memory that they stand in is free, and nothing
-    /// is assumed. Each may have another slot then. Where memory is refused, they stay.
-    fn gather(&mut self)
+    /// Moves the clauses together where most of the slots that they stand in are free, and nothing
+    /// is assumed. Each may have another slot then.
+    ///
+    /// # Errors
+    ///
+    /// Where memory runs out. All stays as it was then.
+    fn gather(&mut self) -> Result<(), OutOfMemory>
         requires { (state self.old).assumptions ≡ [] }
         ensures live { SameLive (maps.values (state self.new).live)
             (maps.values (state self.old).live) }
         ensures live_alone { HoldsLiveAlone (state self.new) }
         ensures nothing_assumed { (state self.new).assumptions ≡ [] }
-        ensures refused { (state self.new).has_refused ≡ (state self.old).has_refused };
+        ensures refused { (state self.new).has_refused ≡ (state self.old).has_refused }
+        ensures room { OnOk result (slot_count self.new ≤ most_slots (state self.new).live) }
+        ensures err { OnErr result (state self.new ≡ state self.old) }
+        ensures err_slots { OnErr result (slot_count self.new ≡ slot_count self.old) };
 
     /// A slot with the same clause as a set, if there is one. It takes no memory.
     fn find(&mut self, lits: &[Lit]) -> Option<Slot>
@@ -95,7 +110,8 @@ pub trait Propagate {
         ensures none { IfNone result ((s : ℕ) (c : Clause) →
             maps.get (state self.old).live s ≡ Some c → IsTrue (same_clause c lits.now) →
             ⊥) }
-        ensures same { state self.new ≡ state self.old };
+        ensures same { state self.new ≡ state self.old }
+        ensures same_slots { slot_count self.new ≡ slot_count self.old };
 
     /// The slots of the live clauses that the literals touch: that have the complement of one of
     /// them. It costs what these clauses cost, however many others are alive, but for the first
@@ -110,7 +126,8 @@ pub trait Propagate {
             IsTouchedAt (state self.old).live lits.now s) }
         ensures all { OnOk result ((s : ℕ) → IsTouchedAt (state self.old).live lits.now s →
             IsTrue (has slots.new.items s)) }
-        ensures same { state self.new ≡ state self.old };
+        ensures same { state self.new ≡ state self.old }
+        ensures same_slots { slot_count self.new ≡ slot_count self.old };
 
     /// Assumes the complements of a part of a clause, which is given or alive, beside what is
     /// assumed, and propagates.
@@ -125,8 +142,9 @@ pub trait Propagate {
     ) -> Result<Answer, OutOfMemory>
         requires may { MayAssume (state self.old).assumptions }
         requires alive { IsThere (state self.old).live source.now }
-        ensures { AssumingFrom (state self.old) (state self.new) source.now (P.keeps part.now)
-            result };
+        ensures assumed { AssumingFrom (state self.old) (state self.new) source.now
+            (P.keeps part.now) result }
+        ensures same_slots { slot_count self.new ≡ slot_count self.old };
 
     /// Whether the clause in the slot makes a literal of it hold for good, where nothing is
     /// assumed: that literal follows, and so do the complements of all its others. It is asked of
@@ -149,7 +167,8 @@ pub trait Propagate {
         ensures nothing_assumed { (state self.new).assumptions ≡ [] }
         ensures never_refused { OnOk result ((state self.old).has_refused ≡ false) }
         ensures not_refused { OnOk result ((state self.new).has_refused ≡ false) }
-        ensures refused { OnErr result ((state self.new).has_refused ≡ true) };
+        ensures refused { OnErr result ((state self.new).has_refused ≡ true) }
+        ensures same_slots { slot_count self.new ≡ slot_count self.old };
 
     /// Takes back the last assumption. It takes no memory.
     fn undo(&mut self)
@@ -160,7 +179,8 @@ pub trait Propagate {
             (state self.new).assumptions ≡ rest }
         ensures live { (state self.new).live ≡ (state self.old).live }
         ensures live_alone { HoldsLiveAlone (state self.new) }
-        ensures refused { (state self.new).has_refused ≡ (state self.old).has_refused };
+        ensures refused { (state self.new).has_refused ≡ (state self.old).has_refused }
+        ensures same_slots { slot_count self.new ≡ slot_count self.old };
 
     /// What propagation says of a literal, after an assumption that was quiet. It takes no memory.
     fn value(&self, l: Lit) -> Value
@@ -219,7 +239,8 @@ pub trait Propagate {
     /// Where memory runs out, and ever after. What is assumed is then as it was.
     fn assume(&mut self, lits: &[Lit]) -> Result<Answer, OutOfMemory>
         requires { MayAssume (state self.old).assumptions }
-        ensures { Assuming (state self.old) (state self.new) (complements lits.now) result }
+        ensures assumed { Assuming (state self.old) (state self.new) (complements lits.now) result }
+        ensures same_slots { slot_count self.new ≡ slot_count self.old }
     {
         self.assume_part(&ClauseSource::Given(lits), &Whole)
     }
@@ -233,8 +254,9 @@ pub trait Propagate {
     fn assume_rest(&mut self, slot: Slot, l: Lit) -> Result<Answer, OutOfMemory>
         requires may { MayAssume (state self.old).assumptions }
         requires alive { IsSome (maps.get (state self.old).live slot) }
-        ensures { AssumingPart (state self.old) (state self.new) slot
+        ensures assumed { AssumingPart (state self.old) (state self.new) slot
             (λ k. not (k == l)) result }
+        ensures same_slots { slot_count self.new ≡ slot_count self.old }
     {
         self.assume_part(&ClauseSource::Stored(slot), &Except(l))
     }
@@ -248,8 +270,9 @@ pub trait Propagate {
     fn assume_unless(&mut self, slot: Slot, set: &[Lit]) -> Result<Answer, OutOfMemory>
         requires may { MayAssume (state self.old).assumptions }
         requires alive { IsSome (maps.get (state self.old).live slot) }
-        ensures { AssumingPart (state self.old) (state self.new) slot
+        ensures assumed { AssumingPart (state self.old) (state self.new) slot
             (λ k. not (has set.now (complement k))) result }
+        ensures same_slots { slot_count self.new ≡ slot_count self.old }
     {
         self.assume_part(&ClauseSource::Stored(slot), &UnlessListed(set))
     }
@@ -263,8 +286,9 @@ pub trait Propagate {
     fn assume_reduced(&mut self, slot: Slot, set: &LiteralSet) -> Result<Answer, OutOfMemory>
         requires may { MayAssume (state self.old).assumptions }
         requires alive { IsSome (maps.get (state self.old).live slot) }
-        ensures { AssumingPart (state self.old) (state self.new) slot
+        ensures assumed { AssumingPart (state self.old) (state self.new) slot
             (λ k. not (in_set set.now (complement k))) result }
+        ensures same_slots { slot_count self.new ≡ slot_count self.old }
     {
         self.assume_part(&ClauseSource::Stored(slot), &Unless(set))
     }

@@ -1,5 +1,6 @@
 //! Propagation by plain passes over all clauses.
 
+mod gather;
 mod unit;
 
 ghost use Rattle.std.specs.Prelude.{◌≡◌, [], filter, false, IfOk, IsSome};
@@ -10,7 +11,9 @@ ghost use Rattle.propagation.specs.Code.Scan.{AssumesOn, IsScan};
 ghost use Rattle.trail.specs.Trail.{HasRoom};
 
 use crate::assumptions::Assumptions;
+use crate::scan::gather::gathered;
 use crate::scan::unit::propagate;
+use crate::sparse::is_sparse;
 use crate::{Answer, ClauseSource, Closure, Propagate};
 use clause_db::{Slot, Slots, Store};
 use cnf_base::{Lit, OutOfMemory};
@@ -19,6 +22,8 @@ use std::marker::Model;
 use trail::{Part, Value};
 
 /// Live clauses, and unit propagation by plain passes over all of them: slow, and in little memory.
+///
+/// Contracts see what they see of any propagation, and how many slots its clauses stand in.
 #[derive(Drop)]
 pub struct Scan {
     alloc: Global,
@@ -28,12 +33,12 @@ pub struct Scan {
 }
 
 impl Model for Scan {
-    ghost use Rattle.propagation.specs.Assumptions.{Propagation};
-    ghost use Rattle.propagation.specs.Code.Coding.{propagation_code};
+    ghost use Rattle.propagation.specs.Code.Coding.{scan_code};
+    ghost use Rattle.propagation.specs.Scan.{ScanState};
 
-    ghost Value = { Propagation };
+    ghost Value = { ScanState };
 
-    ghost coded = { propagation_code };
+    ghost coded = { scan_code };
 
     ghost use Rattle.std.specs.Prelude.{◌≡◌};
     ghost use Rattle.clause_db.specs.Store.{literals_in};
@@ -46,10 +51,13 @@ impl Model for Scan {
       assumptions = assumptions;
       has_refused = has_refused;
     }. record {
-      live = store.live;
-      assumptions = assumptions.assumptions;
-      stored = store.stored;
-      has_refused = has_refused;
+      propagation = record {
+        live = store.live;
+        assumptions = assumptions.assumptions;
+        stored = store.stored;
+        has_refused = has_refused;
+      };
+      slots = store.slots;
     } };
 
     ghost invariant = { λ s.
@@ -81,9 +89,10 @@ fn assume_part<P: Part>(
 impl Scan {
     /// No clauses, and nothing is assumed.
     pub fn new(alloc: Global) -> Result<Self, OutOfMemory>
-        ensures live { IfOk result (λ s. s.live ≡ maps.empty) }
-        ensures nothing_assumed { IfOk result (λ s. s.assumptions ≡ []) }
-        ensures refused { IfOk result (λ s. s.has_refused ≡ false) }
+        ensures live { IfOk result (λ s. s.propagation.live ≡ maps.empty) }
+        ensures nothing_assumed { IfOk result (λ s. s.propagation.assumptions ≡ []) }
+        ensures refused { IfOk result (λ s. s.propagation.has_refused ≡ false) }
+        ensures slots { IfOk result (λ s. s.slots ≡ 0) }
     {
         Ok(Scan {
             alloc,
@@ -99,9 +108,10 @@ impl Scan {
     ///
     /// Where memory runs out, and ever after. What is assumed is then as it was.
     fn assume_given<P: Part>(&mut self, lits: &[Lit], part: &P) -> Result<Answer, OutOfMemory>
-        requires { MayAssume self.old.assumptions }
-        ensures { Assuming self.old self.new
+        requires { MayAssume self.old.propagation.assumptions }
+        ensures assumed { Assuming self.old.propagation self.new.propagation
             (complements (filter (P.keeps part.now) lits.now)) result }
+        ensures same_slots { self.new.slots ≡ self.old.slots }
     {
         if self.has_refused || self.assumptions.reserve(lits).is_err() {
             self.has_refused = true;
@@ -114,10 +124,11 @@ impl Scan {
 
     /// The same with a part of a live clause.
     fn assume_stored<P: Part>(&mut self, slot: Slot, part: &P) -> Result<Answer, OutOfMemory>
-        requires may { MayAssume self.old.assumptions }
-        requires alive { IsSome (maps.get self.old.live slot) }
-        ensures { AssumingPart self.old self.new slot
+        requires may { MayAssume self.old.propagation.assumptions }
+        requires alive { IsSome (maps.get self.old.propagation.live slot) }
+        ensures assumed { AssumingPart self.old.propagation self.new.propagation slot
             (P.keeps part.now) result }
+        ensures same_slots { self.new.slots ≡ self.old.slots }
     {
         if self.has_refused {
             return Err(OutOfMemory);
@@ -132,7 +143,9 @@ impl Scan {
 impl Propagate for Scan {
     type Clauses = Slots;
 
-    ghost state = { λ s. s };
+    ghost state = { λ s. s.propagation };
+
+    ghost slot_count = { λ s. s.slots };
 
     fn alloc(&self) -> Global {
         self.alloc
@@ -151,9 +164,15 @@ impl Propagate for Scan {
         self.store.remove(slot);
     }
 
-    /// It does nothing: the memory of a clause that was removed is free for all.
-    fn gather(&mut self) {
+    /// It counts no short clauses, so that it may do this sooner than needed.
+    fn gather(&mut self) -> Result<(), OutOfMemory> {
         self.store.recall_invariant();
+        if is_sparse(self.store.end(), self.store.literals(), 0) {
+            let mut gathered = gathered(self.alloc, &self.store)?;
+            gathered.has_refused = self.has_refused;
+            std::mem::swap(self, &mut gathered);
+        }
+        Ok(())
     }
 
     fn find(&mut self, lits: &[Lit]) -> Option<Slot> {

@@ -94,7 +94,8 @@ impl<P: Propagate> Judge for DratJudge<P> {
             StepKind::Delete => {
                 let clauses = &mut self.examiner.clauses;
                 let word = delete(clauses, self.rules, lits, &mut self.has_lost_literal)?;
-                clauses.gather();
+                // Where memory is refused, all clauses stay where they are.
+                let _stay = clauses.gather();
                 Ok(word)
             }
         }

@@ -1,14 +1,10 @@
--- How many clauses are watched, and how many are too short to be.
+-- How many clauses are watched.
 use Rattle.std.specs.FinMap.{FinMap}
 use Rattle.std.specs.Ordering.{nat_cmp}
 use Rattle.std.specs.Prelude.{ℕ, nat_le, if◌then◌else◌}
 use Rattle.cnf_base.specs.Literals.{Clause, size}
 use Rattle.cnf_base.specs.Maps.{sum_over}
 
--- how many of the clauses have two literals or more, and how many have fewer
+-- how many of the clauses have two literals or more
 abbrev pub long_clauses : FinMap nat_cmp Clause → ℕ
 long_clauses live = sum_over (λ c. if nat_le 2 (size c) then 1 else 0) live
-
--- how many clauses have one literal or none
-abbrev pub short_clauses : FinMap nat_cmp Clause → ℕ
-short_clauses live = sum_over (λ c. if nat_le 2 (size c) then 0 else 1) live

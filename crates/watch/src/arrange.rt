@@ -17,6 +17,7 @@ fn bring(store: &mut Store, trail: &Trail, slot: Slot, place: usize) -> bool
         maps.get store.new.live s ≡ maps.get store.old.live s }
     ensures brought { (c : Clause) → maps.get store.old.live slot ≡ Some c → (d : Clause) ×
         (maps.get store.new.live slot ≡ Some d) × IsBrought trail.now.lits c d place result }
+    ensures slots { store.new.slots ≡ store.old.slots }
 {
     match trail.first_non_false(store.clause(slot), place) {
         Some(found) => {
@@ -38,6 +39,7 @@ pub(crate) fn arrange(store: &mut Store, trail: &Trail, slot: Slot) -> Left
         (maps.get store.new.live slot ≡ Some d) × ((l : Literal) → has d l ≡ has c l)
         × IsArranged trail.now.lits d result }
     ensures live_alone { store.new.stored ≡ literals_in store.new.live }
+    ensures slots { store.new.slots ≡ store.old.slots }
 {
     if trail.is_empty() && store.clause(slot).len() > 1 {
         store.recall_invariant();

@@ -1,9 +1,9 @@
 //! The clauses in their slots, with all that follows from them where that is kept.
 
-ghost use Rattle.std.specs.Prelude.{◌≡◌, ◌≢◌, ℕ, Some, None, IsTrue, IsSome, IfOk, OnErr};
+ghost use Rattle.std.specs.Prelude.{◌≡◌, ◌≢◌, ℕ, ◌+◌, ◌≤◌, Some, None, IsTrue, IsSome, IfOk, OnErr};
 ghost use Rattle.std.specs.FinMap as maps;
 ghost use Rattle.cnf_base.specs.Literals.{Clause, same_clause, size};
-ghost use Rattle.clause_db.specs.Store.{literals_in};
+ghost use Rattle.clause_db.specs.Store.{literals_in, slots_for};
 ghost use Rattle.propagation.specs.Closure.{IsClosure};
 ghost use Rattle.root_literals.specs.Order.{each_in_order};
 
@@ -26,6 +26,7 @@ pub(crate) fn insert_clause(
     ensures err_live { OnErr result (store.new.live ≡ store.old.live) }
     ensures err_stored { OnErr result (store.new.stored ≡ store.old.stored) }
     ensures closure { IsClosure (maps.get (each_in_order store.new.live)) closure.new }
+    ensures few_slots { store.new.slots ≤ store.old.slots + slots_for (size lits.now) }
 {
     store.recall_invariant();
     let slot = store.insert(lits)?;
@@ -45,6 +46,7 @@ pub(crate) fn remove_clause(store: &mut Store, closure: &mut Closure, slot: Slot
     ensures live { store.new.live ≡ maps.remove store.old.live slot }
     ensures live_alone { store.new.stored ≡ literals_in store.new.live }
     ensures closure { IsClosure (maps.get (each_in_order store.new.live)) closure.new }
+    ensures slots { store.new.slots ≡ store.old.slots }
 {
     closure.leave(store, slot);
     store.remove(slot);

@@ -54,6 +54,7 @@ fn move_watch(
     }) }
     ensures others { (s : ℕ) → s ≢ slot →
         maps.get store.new.live s ≡ maps.get store.old.live s }
+    ensures slots { store.new.slots ≡ store.old.slots }
 {
     let at = Slot::at(slot as usize);
     // Before anything else is written, what was read of the clause need not be read again.
@@ -114,6 +115,7 @@ fn visit(
         (entries_left cursor.new + 1 ≡ entries_left cursor.old)) }
     ensures as_many { IfOk result (λ found. IfSome found (λ _.
         entries_left cursor.new ≡ entries_left cursor.old)) }
+    ensures slots { store.new.slots ≡ store.old.slots }
 {
     if trail.is_true_near(near, entry.blocking()) {
         cursor.keep(entry);
@@ -153,6 +155,7 @@ fn next_found(
     ensures end { IfOk result (λ found. IfNone found
         (length cursor.new.entries ≤ cursor.new.visited)) }
     ensures no_more { OnOk result (entries_left cursor.new ≤ entries_left cursor.old) }
+    ensures slots { store.new.slots ≡ store.old.slots }
 {
     let near = trail.near();
     while let Some(entry) = cursor.next() {
@@ -184,6 +187,7 @@ fn visit_all(
     ensures visited { Visited store.old.live store.new.live lists.old lists.new
         cursor.old.entries cursor.new.entries assumptions.old assumptions.new
         (at reasons.old) (at reasons.new) l }
+    ensures slots { store.new.slots ≡ store.old.slots }
 {
     while let Some(at) = next_found(store, lists, assumptions.trail(), cursor, l)? {
         let entry = at.entry;
@@ -216,6 +220,7 @@ pub(crate) fn follow(
         maps.get store.new.live s ≡ Some c → IsMet c l assumptions.new.trail.lits)) }
     ensures followed { Followed store.old.live store.new.live lists.old lists.new
         assumptions.old assumptions.new (at reasons.old) (at reasons.new) }
+    ensures slots { store.new.slots ≡ store.old.slots }
 {
     if !lists.has_list(l) {
         return Ok(None);
@@ -247,6 +252,7 @@ pub(crate) fn propagate(
         (IsFalse (conflicts assumptions.new.trail.lits))) }
     ensures followed { Followed store.old.live store.new.live lists.old lists.new
         assumptions.old assumptions.new (at reasons.old) (at reasons.new) }
+    ensures slots { store.new.slots ≡ store.old.slots }
 {
     let mut done = from;
     while done < assumptions.trail().len() {

@@ -115,6 +115,7 @@ fn catch_up(
     ensures up_to_date { OnOk result (is_up_to_date roots.new.kept ≡ true) }
     ensures followed { Followed store.old.live store.new.live lists.old lists.new assumptions.old
         assumptions.new (at roots.old.reasons) (at roots.new.reasons) }
+    ensures slots { store.new.slots ≡ store.old.slots }
 {
     let Kept::Behind = roots.kept else {
         return Ok(());
@@ -154,6 +155,7 @@ pub(crate) fn refresh(
     ensures same { each_in_order store.new.live ≡ each_in_order store.old.live }
     ensures reserved { SameSet assumptions.new.trail.reserved assumptions.old.trail.reserved }
     ensures assumptions { assumptions.new.assumptions ≡ assumptions.old.assumptions }
+    ensures slots { store.new.slots ≡ store.old.slots }
 {
     if roots.is_up_to_date() {
         return Ok(());

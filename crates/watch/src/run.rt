@@ -41,6 +41,7 @@ pub(crate) fn run(
         assumptions.new.trail.lits assumptions.new.trail.lits) }
     ensures followed { Followed store.old.live store.new.live lists.old lists.new
         assumptions.old assumptions.new (at reasons.old) (at reasons.new) }
+    ensures slots { store.new.slots ≡ store.old.slots }
 {
     let found = propagate(store, lists, assumptions, reasons, from)?;
     store.recall_invariant();

@@ -10,19 +10,20 @@ ghost use Rattle.cnf_base.specs.Literals.{Literal, complements, has};
 ghost use Rattle.theory.specs.Drat.{SameLive};
 ghost use Rattle.theory.specs.Propagation.{Clash, Forced};
 ghost use Rattle.propagation.specs.Assumptions.{HoldsLiveAlone, IsThere, MayAssume};
+ghost use Rattle.propagation.specs.Slots.{most_slots, short_clauses};
 ghost use Rattle.propagation.specs.Code.Scan.{AssumesOn};
 ghost use Rattle.trail.specs.Trail.{HasRoom};
 ghost use Rattle.root_literals.specs.Order.{each_in_order};
 ghost use Rattle.root_literals.specs.Roots.{is_up_to_date};
 ghost use Rattle.watch.specs.Code.ClauseSource.{clause_of};
 ghost use Rattle.watch.specs.Code.State.{IsWatch};
-ghost use Rattle.watch.specs.Watched.{long_clauses, short_clauses};
+ghost use Rattle.watch.specs.Watched.{long_clauses};
 
 use crate::arrange::arrange;
 use crate::clause_source::{assume_from, reserve_given};
 use crate::clauses::{insert_clause, remove_clause};
 use crate::entries::{add_entries, remove_entries};
-use crate::gather::{gathered, is_sparse};
+use crate::gather::gathered;
 use crate::listing::listed;
 use crate::reason::is_reason_for_good;
 use crate::refresh::refresh;
@@ -30,7 +31,7 @@ use crate::room::reserve_room;
 use crate::run::run;
 use clause_db::{Blocks, Slot, Store};
 use cnf_base::{Lit, OutOfMemory};
-use propagation::{Answer, Assumptions, ClauseSource, Closure, Propagate};
+use propagation::{Answer, Assumptions, ClauseSource, Closure, Propagate, is_sparse};
 use root_literals::Roots;
 use std::alloc::Global;
 use std::marker::Model;
@@ -40,7 +41,8 @@ use watch_lists::{SlotList, WatchLists};
 /// Live clauses, and unit propagation with two watched literals a clause: what follows from an
 /// assumption is found without a look at the clauses that have nothing to do with it.
 ///
-/// Contracts see what they see of any propagation, and how many entries its lists have.
+/// Contracts see what they see of any propagation, how many slots its clauses stand in, and how
+/// many entries its lists have.
 #[derive(Drop)]
 pub struct Watch {
     alloc: Global,
@@ -108,6 +110,7 @@ impl Model for Watch {
         stored = store.stored;
         has_refused = has_refused;
       };
+      slots = store.slots;
       entries = entries_in lists;
       short_entries = length short;
       trues = length assumptions.trail.lits;
@@ -143,6 +146,7 @@ fn assume_part<P: Part>(
         (complements (filter (P.keeps part.now) (clause_of store.old.live source.now))) result }
     ensures watch { IsWatch false store.new.live lists.new short.now roots.new assumptions.new }
     ensures same { each_in_order store.new.live ≡ each_in_order store.old.live }
+    ensures slots { store.new.slots ≡ store.old.slots }
 {
     let from = assumptions.trail().len();
     if assume_from(store, assumptions, source, part)? {
@@ -169,6 +173,7 @@ impl Watch {
         ensures live { IfOk result (λ w. w.propagation.live ≡ maps.empty) }
         ensures nothing_assumed { IfOk result (λ w. w.propagation.assumptions ≡ []) }
         ensures refused { IfOk result (λ w. w.propagation.has_refused ≡ false) }
+        ensures slots { IfOk result (λ w. w.slots ≡ 0) }
     {
         Watch::seeded(alloc, 0)
     }
@@ -179,6 +184,7 @@ impl Watch {
         ensures live { IfOk result (λ w. w.propagation.live ≡ maps.empty) }
         ensures nothing_assumed { IfOk result (λ w. w.propagation.assumptions ≡ []) }
         ensures refused { IfOk result (λ w. w.propagation.has_refused ≡ false) }
+        ensures slots { IfOk result (λ w. w.slots ≡ 0) }
     {
         Ok(Watch {
             alloc,
@@ -206,6 +212,7 @@ impl Watch {
         ensures same { self.new.propagation ≡ self.old.propagation }
         ensures loaded { OnOk result (self.new.is_loading ≡ false) }
         ensures none { OnErr result (self.new.entries ≡ 0) }
+        ensures slots { self.new.slots ≡ self.old.slots }
     {
         self.store.keep_counts()?;
         self.lists = listed(self.alloc, &self.store)?;
@@ -218,6 +225,7 @@ impl Watch {
         ensures same { self.new.propagation ≡ self.old.propagation }
         ensures loaded { OnOk result (self.new.is_loading ≡ false) }
         ensures none { OnErr result (self.new.entries ≡ 0) }
+        ensures slots { self.new.slots ≡ self.old.slots }
     {
         if !self.is_loading {
             return Ok(());
@@ -238,6 +246,7 @@ impl Watch {
             (self.new.entries ≡ 2 * long_clauses self.new.propagation.live) }
         ensures none { OnErr result (self.new.entries ≡ 0) }
         ensures same { self.new.propagation ≡ self.old.propagation }
+        ensures slots { self.new.slots ≡ self.old.slots }
     {
         self.finish_loading()?;
         Ok(self.lists.entries())
@@ -310,6 +319,7 @@ impl Watch {
         ensures never_refused { OnOk result (self.old.propagation.has_refused ≡ false) }
         ensures not_refused { OnOk result (self.new.propagation.has_refused ≡ false) }
         ensures refused { OnErr result (self.new.propagation.has_refused ≡ true) }
+        ensures slots { self.new.slots ≡ self.old.slots }
     {
         if self.has_refused {
             self.store.recall_invariant();
@@ -334,19 +344,21 @@ impl Watch {
     /// Gathers the clauses, out of line: here is room for all of another one.
     #[cold]
     #[inline(never)]
-    fn gather_sparse(&mut self)
-        requires nothing_assumed { self.old.propagation.assumptions ≡ [] }
-        requires not_refused { self.old.propagation.has_refused ≡ false }
+    fn gather_sparse(&mut self) -> Result<(), OutOfMemory>
+        requires { self.old.propagation.assumptions ≡ [] }
         ensures live { SameLive (maps.values self.new.propagation.live)
             (maps.values self.old.propagation.live) }
         ensures live_alone { HoldsLiveAlone self.new.propagation }
         ensures nothing_assumed { self.new.propagation.assumptions ≡ [] }
-        ensures refused { self.new.propagation.has_refused ≡ false }
+        ensures refused { self.new.propagation.has_refused ≡ self.old.propagation.has_refused }
+        ensures room { OnOk result (self.new.slots ≤ most_slots self.new.propagation.live) }
+        ensures err { OnErr result (self.new ≡ self.old) }
     {
         self.store.recall_invariant();
-        if let Ok(mut gathered) = gathered(self.alloc, self.seed, &self.store) {
-            std::mem::swap(self, &mut gathered);
-        }
+        let mut gathered = gathered(self.alloc, self.seed, &self.store)?;
+        gathered.has_refused = self.has_refused;
+        std::mem::swap(self, &mut gathered);
+        Ok(())
     }
 
     /// Takes back the last assumption, without memory. What is known with nothing assumed stays.
@@ -360,6 +372,7 @@ impl Watch {
         ensures up_to_date { self.new.is_up_to_date ≡ true }
         ensures roots { self.new.roots ≡ self.old.roots }
         ensures clash { self.new.has_clash ≡ self.old.has_clash }
+        ensures slots { self.new.slots ≡ self.old.slots }
     {
         self.assumptions.undo();
     }
@@ -369,6 +382,8 @@ impl Propagate for Watch {
     type Clauses = Blocks;
 
     ghost state = { λ w. w.propagation };
+
+    ghost slot_count = { λ w. w.slots };
 
     fn alloc(&self) -> Global {
         self.alloc
@@ -414,15 +429,15 @@ impl Propagate for Watch {
         remove_clause(&mut self.store, &mut self.closure, slot);
     }
 
-    fn gather(&mut self) {
+    fn gather(&mut self) -> Result<(), OutOfMemory> {
         self.store.recall_invariant();
         let short = self.short_entries();
-        if !self.has_refused && is_sparse(self.store.end(), self.store.literals(), short) {
-            self.gather_sparse();
-            return;
+        if is_sparse(self.store.end(), self.store.literals(), short) {
+            return self.gather_sparse();
         }
         // Where memory is refused, entries only take longer to find.
         let _ = self.lists.index_places(self.alloc, self.seed);
+        Ok(())
     }
 
     fn find(&mut self, lits: &[Lit]) -> Option<Slot> {

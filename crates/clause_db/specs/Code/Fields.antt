@@ -13,12 +13,13 @@ use Rattle.tables.specs.declared.filled.Filled.{Filled}
 use Rattle.clause_db.specs.Code.LiteralMarks.{is_marked}
 use Rattle.clause_db.specs.Store.{StoreState}
 
--- a store is kept as the pair of its fields
+-- a store is kept as the tuple of its fields
 abbrev pub store_code : Coded StoreState
 store_code =
-    code_by (FinMap nat_cmp Clause × ℕ)
-    (coded× (maps.code coded_ℕ (coded_list coded_ℕ)) coded_ℕ)
-    (λ s. (s.live, s.stored)) (λ p. record { live = p.0; stored = p.1 }) (λ _. refl)
+    code_by (FinMap nat_cmp Clause × (ℕ × ℕ))
+    (coded× (maps.code coded_ℕ (coded_list coded_ℕ)) (coded× coded_ℕ coded_ℕ))
+    (λ s. (s.live, (s.slots, s.stored)))
+    (λ p. record { live = p.0; slots = p.1.0; stored = p.1.1 }) (λ _. refl)
 
 -- no clause repeats a literal, the table knows each literal of a clause and has no marks, and the
 -- sum is that of the lengths

@@ -9,12 +9,13 @@ use Rattle.smallvec.specs.SmallVec.{SmallVec}
 use Rattle.cnf_base.specs.Literals.{Clause}
 use Rattle.clause_memory.specs.Memory.{MemoryState}
 
--- a memory is kept as the pair of its fields
+-- a memory is kept as the tuple of its fields
 abbrev pub slots_code : Coded MemoryState
 slots_code =
-    code_by (FinMap nat_cmp Clause × ℕ)
-    (coded× (maps.code coded_ℕ (coded_list coded_ℕ)) coded_ℕ)
-    (λ s. (s.live, s.stored)) (λ p. record { live = p.0; stored = p.1 }) (λ _. refl)
+    code_by (FinMap nat_cmp Clause × (ℕ × ℕ))
+    (coded× (maps.code coded_ℕ (coded_list coded_ℕ)) (coded× coded_ℕ coded_ℕ))
+    (λ s. (s.live, (s.slots, s.stored)))
+    (λ p. record { live = p.0; slots = p.1.0; stored = p.1.1 }) (λ _. refl)
 
 -- the clauses of the slots from this one on
 abbrev pub held_from : ℕ → List (Option (SmallVec ℕ)) → FinMap nat_cmp Clause
@@ -35,9 +36,10 @@ slot_len (Some clause) = length clause.items
 unfoldable pub slot_literals : List (Option (SmallVec ℕ)) → ℕ
 slot_literals slots = sum_by slot_len slots
 
--- what a memory with these slots is seen as
-abbrev pub slots_seen : List (Option (SmallVec ℕ)) → MemoryState
-slots_seen slots = record { live = held_in slots; stored = slot_literals slots }
+-- what a memory with these slots is seen as, of which none from the end on has been used
+abbrev pub slots_seen : List (Option (SmallVec ℕ)) → ℕ → MemoryState
+slots_seen slots end =
+    record { live = held_in slots; slots = end; stored = slot_literals slots }
 
 -- the slots with a clause have numbers below the end, and these have four bytes
 pub record IsSlots (slots : List (Option (SmallVec ℕ))) (end : ℕ) : Type 0 where

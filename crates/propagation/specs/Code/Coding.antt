@@ -6,6 +6,7 @@ use Rattle.std.specs.Ordering.{nat_cmp}
 use Rattle.std.specs.Prelude.{Bool, true, false, ◌≡◌, refl, ℕ, List}
 use Rattle.cnf_base.specs.Literals.{Clause}
 use Rattle.propagation.specs.Assumptions.{Assumption, AssumptionsState, Propagation}
+use Rattle.propagation.specs.Scan.{ScanState}
 use Rattle.propagation.specs.declared.answer.Answer.TheVariants.{Clash, Quiet}
 use Rattle.propagation.specs.declared.answer.Answer.{Answer}
 
@@ -53,3 +54,9 @@ propagation_code =
     (λ s. (s.live, (s.assumptions, (s.stored, s.has_refused))))
     (λ p. record { live = p.0; assumptions = p.1.0; stored = p.1.1.0; has_refused = p.1.1.1 })
     (λ _. refl)
+
+-- the pair of its fields
+abbrev pub scan_code : Coded ScanState
+scan_code =
+    code_by (Propagation × ℕ) (coded× propagation_code coded_ℕ) (λ s. (s.propagation, s.slots))
+    (λ p. record { propagation = p.0; slots = p.1 }) (λ _. refl)

@@ -1,97 +1,15 @@
--- Clauses that are put into other slots one after the other are the same clauses.
-use Rattle.std.proofs.Common.{◌≡◌, ◌≢◌, ℕ, ◌+◌, ◌<◌, true, cond, Option, Some, None}
-use Rattle.std.proofs.Common.{is_some, IsSome, nat_lt, ◌≤◌, refl, sym, ap, ◌∙◌, arith, inl, inr}
-use Rattle.std.specs.Ordering.{nat_cmp, is_eq}
+-- Clauses that are the same in another order are the same clauses.
+use Rattle.std.proofs.Common.{sym, ◌∙◌}
+use Rattle.std.specs.Ordering.{nat_cmp}
 use Rattle.std.specs.FinMap as maps
 use Rattle.std.specs.FinMap.{FinMap}
-use Rattle.std.proofs.lemmas.Bool.{cases_lt, cases_eq, lt-ltb, le-ltb}
-use Rattle.cnf_base.specs.Literals.{Clause, same_clause}
-use Rattle.cnf_base.specs.Maps.{sum_over}
-use Rattle.cnf_base.proofs.MapLemmas.{same_maps, inserted_is, sum_insert}
-use Rattle.cnf_base.proofs.SetLemmas.{both_pass, same_symm, same_trans}
-use Rattle.propagation.proofs.PropagationLemmas.Counts.{tied}
+use Rattle.cnf_base.specs.Literals.{Clause}
+use Rattle.propagation.proofs.PropagationLemmas.Gather.{is_copy, same_copy}
 use Rattle.root_literals.proofs.RootLemmas.Order.{same-in_order, sum_ordered}
-use Rattle.root_literals.specs.Order.{in_order, each_in_order}
+use Rattle.root_literals.specs.Order.{each_in_order, in_order}
 use Rattle.theory.specs.Drat.{SameLive}
 
--- what a clause counts as a copy of `e`
-abbrev pub is_copy : Clause → Clause → ℕ
-is_copy e c = cond (same_clause e c) 1 0
-
-same_copy : (e c d : Clause) → same_clause c d ≡ true → is_copy e c ≡ is_copy e d
-same_copy e c d same = ap (λ b. cond b 1 0) (both_pass (same_clause e c) (same_clause e d) (λ h. same_trans e c d h same) (λ h. same_trans e d c h (same_symm c d same)))
-
--- the same clauses, by how many copies there are of each
-abbrev pub AreCopies : FinMap nat_cmp Clause → FinMap nat_cmp Clause → Type 0
-AreCopies m n = (e : Clause) → sum_over (is_copy e) m ≡ sum_over (is_copy e) n
-
--- ---- The clauses in the slots below a number
-
-abbrev pub below : ℕ → FinMap nat_cmp Clause → FinMap nat_cmp Clause
-below n m = maps.retain_keys m (λ s. nat_lt s n)
-
-below_get : (n : ℕ) (m : FinMap nat_cmp Clause) (s : ℕ) → maps.get (below n m) s ≡ cond (nat_lt s n) (maps.get m s) None
-below_get n m s = maps.get-retain_keys m (λ x. nat_lt x n) s (λ x e. ap (λ y. nat_lt y n) (sym (tied s (ap is_eq e))))
-
-there : (n : ℕ) (m : FinMap nat_cmp Clause) (s : ℕ) → s < n → maps.get (below n m) s ≡ maps.get m s
-there n m s low = below_get n m s ∙ ap (λ b. cond b (maps.get m s) None) (lt-ltb s n low)
-
-pub gone : (n : ℕ) (m : FinMap nat_cmp Clause) (s : ℕ) → n ≤ s → maps.get (below n m) s ≡ None
-gone n m s high = below_get n m s ∙ ap (λ b. cond b (maps.get m s) None) (le-ltb s n high)
-
--- none is below the first one, and all are below a number that is above them
-pub below_none : (m : FinMap nat_cmp Clause) → below 0 m ≡ maps.empty
-below_none m = same_maps _ _ (λ s. gone 0 m s (omega arith) ∙ sym (maps.get-empty nat_cmp s))
-
-pub below_all : (n : ℕ) (m : FinMap nat_cmp Clause) → ((s : ℕ) → IsSome (maps.get m s) → s < n) → below n m ≡ m
-below_all n m low = same_maps _ _ (λ s. by s (maps.get m s) refl)
-  where
-    by : (s : ℕ) (o : Option Clause) → maps.get m s ≡ o → maps.get (below n m) s ≡ maps.get m s
-    by s (Some c) is = there n m s (low s (ap is_some is))
-    by s None is = elim (cases_lt s n) [
-      | inl lt ↦ there n m s lt
-      | inr le ↦ gone n m s le ∙ sym is
-    ]
-
-past : (s n : ℕ) → n ≤ s → s ≢ n → n + 1 ≤ s
-past s n le ne = omega (arith, le, ne)
-
--- a slot more, with a clause or without
-pub below_next : (n : ℕ) (m : FinMap nat_cmp Clause) (c : Clause) → maps.get m n ≡ Some c → below (n + 1) m ≡ maps.insert (below n m) n c
-below_next n m c is = inserted_is (below n m) (below (n + 1) m) n c (there (n + 1) m n (omega arith) ∙ is) (λ s ne. elim (cases_lt s n) [
-  | inl lt ↦ there (n + 1) m s (omega (arith, lt)) ∙ sym (there n m s lt)
-  | inr le ↦ gone (n + 1) m s (past s n le ne) ∙ sym (gone n m s le)
-])
-
-pub below_same : (n : ℕ) (m : FinMap nat_cmp Clause) → maps.get m n ≡ None → below (n + 1) m ≡ below n m
-below_same n m none = same_maps _ _ (λ s. elim (cases_lt s n) [
-  | inl lt ↦ there (n + 1) m s (omega (arith, lt)) ∙ sym (there n m s lt)
-  | inr le ↦ elim (cases_eq s n) [
-    | inl e ↦ there (n + 1) m s (omega (arith, e)) ∙ ap (maps.get m) e ∙ none ∙ sym (gone n m s le)
-    | inr ne ↦ gone (n + 1) m s (past s n le ne) ∙ sym (gone n m s le)
-  ]
-])
-
--- ---- What was put into other slots so far
-
-pub copied_none : (m : FinMap nat_cmp Clause) → AreCopies maps.empty (below 0 m)
-copied_none m e = ap (sum_over (is_copy e)) (sym (below_none m))
-
-pub copied_next : (old new m : FinMap nat_cmp Clause) (slot n : ℕ) (c d : Clause) → maps.get m n ≡ Some c → maps.get old slot ≡ None → maps.get new slot ≡ Some d → same_clause d c ≡ true
-    → ((s : ℕ) → s ≢ slot → maps.get new s ≡ maps.get old s) → AreCopies old (below n m) → AreCopies new (below (n + 1) m)
-copied_next old new m slot n c d is free at same others so_far e =
-    ap (sum_over (is_copy e)) (inserted_is old new slot d at others)
-    ∙ sum_insert (is_copy e) old slot d free
-    ∙ ap (λ k. k + sum_over (is_copy e) old) (same_copy e d c same)
-    ∙ ap (λ k. is_copy e c + k) (so_far e)
-    ∙ sym (ap (sum_over (is_copy e)) (below_next n m c is) ∙ sum_insert (is_copy e) (below n m) n c (gone n m n (omega arith)))
-
-pub copied_nothing : (old m : FinMap nat_cmp Clause) (n : ℕ) → maps.get m n ≡ None → AreCopies old (below n m) → AreCopies old (below (n + 1) m)
-copied_nothing old m n none so_far e = so_far e ∙ sym (ap (sum_over (is_copy e)) (below_same n m none))
-
-pub copied_all : (new m : FinMap nat_cmp Clause) (n : ℕ) → ((s : ℕ) → IsSome (maps.get m s) → s < n) → AreCopies new (below n m) → SameLive (maps.values new) (maps.values (each_in_order m))
-copied_all new m n low so_far = record {
-  copies = λ e.
-      so_far e ∙ ap (sum_over (is_copy e)) (below_all n m low)
-      ∙ sym (sum_ordered (is_copy e) (is_copy e) (λ c. same_copy e (in_order c) c (same-in_order c)) m);
+pub same_in_order : (new m : FinMap nat_cmp Clause) → SameLive (maps.values new) (maps.values m) → SameLive (maps.values new) (maps.values (each_in_order m))
+same_in_order new m same = record {
+  copies = λ e. same.copies e ∙ sym (sum_ordered (is_copy e) (is_copy e) (λ c. same_copy e (in_order c) c (same-in_order c)) m);
 }

@@ -17,7 +17,7 @@ use Rattle.watch_lists.proofs.WatchListsLemmas.Lists.{unfit_absent}
 use Rattle.root_literals.specs.Watched.{AddsFitting, HasEntry, entries_for, is_short, watches}
 use Rattle.watch.specs.Code.State.{AreLists, HasAll, HasNone}
 use Rattle.watch.specs.Watched.{long_clauses}
-use Rattle.watch.proofs.WatchLemmas.Gather.{below, below_all, below_next, below_none, below_same, gone}
+use Rattle.propagation.proofs.PropagationLemmas.Gather.{below, below_all, below_next, below_none, below_same, gone}
 use Rattle.watch.proofs.WatchLemmas.Moves.{and_false, and_true}
 
 -- ---- What a clause counts as

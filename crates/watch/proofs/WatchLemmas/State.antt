@@ -25,7 +25,8 @@ use Rattle.watch.specs.Code.Visits.{PropagatesTo}
 use Rattle.root_literals.specs.Watched.{IsPart, AreUnchanged, AreWatched, HasEntry, IsListed}
 use Rattle.root_literals.specs.Watched.{AddsFitting, IsShortList, IsWatched, is_short}
 use Rattle.root_literals.specs.Watched.{short_for}
-use Rattle.watch.specs.Watched.{long_clauses, short_clauses}
+use Rattle.propagation.specs.Slots.{short_clauses}
+use Rattle.watch.specs.Watched.{long_clauses}
 use Rattle.propagation.specs.declared.answer.Answer.{Answer}
 use Rattle.propagation.specs.declared.answer.Answer.TheVariants.{Quiet}
 use Rattle.watch_lists.specs.declared.lists.WatchLists.{WatchLists}

@@ -10,6 +10,7 @@ use Rattle.tables.specs.Filled.{at}
 use Rattle.propagation.specs.Assumptions.{Propagation, AssumptionsState, roots_in}
 use Rattle.propagation.specs.Code.Coding.{propagation_code}
 use Rattle.propagation.specs.Code.Scan.{IsHeld}
+use Rattle.propagation.specs.Slots.{short_clauses}
 use Rattle.watch_lists.specs.Lists.{entries_in, list_at}
 use Rattle.root_literals.specs.Order.{each_in_order}
 use Rattle.root_literals.specs.Roots.{IsKept, IsStanding}
@@ -17,7 +18,7 @@ use Rattle.root_literals.specs.Uses.{times}
 use Rattle.propagation.specs.Code.Closure.{AreForced}
 use Rattle.root_literals.specs.Watched.{AreWatched, IsListed, IsShortList}
 use Rattle.watch.specs.State.{WatchState}
-use Rattle.watch.specs.Watched.{long_clauses, short_clauses}
+use Rattle.watch.specs.Watched.{long_clauses}
 use Rattle.watch_lists.specs.declared.lists.WatchLists.{WatchLists}
 use Rattle.root_literals.specs.declared.roots.Roots.{Roots}
 
@@ -29,19 +30,20 @@ variables_in reserved = size reserved
 abbrev pub watch_code : Coded WatchState
 watch_code =
     code_by
-    (Propagation × (((ℕ × ℕ) × (ℕ × ℕ)) × (List ℕ × (Bool × (Bool × Bool)))))
-    (coded× propagation_code
+    ((Propagation × ℕ) × (((ℕ × ℕ) × (ℕ × ℕ)) × (List ℕ × (Bool × (Bool × Bool)))))
+    (coded× (coded× propagation_code coded_ℕ)
     (coded× (coded× (coded× coded_ℕ coded_ℕ) (coded× coded_ℕ coded_ℕ))
     (coded× (coded_list coded_ℕ) (coded× coded_bool (coded× coded_bool coded_bool)))))
     (λ s. (
-      s.propagation,
+      (s.propagation, s.slots),
       (
         ((s.entries, s.short_entries), (s.trues, s.variables)),
         (s.roots, (s.is_loading, (s.is_up_to_date, s.has_clash))),
       ),
     ))
     (λ p. record {
-      propagation = p.0;
+      propagation = p.0.0;
+      slots = p.0.1;
       entries = p.1.0.0.0;
       short_entries = p.1.0.0.1;
       trues = p.1.0.1.0;

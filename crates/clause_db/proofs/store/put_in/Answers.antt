@@ -1,13 +1,9 @@
-use Rattle.std.proofs.Common.{◌≡◌, ℕ, ◌<◌, ◌≤◌, true, None, length, Result, Ok, Err, IfOk, sym, ap}
+use Rattle.std.proofs.Common.{◌≡◌, ◌+◌, ◌≤◌, true, length, sym, ◌∙◌}
 use Rattle.std.proofs.Common.{subst, arith}
-use Rattle.std.specs.FinMap as maps
-use Rattle.cnf_base.specs.Literals.{Clause, same_clause, size}
+use Rattle.cnf_base.specs.Literals.{same_clause, size}
 use Rattle.cnf_base.proofs.SetLemmas.{same_back, same_from, same_there}
 use Rattle.cnf_base.proofs.SizeLemmas.{size_same}
-use Rattle.clause_memory.specs.Memory as memory
-use Rattle.clause_memory.specs.Memory.{MemoryState}
-use Rattle.clause_db.specs.Code.Fields.{IsTakenIn}
-use Rattle.cnf_base.proofs.MapLemmas.{len_with}
+use Rattle.clause_memory.specs.Memory.{slots_for}
 use Rattle.clause_db.proofs.StoreLemmas.Taken.{taken_in}
 use Rattle.clause_db.proofs.store.put_in.Goals as goal
 
@@ -31,3 +27,13 @@ returns-clause-taken g c =
     let as_many = size_same x lits (same_there x lits same) (same_back x lits same) in
     let short = c.in_ok-len.ensures.short in
     taken_in c.insert-2.result (g.M.Memory.seen c.args.memory.now) (g.M.Memory.seen c.insert-2.new.self) lits x same different (omega arith) is.free is.live is.low is.few is.live_alone
+
+pub returns-clause-few_slots : goal.returns-clause-few_slots
+returns-clause-few_slots g c =
+    let lits = c.args.lits.now in
+    let x = c.deref.result.now in
+    let made = c.in_ok-kept.ensures in
+    let same = subst (λ d. same_clause d lits ≡ true) (sym c.deref.ensures.value) made.same in
+    let different = subst (λ d. size d ≡ length d) (sym c.deref.ensures.value) made.different in
+    let as_many : length x ≡ size lits = sym different ∙ size_same x lits (same_there x lits same) (same_back x lits same) in
+    subst (λ n. (g.M.Memory.seen c.insert-2.new.self).slots ≤ (g.M.Memory.seen c.args.memory.now).slots + slots_for n) as_many c.insert-2.ensures.few_slots

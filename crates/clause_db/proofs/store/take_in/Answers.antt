@@ -1,5 +1,5 @@
 -- A short clause whose literals differ.
-use Rattle.std.proofs.Common.{◌≡◌, arith}
+use Rattle.std.proofs.Common.{arith}
 use Rattle.cnf_base.proofs.SetLemmas.{same_from}
 use Rattle.clause_db.proofs.StoreLemmas.Taken.{taken_in}
 use Rattle.clause_db.proofs.store.take_in.Goals as goal

@@ -16,8 +16,8 @@ returns-clause-yes g c is f =
       | in-Quiet w ↦ elim w.match-matches.branch [
         | in-True v ↦ false≢true (ap not (sym v.matches-is) ∙ (sym w.is_lost-is ∙ is))
         | in_default v ↦
-            not_forced (maps.get now.live) (assumed_by now.assumptions) c.args.l w.value.result (no_clash_now old now _ idle c.in_ok-assume.ensures w.in-Quiet.is) w.value.ensures v.in_default.not-True
-            (forced_now old now _ idle c.in_ok-assume.ensures w.in-Quiet.is c.args.l f)
+            not_forced (maps.get now.live) (assumed_by now.assumptions) c.args.l w.value.result (no_clash_now old now _ idle c.in_ok-assume.ensures.assumed w.in-Quiet.is) w.value.ensures v.in_default.not-True
+            (forced_now old now _ idle c.in_ok-assume.ensures.assumed w.in-Quiet.is c.args.l f)
       ]
     ]
 
@@ -27,9 +27,9 @@ returns-clause-no g c is =
     let now = g.P.Propagate.state c.assume.new.self in
     let idle = c.requires.nothing_assumed in
     elim c.match-branch-2.branch [
-      | in-Clash w ↦ inr (has_clashed old now _ idle c.in_ok-assume.ensures w.in-Clash.is)
+      | in-Clash w ↦ inr (has_clashed old now _ idle c.in_ok-assume.ensures.assumed w.in-Clash.is)
       | in-Quiet w ↦ elim w.match-matches.branch [
-        | in-True v ↦ inl (forced_before old now _ idle c.in_ok-assume.ensures w.in-Quiet.is c.args.l (subst (IsValue (maps.get now.live) (assumed_by now.assumptions) c.args.l) v.in-True.is w.value.ensures))
+        | in-True v ↦ inl (forced_before old now _ idle c.in_ok-assume.ensures.assumed w.in-Quiet.is c.args.l (subst (IsValue (maps.get now.live) (assumed_by now.assumptions) c.args.l) v.in-True.is w.value.ensures))
         | in_default v ↦ absurd (true≢false (ap not (sym v.matches-is) ∙ (sym w.is_lost-is ∙ is)))
       ]
     ]

@@ -14,29 +14,29 @@ pub returns-in-Clash-clause-loses : goal.returns-in-Clash-clause-loses
 returns-in-Clash-clause-loses g c d lits there same =
     let old = g.P.Propagate.state c.args.clauses.now in
     let reason = c.in_ok-is_reason.is_reason in
-    let stays = c.undo.ensures.live ∙ c.in_ok-assume.ensures.live in
+    let stays = c.undo.ensures.live ∙ c.in_ok-assume.ensures.assumed.live in
     let Yes : FinMap nat_cmp Clause → Type 0 = λ m. reason ≡ true → (e : Clause) → maps.get m c.args.slot ≡ Some e → IsRootReason (maps.get m) e in
     let No : FinMap nat_cmp Clause → Type 0 = λ m. reason ≡ false → (e : Clause) → maps.get m c.args.slot ≡ Some e → ¬ IsRootReason (maps.get m) e in
-    loses_past_clash old.live c.args.slot d lits there same (has_clashed old _ _ c.requires.idle.nothing_assumed c.in_ok-assume.ensures c.in-Clash.is)
+    loses_past_clash old.live c.args.slot d lits there same (has_clashed old _ _ c.requires.idle.nothing_assumed c.in_ok-assume.ensures.assumed c.in-Clash.is)
     reason (λ is. subst Yes stays c.in_ok-is_reason.ensures.yes is d there) (λ is. subst No stays c.in_ok-is_reason.ensures.no is d there)
 
 pub true_literal-held-requires-clause-no_clash : goal.true_literal-held-requires-clause-no_clash
 true_literal-held-requires-clause-no_clash g c =
-    no_clash_now (g.P.Propagate.state c.args.clauses.now) _ _ c.requires.idle.nothing_assumed c.in_ok-assume.ensures c.in_default.is
+    no_clash_now (g.P.Propagate.state c.args.clauses.now) _ _ c.requires.idle.nothing_assumed c.in_ok-assume.ensures.assumed c.in_default.is
 
 pub returns-in-Some-clause-loses : goal.returns-in-Some-clause-loses
 returns-in-Some-clause-loses g c =
     let old = g.P.Propagate.state c.args.clauses.now in
     let slot = c.args.slot in
     let l = c.in-Some.l in
-    let gone = c.remove-2.ensures.live ∙ ap (λ m. maps.remove m slot) (c.undo-2.ensures.live ∙ c.in_ok-assume.ensures.live) in
+    let gone = c.remove-2.ensures.live ∙ ap (λ m. maps.remove m slot) (c.undo-2.ensures.live ∙ c.in_ok-assume.ensures.assumed.live) in
     let Lost : FinMap nat_cmp Clause → Type 0 = λ m. IfOk c.is_lost.result (λ b. b ≡ true → ¬ Forced (maps.get m) [] l) in
     let Stays : FinMap nat_cmp Clause → Type 0 = λ m. IfOk c.is_lost.result (λ b. b ≡ false → Forced (maps.get m) [] l ⊎ Clash (maps.get m) []) in
     if_ok_both c.is_lost.result _ _ _
     (λ lost is_lost stays d lits there same.
-    loses_held old.live slot d lits there same (is_quiet old _ _ c.requires.idle.nothing_assumed c.in_ok-assume.ensures c.in_default.is)
-    l (c.in-Some.ensures.member d (ap (λ m. maps.get m slot) c.in_ok-assume.ensures.live ∙ there))
-    (forced_before old _ _ c.requires.idle.nothing_assumed c.in_ok-assume.ensures c.in_default.is l c.in-Some.ensures.found)
+    loses_held old.live slot d lits there same (is_quiet old _ _ c.requires.idle.nothing_assumed c.in_ok-assume.ensures.assumed c.in_default.is)
+    l (c.in-Some.ensures.member d (ap (λ m. maps.get m slot) c.in_ok-assume.ensures.assumed.live ∙ there))
+    (forced_before old _ _ c.requires.idle.nothing_assumed c.in_ok-assume.ensures.assumed c.in_default.is l c.in-Some.ensures.found)
     lost is_lost stays)
     (subst Lost gone c.is_lost.ensures.yes) (subst Stays gone c.is_lost.ensures.no)
 
@@ -44,7 +44,7 @@ pub returns-in-Some-clause-refused : goal.returns-in-Some-clause-refused
 returns-in-Some-clause-refused g c =
     let old = g.P.Propagate.state c.args.clauses.now in
     let new = g.P.Propagate.state c.is_lost.new.clauses in
-    let gone = c.is_lost.ensures.live ∙ c.remove-2.ensures.live ∙ ap (λ m. maps.remove m c.args.slot) (c.undo-2.ensures.live ∙ c.in_ok-assume.ensures.live) in
+    let gone = c.is_lost.ensures.live ∙ c.remove-2.ensures.live ∙ ap (λ m. maps.remove m c.args.slot) (c.undo-2.ensures.live ∙ c.in_ok-assume.ensures.assumed.live) in
     let before : old.stored ≡ literals_in old.live = c.requires.idle.live_alone in
     let after : new.stored ≡ literals_in (maps.remove old.live c.args.slot) = c.is_lost.ensures.idle.live_alone ∙ ap literals_in gone in
     let fewer = fewer_literals old.live c.args.slot c.requires.alive in
@@ -53,9 +53,9 @@ returns-in-Some-clause-refused g c =
 pub returns-in-None-clause-loses : goal.returns-in-None-clause-loses
 returns-in-None-clause-loses g c d lits there same =
     let old = g.P.Propagate.state c.args.clauses.now in
-    let shown = ap (λ m. maps.get m c.args.slot) c.in_ok-assume.ensures.live ∙ there in (
+    let shown = ap (λ m. maps.get m c.args.slot) c.in_ok-assume.ensures.assumed.live ∙ there in (
       λ h. absurd (false≢true h),
       λ loses.
-          absurd (loses_nothing old.live c.args.slot d lits there same (is_quiet old _ _ c.requires.idle.nothing_assumed c.in_ok-assume.ensures c.in_default.is)
-          (λ l member f. c.in-None.ensures.none d l shown member (forced_now old _ _ c.requires.idle.nothing_assumed c.in_ok-assume.ensures c.in_default.is l f)) loses),
+          absurd (loses_nothing old.live c.args.slot d lits there same (is_quiet old _ _ c.requires.idle.nothing_assumed c.in_ok-assume.ensures.assumed c.in_default.is)
+          (λ l member f. c.in-None.ensures.none d l shown member (forced_now old _ _ c.requires.idle.nothing_assumed c.in_ok-assume.ensures.assumed c.in_default.is l f)) loses),
     )

@@ -86,6 +86,7 @@ returns-in-Ok c =
       };
       taken = same_cursor c.take_out.new.self (remove list place) place c.take_out.ensures.entries c.take_out.ensures.visited;
       others = λ s ne. ap (λ m. maps.get m s) moved ∙ insert_other live slot s d ne ∙ insert_other before slot s (turned_clause was) ne;
+      slots = c.rewatch.ensures.slots;
     }
 
 pub returns-in-Err : goal.returns-in-Err
@@ -115,4 +116,5 @@ returns-in-Err c =
       };
       taken = tt;
       others = λ s ne. ap (λ m. maps.get m s) back ∙ insert_other before c.args.slot s (turned_clause was) ne;
+      slots = c.swap.ensures.slots ∙ c.rewatch.ensures.slots;
     }

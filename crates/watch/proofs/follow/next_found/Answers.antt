@@ -5,7 +5,7 @@ use Rattle.watch_lists.proofs.WatchListsLemmas.Lists.{entry_past}
 use Rattle.watch.proofs.follow.next_found.Goals as goal
 
 pub loop-entry-init : goal.loop-entry-init
-loop-entry-init c = record { hand = c.requires.hand; visited = λ held reason_of same. visited_none held reason_of c.requires.hand; met = c.requires.met; no_more = omega arith }
+loop-entry-init c = record { hand = c.requires.hand; visited = λ held reason_of same. visited_none held reason_of c.requires.hand; met = c.requires.met; no_more = omega arith; slots = refl }
 
 pub returns-in_err-found-clause-visited : goal.returns-in_err-found-clause-visited
 returns-in_err-found-clause-visited c held reason_of same = visited_on (c.loop-entry.invariant.visited held reason_of same) (c.visit.ensures.visited held reason_of same)
@@ -22,6 +22,7 @@ loop-entry-preserved c = record {
       let fewer = subst (λ o. IfNone o (entries_left c.visit.new.cursor + 1 ≡ entries_left c.loop-entry.cursor)) c.in_default-2.is c.in_ok-found.ensures.fewer in
       let so_far = c.loop-entry.invariant.no_more in
       omega (arith, fewer, so_far);
+  slots = c.visit.ensures.slots ∙ c.loop-entry.invariant.slots;
 }
 
 pub returns-clause-end : goal.returns-clause-end

@@ -1,4 +1,4 @@
-use Rattle.std.proofs.Common.{◌≤◌}
+use Rattle.std.proofs.Common.{◌≡◌, ◌≤◌}
 use Rattle.watch.specs.Code.Visits.{AreMet, IsInHand, VisitsUnder, entries_left}
 use Rattle.watch.proofs.follow.next_found.Given as goal
 
@@ -9,6 +9,7 @@ invariant-loop-entry l = record {
       l.cursor.entries l.l;
   met : AreMet l.store.live l.cursor l.l l.trail.lits;
   no_more : entries_left l.cursor ≤ entries_left l.fn.cursor;
+  slots : l.store.slots ≡ l.fn.store.slots;
 }
 
 abbrev pub decreases-loop-entry : goal.decreases-loop-entry

@@ -1,4 +1,4 @@
-use Rattle.std.proofs.Common.{◌≡◌, ◌<◌, Some, IfNone, length, false, ℕ, ap, ◌∙◌, subst, arith}
+use Rattle.std.proofs.Common.{◌≡◌, ◌<◌, Some, IfNone, length, false, ℕ, refl, ap, ◌∙◌, subst, arith}
 use Rattle.std.specs.FinMap as maps
 use Rattle.cnf_base.specs.Literals.{Clause, complement}
 use Rattle.tables.specs.Filled.{at}
@@ -19,7 +19,7 @@ pub follow-requires-clause-can : goal.follow-requires-clause-can
 follow-requires-clause-can c = can_follow_on c.requires.can c.loop-done.invariant.followed
 
 pub loop-done-init : goal.loop-done-init
-loop-done-init c = record { inside = c.requires.from; watched = c.requires.watched; followed = followed_none c.requires.can }
+loop-done-init c = record { inside = c.requires.from; watched = c.requires.watched; followed = followed_none c.requires.can; slots = refl }
 
 pub returns-in_err-slot-clause-followed : goal.returns-in_err-slot-clause-followed
 returns-in_err-slot-clause-followed c = followed_on c.loop-done.invariant.followed c.follow.ensures.followed
@@ -50,6 +50,7 @@ loop-done-preserved c =
           visited_more before.store.live c.follow.new.store.live before.assumptions c.follow.new.assumptions (at before.reasons) (at c.follow.new.reasons) step before.done inside so_far.watched
           (λ s d is. subst (λ p. IsMet d p after) (c.neg-l.ensures ∙ ap complement read) (partners s d is));
       followed = followed_on so_far.followed e.followed;
+      slots = c.follow.ensures.slots ∙ so_far.slots;
     }
 
 pub returns-clause-quiet : goal.returns-clause-quiet

@@ -1,4 +1,4 @@
-use Rattle.std.proofs.Common.{◌-◌, ◌≤◌, length, take}
+use Rattle.std.proofs.Common.{◌≡◌, ◌-◌, ◌≤◌, length, take}
 use Rattle.std.specs.FinMap as maps
 use Rattle.tables.specs.Filled.{at}
 use Rattle.root_literals.specs.Watched.{IsWatched}
@@ -14,6 +14,7 @@ invariant-loop-done l = record {
   followed :
       Followed l.fn.store.live l.store.live l.fn.lists l.lists l.fn.assumptions l.assumptions
       (at l.fn.reasons) (at l.reasons);
+  slots : l.store.slots ≡ l.fn.store.slots;
 }
 
 abbrev pub decreases-loop-done : goal.decreases-loop-done

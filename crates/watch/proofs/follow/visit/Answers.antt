@@ -83,6 +83,7 @@ returns-then-is_true_near c =
       found = tt;
       fewer = kept_fewer cursor kept.new.self r.0 e kept.ensures.entries kept.ensures.visited;
       as_many = tt;
+      slots = refl;
     }
 
 pub returns-in-Stays : goal.returns-in-Stays
@@ -116,6 +117,7 @@ returns-in-Stays c =
       found = tt;
       fewer = kept_fewer cursor c.keep-in-Stays.new.self r.0 entry entries c.keep-in-Stays.ensures.visited;
       as_many = tt;
+      slots = refl;
     }
 
 pub returns-in-Unit : goal.returns-in-Unit
@@ -126,6 +128,7 @@ returns-in-Unit c =
       found = record { next = c.requires.next; clause = w.clause; at = w.at; holds = c.in-Unit.ensures.visit w.clause w.at };
       fewer = tt;
       as_many = refl;
+      slots = refl;
     }
 
 pub returns-in-Clash : goal.returns-in-Clash
@@ -136,4 +139,5 @@ returns-in-Clash c =
       found = record { next = c.requires.next; clause = w.clause; at = w.at; holds = c.in-Clash.ensures.visit w.clause w.at };
       fewer = tt;
       as_many = refl;
+      slots = refl;
     }

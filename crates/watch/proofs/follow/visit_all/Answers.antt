@@ -22,6 +22,7 @@ pub loop-at-init : goal.loop-at-init
 loop-at-init c = record {
   visited = visited_none c.args.assumptions.now (at c.args.reasons.now) c.requires.can.hand;
   met = λ s some. absurd (none_before c.args.cursor.now.entries c.args.cursor.now.visited s c.requires.front some);
+  slots = refl;
 }
 
 pub next_found-requires-clause-hand : goal.next_found-requires-clause-hand
@@ -93,6 +94,7 @@ loop-at-preserved c =
       met = kept_met live live c.args.l held.trail.lits now.trail.lits (λ l h. has_begun held.trail.lits now.trail.lits l propagates.extends.begins h) cursor kept.new.self _ r.0 met (λ s ne. refl)
           _ refl kept.ensures.entries kept.ensures.visited
           (λ x there _. (m, ap (λ y. has y m) (same_Some x f.clause (sym there ∙ f.at)) ∙ f.holds.0, made_true c.set_by.result held.trail.lits now.trail.lits m s.was_open s.lits));
+      slots = c.next_found.ensures.slots ∙ before.invariant.slots;
     }
 
 pub returns-in-Clash-clause-clash : goal.returns-in-Clash-clause-clash

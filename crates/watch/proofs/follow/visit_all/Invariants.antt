@@ -1,3 +1,4 @@
+use Rattle.std.proofs.Common.{◌≡◌}
 use Rattle.tables.specs.Filled.{at}
 use Rattle.watch.specs.Code.Visits.{AreMet, Visited, entries_left}
 use Rattle.watch.proofs.follow.visit_all.Given as goal
@@ -8,6 +9,7 @@ invariant-loop-at l = record {
       Visited l.fn.store.live l.store.live l.fn.lists l.lists l.fn.cursor.entries l.cursor.entries
       l.fn.assumptions l.assumptions (at l.fn.reasons) (at l.reasons) l.l;
   met : AreMet l.store.live l.cursor l.l l.assumptions.trail.lits;
+  slots : l.store.slots ≡ l.fn.store.slots;
 }
 
 abbrev pub decreases-loop-at : goal.decreases-loop-at

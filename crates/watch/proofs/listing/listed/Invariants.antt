@@ -1,6 +1,6 @@
 -- The lists have the entries of the clauses in the slots that were passed.
 use Rattle.watch.specs.Code.State.{HasAll}
-use Rattle.watch.proofs.WatchLemmas.Gather.{below}
+use Rattle.propagation.proofs.PropagationLemmas.Gather.{below}
 use Rattle.watch.proofs.listing.listed.Given as goal
 
 abbrev pub invariant-loop-number : goal.invariant-loop-number

@@ -36,6 +36,7 @@ loop-done-init c =
       begun = subst (λ n. (p : ℕ) → c.args.trues ≤ p → p ≤ length c.args.assumptions.now.trail.lits → IsWatched (sure_of c.args.roots.now.history.doubts.items (maps.get c.args.store.now.live)) (take n c.args.assumptions.now.trail.lits) (take p c.args.assumptions.now.trail.lits)) (sym c.len-done.ensures) c.requires.begun;
       followed = followed_none c.requires.can;
       uses = refl;
+      slots = refl;
     }
 
 pub follow-requires-clause-is_false : goal.follow-requires-clause-is_false
@@ -103,6 +104,7 @@ loop-done-preserved c =
       begun = begun_again b c.begin.new.self.doubts.items (before.done + 1) y.trail.lits c.len-trues.result (c.len-trues.ensures.value ∙ ap (λ t. length t.lits) c.trail-in-loop-done-2.ensures) watched;
       followed = followed_on so_far.followed e.followed;
       uses = so_far.uses;
+      slots = c.follow.ensures.slots ∙ so_far.slots;
     }
 
 pub returns-in-Some-clause-kept : goal.returns-in-Some-clause-kept

@@ -22,6 +22,7 @@ invariant-loop-done l = record {
       Followed l.fn.store.live l.store.live l.fn.lists l.lists l.fn.assumptions l.assumptions
       (at l.fn.roots.reasons) (at l.roots.reasons);
   uses : l.roots.uses ≡ l.fn.roots.uses;
+  slots : l.store.slots ≡ l.fn.store.slots;
 }
 
 abbrev pub decreases-loop-done : goal.decreases-loop-done

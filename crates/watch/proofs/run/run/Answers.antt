@@ -32,4 +32,5 @@ returns-in-None c =
       closed = λ _. subst (λ m. IsClosed (maps.get m) (λ l. has trues l)) e.same (all_closed after trues different units watched quiet);
       watched = λ _. watched;
       followed = f;
+      slots = c.propagate.ensures.slots;
     }

@@ -78,6 +78,7 @@ returns-in-Ok g c =
           (λ quiet. subst (λ t. IsExact (maps.get shown) all t.lits) (sym c.answer.ensures.trail)
           (part_exact shown (AreForced (maps.get shown)) (λ ls forced. forced) before after added c.requires.may c.requires.watch.scan same all found.trail.lits alike extends.begins f.propagates.sound (p.closed quiet))));
       same = f.propagates.same;
+      slots = c.run.ensures.slots;
     }
 
 pub returns-in-Err : goal.returns-in-Err
@@ -91,4 +92,5 @@ returns-in-Err g c =
           watch_undone c.args.store.now.live c.run.new.store.live c.args.lists.now c.run.new.lists c.args.short.now c.args.roots.now _ c.args.assumptions.now c.assume_from.new.assumptions c.run.new.assumptions c.requires.watch f.propagates refl f.listed f.entries e.begins
           c.undo.new.self _ (extends.assumptions ∙ e.assumed.1) (extends.starts ∙ e.starts) u.assumptions u.starts u.lits (λ v. u.reserved v ∙ extends.reserved v ∙ e.reserved v);
       same = f.propagates.same;
+      slots = c.run.ensures.slots;
     }

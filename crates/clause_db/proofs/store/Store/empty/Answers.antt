@@ -15,4 +15,4 @@ invariant_of-result g c =
     )
 
 pub returns : goal.returns
-returns g c = λ t. record { live = c.new.ensures.live t; stored = c.new.ensures.stored t }
+returns g c = λ t. record { live = c.new.ensures.live t; slots = c.new.ensures.slots t; stored = c.new.ensures.stored t }

@@ -17,4 +17,4 @@ loop-slot-preserved g c l = count_next (g.M.Memory.seen c.args.memory.now).live 
 
 pub returns : goal.returns
 returns g c l = count_whole (g.M.Memory.seen c.args.memory.now).live c.loop-slot.slot l _
-    (λ s some. let below = c.end-slot-end.ensures s some in omega arith) (c.loop-slot.invariant l)
+    (λ s some. let below = c.end-slot-end.ensures.past s some in omega arith) (c.loop-slot.invariant l)

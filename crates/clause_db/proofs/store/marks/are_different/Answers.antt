@@ -1,5 +1,5 @@
 -- No literal so far is this one.
-use Rattle.std.proofs.Common.{◌≡◌, ◌∙◌, sym, false, take, arith, rules}
+use Rattle.std.proofs.Common.{◌≡◌, ◌∙◌, sym, false, take, arith}
 use Rattle.cnf_base.specs.Literals.{has}
 use Rattle.clause_db.proofs.StoreLemmas.Marks.{size_more}
 use Rattle.clause_db.proofs.store.marks.are_different.Goals as goal

@@ -1,6 +1,8 @@
-use Rattle.std.proofs.Common.{◌≡◌, ℕ, ◌<◌, [], refl, sym, ap, arith, None, Option, subst}
+use Rattle.std.proofs.Common.{◌≡◌, ℕ, ◌<◌, [], refl, sym, ap, ◌∙◌, arith, None, Option, subst}
 use Rattle.std.proofs.lemmas.Bool.{false≢true}
 use Rattle.tables.specs.Table.{at}
+use Rattle.clause_memory.specs.Blocks.{cells_in}
+use Rattle.cnf_base.proofs.MapLemmas.{sum_empty}
 use Rattle.clause_memory.specs.Code.Fields.{IsMemory}
 use Rattle.clause_memory.specs.Code.Free.{link_of}
 use Rattle.clause_memory.specs.Code.Cells.{blocks_in, clauses_in, kind_at, literal_words}
@@ -50,3 +52,7 @@ returns-clause-stored c = ap (λ ks. literal_words ks c.new-2.result.items) c.ne
 pub returns-clause-blocks : goal.returns-clause-blocks
 unfolding blocks_in
 returns-clause-blocks c = ap blocks_in c.new.ensures.items
+
+pub returns-clause-slots : goal.returns-clause-slots
+unfolding blocks_in
+returns-clause-slots c = ap (λ ks. cells_in (blocks_in ks)) c.new.ensures.items ∙ sum_empty {X = ℕ} (λ n. n)

@@ -5,17 +5,17 @@ use Rattle.clause_memory.specs.Code.Slots.{IsSlots, held_in}
 use Rattle.clause_memory.proofs.SlotLemmas.{few_held, few_seen, held_with, items_of, slots_stored, slots_with, some_held, stored_seen}
 use Rattle.clause_memory.proofs.slots.SlotsMemory.insert.Goals as goal
 
-pub returns-then-vacant_key-ge-MOST-clause-few : goal.returns-then-vacant_key-ge-MOST-clause-few
-returns-then-vacant_key-ge-MOST-clause-few c = few_seen c.self.inside.clauses.slots c.self.inside.end c.self.invariant c.args.self.now c.self.view_is
+pub returns-then-key-ge-MOST-clause-few : goal.returns-then-key-ge-MOST-clause-few
+returns-then-key-ge-MOST-clause-few c = few_seen c.self.inside.clauses.slots c.self.inside.end c.self.invariant c.args.self.now c.self.view_is
 
-pub returns-then-vacant_key-ge-MOST-clause-live_alone : goal.returns-then-vacant_key-ge-MOST-clause-live_alone
-returns-then-vacant_key-ge-MOST-clause-live_alone c = stored_seen c.self.inside.clauses.slots c.args.self.now c.self.view_is
+pub returns-then-key-ge-MOST-clause-live_alone : goal.returns-then-key-ge-MOST-clause-live_alone
+returns-then-key-ge-MOST-clause-live_alone c = stored_seen c.self.inside.clauses.slots c.self.inside.end c.args.self.now c.self.view_is
 
 pub returns-in_err-clause-clause-few : goal.returns-in_err-clause-clause-few
 returns-in_err-clause-clause-few c = few_seen c.self.inside.clauses.slots c.self.inside.end c.self.invariant c.args.self.now c.self.view_is
 
 pub returns-in_err-clause-clause-live_alone : goal.returns-in_err-clause-clause-live_alone
-returns-in_err-clause-clause-live_alone c = stored_seen c.self.inside.clauses.slots c.args.self.now c.self.view_is
+returns-in_err-clause-clause-live_alone c = stored_seen c.self.inside.clauses.slots c.self.inside.end c.args.self.now c.self.view_is
 
 pub returns-in_err-grow-clause-few : goal.returns-in_err-grow-clause-few
 returns-in_err-grow-clause-few c =
@@ -28,7 +28,7 @@ pub returns-clause-free : goal.returns-clause-free
 returns-clause-free c =
     let slot = c.insert_reserved-slot.result in
     let before = c.self.inside.clauses.slots in
-    some_held before c.args.self.now c.self.view_is slot ∙ ap (λ slots. items_of (slice_index_or slots slot None)) (sym c.grow.ensures.same)
+    some_held before c.self.inside.end c.args.self.now c.self.view_is slot ∙ ap (λ slots. items_of (slice_index_or slots slot None)) (sym c.grow.ensures.same)
     ∙ ap items_of c.insert_reserved-slot.ensures.was_vacant
 
 pub returns-clause-live : goal.returns-clause-live
@@ -47,8 +47,8 @@ returns-clause-few c =
     let new = c.insert_reserved-slot.new.self in
     let key = c.insert_reserved-slot.ensures.key in
     let next = c.grow.ensures.next in
-    let first = c.vacant_key.ensures.value in
-    let low = c.if-vacant_key-ge-MOST.false in
+    let first = c.vacant_key-key.ensures.value in
+    let low = c.if-key-ge-MOST.false in
     let few = c.self.invariant.few in
     let end = c.max-self-inside.ensures in
     few_held new.slots c.max-self-inside.result

@@ -5,7 +5,7 @@ use Rattle.clause_memory.proofs.SlotLemmas.{has_slot, held_without, slots_stored
 use Rattle.clause_memory.proofs.slots.SlotsMemory.remove.Goals as goal
 
 pub remove-requires : goal.remove-requires
-remove-requires c = has_slot c.self.inside.clauses.slots c.args.self.now c.self.view_is c.args.slot c.requires
+remove-requires c = has_slot c.self.inside.clauses.slots c.self.inside.end c.args.self.now c.self.view_is c.args.slot c.requires
 
 pub returns-clause-live : goal.returns-clause-live
 returns-clause-live c =

@@ -15,8 +15,8 @@ judge_without_rup-judged-requires-clause-assumed g c =
       room = search rules;
       quiet = search rules;
       assumed = search rules;
-      no_rup = no_clash old.live (g.P.Propagate.state c.assume.new.self).live lits assumed c.in-Ok-Quiet.ensures.live
-          (subst (IsAnswer (maps.get old.live) assumed) c.in-Ok-Quiet.field-0-is c.in-Ok-Quiet.ensures.answer)
+      no_rup = no_clash old.live (g.P.Propagate.state c.assume.new.self).live lits assumed c.in-Ok-Quiet.ensures.assumed.live
+          (subst (IsAnswer (maps.get old.live) assumed) c.in-Ok-Quiet.field-0-is c.in-Ok-Quiet.ensures.assumed.answer)
           (ap (λ them. assumed_by them ++ complements lits) c.requires.idle.nothing_assumed);
     }
 
@@ -26,4 +26,4 @@ returns-in-Ok-Clash-clause-answers g c =
     let lits = c.args.lits.now in
     listed_rup old.live lits c.args.witness.now c.word_of.result c.word_of.ensures c.requires.listed.consistent c.requires.listed.meets
     (subst (Clash (maps.get old.live)) (ap (λ them. assumed_by them ++ complements lits) c.requires.idle.nothing_assumed)
-    (subst (IsAnswer (maps.get old.live) (assumed_by old.assumptions ++ complements lits)) c.in-Ok-Clash.field-0-is c.in-Ok-Clash.ensures.answer))
+    (subst (IsAnswer (maps.get old.live) (assumed_by old.assumptions ++ complements lits)) c.in-Ok-Clash.field-0-is c.in-Ok-Clash.ensures.assumed.answer))

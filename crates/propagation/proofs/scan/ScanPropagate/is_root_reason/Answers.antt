@@ -6,8 +6,8 @@ use Rattle.propagation.proofs.scan.ScanPropagate.is_root_reason.Goals as goal
 
 pub returns-clause-yes : goal.returns-clause-yes
 returns-clause-yes c =
-    subst (λ p. IfOk c.is_root_reason-found.result (λ is_reason. is_reason ≡ true → (d : Clause) → maps.get p.live c.args.slot ≡ Some d → IsRootReason (maps.get p.live) d)) c.self.view_is c.is_root_reason-found.ensures.yes
+    subst (λ s. IfOk c.is_root_reason-found.result (λ is_reason. is_reason ≡ true → (d : Clause) → maps.get s.propagation.live c.args.slot ≡ Some d → IsRootReason (maps.get s.propagation.live) d)) c.self.view_is c.is_root_reason-found.ensures.yes
 
 pub returns-clause-no : goal.returns-clause-no
 returns-clause-no c =
-    subst (λ p. IfOk c.is_root_reason-found.result (λ is_reason. is_reason ≡ false → (d : Clause) → maps.get p.live c.args.slot ≡ Some d → ¬ IsRootReason (maps.get p.live) d)) c.self.view_is c.is_root_reason-found.ensures.no
+    subst (λ s. IfOk c.is_root_reason-found.result (λ is_reason. is_reason ≡ false → (d : Clause) → maps.get s.propagation.live c.args.slot ≡ Some d → ¬ IsRootReason (maps.get s.propagation.live) d)) c.self.view_is c.is_root_reason-found.ensures.no

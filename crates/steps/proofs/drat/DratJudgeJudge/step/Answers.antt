@@ -24,11 +24,11 @@ taken_off r old left gathered lits step word is same together =
 
 pub returns-in_ok-word-in-Delete-clause-state : goal.returns-in_ok-word-in-Delete-clause-state
 returns-in_ok-word-in-Delete-clause-state g c =
-    taken_off c.args.self.now.rules _ _ _ c.args.lits.now c.args.step.now c.in_ok-word-in-Delete.word (search rules) c.in_ok-word-in-Delete.ensures.live c.gather.ensures.live
+    taken_off c.args.self.now.rules _ _ _ c.args.lits.now c.args.step.now c.in_ok-word-in-Delete.word (search rules) c.in_ok-word-in-Delete.ensures.live c.gather-stay.ensures.live
 
 pub returns-in_ok-word-in-Delete-clause-keeps_models : goal.returns-in_ok-word-in-Delete-clause-keeps_models
 returns-in_ok-word-in-Delete-clause-keeps_models g c =
     let state = λ (p : g.row.P.Denot). by_copies c.args.self.now.rules (maps.values (g.P.Propagate.state p).live) in
     let word = c.in_ok-word-in-Delete.word in
-    keeps_taken (state c.args.self.now.examiner.clauses) (state c.gather.new.self) (with_lits c.args.lits.now c.args.step.now) (Ok word) (search rules)
-    (taken_off c.args.self.now.rules _ _ _ c.args.lits.now c.args.step.now word (search rules) c.in_ok-word-in-Delete.ensures.live c.gather.ensures.live)
+    keeps_taken (state c.args.self.now.examiner.clauses) (state c.gather-stay.new.self) (with_lits c.args.lits.now c.args.step.now) (Ok word) (search rules)
+    (taken_off c.args.self.now.rules _ _ _ c.args.lits.now c.args.step.now word (search rules) c.in_ok-word-in-Delete.ensures.live c.gather-stay.ensures.live)

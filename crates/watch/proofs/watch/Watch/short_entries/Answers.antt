@@ -1,5 +1,5 @@
 use Rattle.std.proofs.Common.{sym, ap, ◌∙◌}
-use Rattle.watch.specs.Watched.{short_clauses}
+use Rattle.propagation.specs.Slots.{short_clauses}
 use Rattle.watch.proofs.WatchLemmas.State.{short_shown}
 use Rattle.watch.proofs.watch.Watch.short_entries.Goals as goal
 

@@ -45,19 +45,19 @@ invariant_of-self-2 g c = (
   subst (λ m. IsClosure (maps.get m) c.self.inside.closure) (sym c.assume_part-assumed.ensures.same) c.self.invariant.2,
 )
 
-pub returns-in_err-prepare : goal.returns-in_err-prepare
-returns-in_err-prepare g c =
+pub returns-in_err-prepare-clause-assumed : goal.returns-in_err-prepare-clause-assumed
+returns-in_err-prepare-clause-assumed g c =
     let ready = c.in_err-prepare.ensures in
     refused_source c.args.self.now.propagation _ _ c.from_residual.result (search rules) ready.live ready.live_alone ready.refused ready.assumptions c.args.source.now
 
-pub returns-then-is_err : goal.returns-then-is_err
-returns-then-is_err g c =
+pub returns-then-is_err-clause-assumed : goal.returns-then-is_err-clause-assumed
+returns-then-is_err-clause-assumed g c =
     let view = c.self.view_is in
     let ready = c.in_ok-prepare.ensures in
     refused_source c.args.self.now.propagation _ _ _ refl (ap (λ w. w.propagation.live) view ∙ ready.live) c.self.invariant.1 refl (c.reserve_given.ensures.more.assumptions ∙ ap (λ w. w.propagation.assumptions) view ∙ ready.assumptions) c.args.source.now
 
-pub returns : goal.returns
-returns g c =
+pub returns-clause-assumed : goal.returns-clause-assumed
+returns-clause-assumed g c =
     let view = c.self.view_is in
     let ready = c.in_ok-prepare.ensures in
     let e = c.assume_part-assumed.ensures in
