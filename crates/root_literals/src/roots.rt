@@ -78,6 +78,8 @@ pub struct Roots {
     /// How many of them have a reason with each literal.
     uses: Uses,
     places: Places,
+    /// There is room for the uses and the places of the first so many literals.
+    with_room: usize,
 }
 
 /// Sets a literal that is not false by the clause in a slot, unless it is true already. Tells
@@ -152,6 +154,7 @@ impl Roots {
             reasons: Filled::new(alloc),
             uses: Uses::new(alloc),
             places: Places::new(alloc),
+            with_room: 0,
         }
     }
 
@@ -169,8 +172,7 @@ impl Roots {
         matches!(self.kept, Kept::Clash(_))
     }
 
-    /// Makes room for the reasons of a literal and of its complement, for how many have each, and
-    /// for the place of the one that is true.
+    /// Makes room for the reasons of a literal and of its complement.
     pub fn reserve_variable(&mut self, l: Lit) -> Result<(), OutOfMemory>
         ensures room { OnOk result ((k : Literal) → k / 2 ≡ l / 2 →
             IsSome (at self.new.reasons k)) }
@@ -181,10 +183,30 @@ impl Roots {
         ensures counted { self.new.uses.counted ≡ self.old.uses.counted }
         ensures times { (k : Literal) → times self.new.uses k ≡ times self.old.uses k }
     {
-        self.places.reserve(l.var())?;
-        self.uses.reserve(l)?;
         self.reasons.reserve(key(l), 0)?;
         self.reasons.reserve(key(l.neg()), 0)
+    }
+
+    /// Makes room for the places of the literals that are true with nothing assumed, and for how
+    /// many reasons have them. Most variables never get one, so it isn't made before.
+    ///
+    /// # Errors
+    ///
+    /// Where memory runs out. What has no room is found by a longer search.
+    pub fn make_room(&mut self, lits: &[Lit]) -> Result<(), OutOfMemory>
+        ensures kept { self.new.kept ≡ self.old.kept }
+        ensures history { self.new.history ≡ self.old.history }
+        ensures reasons { self.new.reasons ≡ self.old.reasons }
+        ensures counted { self.new.uses.counted ≡ self.old.uses.counted }
+        ensures times { (k : Literal) → times self.new.uses k ≡ times self.old.uses k }
+    {
+        for place in self.with_room..lits.len() {
+            let l = lits[place];
+            self.places.reserve(l.var())?;
+            self.uses.reserve(l)?;
+            self.with_room = place + 1;
+        }
+        Ok(())
     }
 
     /// Takes note of a clause that was added, of which this is left and stands first. It does so
@@ -273,6 +295,7 @@ impl Roots {
             .cut(store, &self.reasons, assumptions.trail().lits(), left);
         assumptions.cut(left);
         self.places.cut(left);
+        self.with_room = self.with_room.min(left);
         self.kept = Kept::Cut;
     }
 
@@ -361,6 +384,7 @@ impl Roots {
         self.history.take_out(place);
         self.uses.take_out(place, l);
         self.places.cut(place);
+        self.with_room = self.with_room.saturating_sub(1);
         assumptions.take_out(place);
         true
     }

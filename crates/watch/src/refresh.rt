@@ -163,7 +163,11 @@ pub(crate) fn refresh(
     let trues = assumptions.trail().len();
     start(store, short, assumptions, roots);
     match catch_up(store, lists, assumptions, roots, trues) {
-        Ok(()) => Ok(()),
+        Ok(()) => {
+            // where this is refused, searches take longer
+            let _ = roots.make_room(assumptions.trail().lits());
+            Ok(())
+        }
         Err(refused) => {
             roots.cut(store, assumptions, 0);
             Err(refused)

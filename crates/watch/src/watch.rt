@@ -99,6 +99,7 @@ impl Model for Watch {
         reasons = _;
         uses = record { counts = _; counted = _ };
         places = record { by_variable = _; noted = _ };
+        with_room = _;
       };
       closure = _;
       has_refused = has_refused;
@@ -214,8 +215,9 @@ impl Watch {
         ensures none { OnErr result (self.new.entries ≡ 0) }
         ensures slots { self.new.slots ≡ self.old.slots }
     {
+        let lists = listed(self.alloc, &self.store)?;
         self.store.keep_counts()?;
-        self.lists = listed(self.alloc, &self.store)?;
+        self.lists = lists;
         self.is_loading = false;
         Ok(())
     }

@@ -42,13 +42,26 @@ pub(crate) fn mark_new(marks: &mut Filled<bool>, lits: &[Lit]) -> Result<usize, 
     Ok(len)
 }
 
+/// Whether the literal is one of a few. No call of a general search is worth its while for so few.
+#[inline(always)]
+fn is_among(lits: &[Lit], l: Lit) -> bool
+    ensures { result ≡ false → has lits.now l ≡ false }
+{
+    for other in lits {
+        if *other == l {
+            return true;
+        }
+    }
+    false
+}
+
 /// Whether no literal is repeated. It takes a time that grows with the square of how many there are.
 #[inline(always)]
 pub(crate) fn are_different(lits: &[Lit]) -> bool
     ensures { result ≡ true → size lits.now ≡ length lits.now }
 {
     for (i, l) in lits.iter().enumerate() {
-        if lits[..i].contains(l) {
+        if is_among(&lits[..i], *l) {
             return false;
         }
     }

@@ -1,14 +1,16 @@
-use Rattle.std.proofs.Common.{◌≡◌, ◌/◌, is_some, length, take, sym, ap, ◌∙◌, subst, arith}
+use Rattle.std.proofs.Common.{◌≡◌, ◌/◌, false, is_some, length, take, refl, sym, ap, ◌∙◌}
+use Rattle.std.proofs.Common.{subst, arith}
 use Rattle.std.specs.FinMap as maps
 use Rattle.tables.specs.Filled.{at}
 use Rattle.root_literals.specs.History.{IsRewound}
 use Rattle.root_literals.specs.Order.{each_in_order}
 use Rattle.root_literals.specs.Roots.{AreNoted, IsKept}
+use Rattle.watch.specs.Code.State.{HaveReasons}
 use Rattle.root_literals.proofs.RootLemmas.History.{rewound_none}
 use Rattle.root_literals.proofs.RootLemmas.Kept.{kept_nothing}
 use Rattle.watch.proofs.WatchLemmas.CatchUp.{begun_from}
 use Rattle.watch.proofs.WatchLemmas.Kept.{not_clash, noted_carried, nothing_stands, roots_alone}
-use Rattle.watch.proofs.WatchLemmas.State.{watch_refreshed}
+use Rattle.watch.proofs.WatchLemmas.State.{watch_refreshed, watch_room}
 use Rattle.watch.proofs.refresh.refresh.Goals as goal
 
 pub catch_up-requires-clause-can : goal.catch_up-requires-clause-can
@@ -20,10 +22,31 @@ pub returns-in-Ok-clause-watch : goal.returns-in-Ok-clause-watch
 returns-in-Ok-clause-watch c =
     let e = c.catch_up.ensures.followed in
     let p = e.propagates in
-    watch_refreshed c.args.store.now.live c.catch_up.new.store.live c.args.lists.now c.catch_up.new.lists c.args.short.now c.args.roots.now c.catch_up.new.roots c.args.assumptions.now c.catch_up.new.assumptions c.requires.watch
-    (p.extends.assumptions ∙ c.start.ensures.assumptions ∙ nothing_stands c.args.roots.now.kept c.args.assumptions.now.assumptions c.requires.watch.standing (sym c.is_up_to_date.ensures ∙ c.if-is_up_to_date.false))
-    (λ v. p.extends.reserved v ∙ c.start.ensures.reserved v) p.same p.short e.listed e.entries c.in-Ok.ensures.kept
-    (λ l h. p.noted l (c.start.ensures.noted l h))
+    let live = c.catch_up.new.store.live in
+    let lists = c.catch_up.new.lists in
+    let held = c.catch_up.new.assumptions in
+    let room = c.make_room.ensures in
+    let watch =
+        watch_refreshed c.args.store.now.live live c.args.lists.now lists c.args.short.now
+        c.args.roots.now c.catch_up.new.roots c.args.assumptions.now held c.requires.watch
+        (p.extends.assumptions ∙ c.start.ensures.assumptions ∙ nothing_stands c.args.roots.now.kept
+        c.args.assumptions.now.assumptions c.requires.watch.standing
+        (sym c.is_up_to_date.ensures ∙ c.if-is_up_to_date.false))
+        (λ v. p.extends.reserved v ∙ c.start.ensures.reserved v) p.same p.short e.listed e.entries
+        c.in-Ok.ensures.kept (λ l h. p.noted l (c.start.ensures.noted l h)) in
+    watch_room false live lists c.args.short.now c.catch_up.new.roots c.make_room.new.self held held
+    (record {
+      reserved = λ v h. h;
+      lits = refl;
+      assumptions = refl;
+      starts = refl;
+      reasons = λ k h. ap (λ t. at t k) room.reasons;
+      kept = room.kept;
+      history = room.history;
+      counted = room.counted;
+      times = room.times;
+    })
+    (subst (λ t. HaveReasons held.trail.reserved (at t)) (sym room.reasons) watch.noted) watch
 
 pub returns-in-Err-clause-watch : goal.returns-in-Err-clause-watch
 returns-in-Err-clause-watch c =
