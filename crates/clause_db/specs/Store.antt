@@ -3,7 +3,7 @@ use Rattle.std.specs.FinMap as maps
 use Rattle.std.specs.FinMap.{FinMap}
 use Rattle.std.specs.Ordering.{nat_cmp}
 use Rattle.std.specs.List.{list_any}
-use Rattle.std.specs.Prelude.{◌≡◌, ℕ, List, Some, IsTrue, if◌then◌else◌}
+use Rattle.std.specs.Prelude.{◌≡◌, ℕ, Bool, List, Some, IsTrue, if◌then◌else◌}
 use Rattle.cnf_base.specs.Literals.{Clause, Literal, complement, has, size}
 use Rattle.cnf_base.specs.Maps.{sum_over}
 pub use Rattle.clause_memory.specs.Memory.{slots_for}
@@ -28,6 +28,10 @@ literals_in clauses = sum_over size clauses
 -- how many of the clauses have the literal
 abbrev pub copies_with : FinMap nat_cmp Clause → Literal → ℕ
 copies_with clauses l = sum_over (λ c. if has c l then 1 else 0) clauses
+
+-- the clause has a literal and its complement, so every assignment satisfies it
+abbrev pub is_tautology : Clause → Bool
+is_tautology c = list_any (λ l. has c (complement l)) c
 
 -- the literals touch the clause in the slot: it has the complement of one of them
 pub record IsTouchedAt (live : FinMap nat_cmp Clause) (lits : List Literal) (slot : ℕ) :

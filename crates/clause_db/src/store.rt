@@ -23,7 +23,8 @@ ghost use Rattle.std.specs.FinMap as maps;
 ghost use Rattle.std.specs.FinMap.{FinMap};
 ghost use Rattle.cnf_base.specs.Literals.{Clause, has, same_clause, size};
 ghost use Rattle.clause_memory.specs.Blocks.{CanRewatch, IsRewatched};
-ghost use Rattle.clause_db.specs.Store.{literals_in, copies_with, no_clauses, slots_for};
+ghost use Rattle.clause_db.specs.Store.{literals_in, copies_with, is_tautology, no_clauses};
+ghost use Rattle.clause_db.specs.Store.{slots_for};
 ghost use Rattle.clause_db.specs.Store.{IsTouchedAt};
 ghost use Rattle.clause_db.specs.Code.Counts.{AreCounted};
 ghost use Rattle.clause_db.specs.Code.Fields.{IsTakenIn};
@@ -35,7 +36,8 @@ use crate::Slot;
 use crate::store::counts::{count_in, count_out, count_with, keep};
 use crate::store::kept::{find_slots, forget, note};
 use crate::store::marks::{
-    all_known, are_different, gather, make_known, mark_all, mark_new, unmark_all,
+    all_known, are_different, few_have_complements, gather, have_complements, make_known, mark_all,
+    mark_new, unmark_all,
 };
 use crate::store::search::{find_marked, find_unit};
 use clause_index::{Index, Indexing, NoIndex};
@@ -285,6 +287,20 @@ impl<M: Memory, I: Indexing> Store<M, I> {
         ensures different { length result.now ≡ size result.now }
     {
         self.memory.clause(slot.number())
+    }
+
+    /// Whether the clause in the slot has a literal and its complement. It takes no memory.
+    pub fn is_tautology(&mut self, slot: Slot) -> bool
+        requires { IsSome (maps.get self.old.live slot) }
+        ensures yes { (c : Clause) → maps.get self.old.live slot ≡ Some c →
+            result ≡ is_tautology c }
+        ensures same { self.new ≡ self.old }
+    {
+        let lits = self.memory.clause(slot.number());
+        if lits.len() <= FEW {
+            return few_have_complements(lits);
+        }
+        have_complements(&mut self.marks, lits)
     }
 
     /// What holds of each store: no clause repeats a literal, and no literals are kept but those of

@@ -1,8 +1,9 @@
--- Watched literals: the first two of each clause of two literals or more (as solvers and DRAT-trim
--- have them; our own profile).
-use Rattle.std.specs.Prelude.{◌==◌, ◌||◌, ◌&&◌, ◌+◌, ◌≤◌, Bool, false, [], ◌∷◌, true, ℕ, Option}
+-- Watched literals: the first two of each clause of two literals or more that is no tautology (as
+-- solvers and DRAT-trim have them; our own profile).
+use Rattle.std.specs.Prelude.{◌==◌, ◌||◌, ◌&&◌, ◌+◌, ◌≤◌, Bool, not, false, [], ◌∷◌, true, ℕ, Option}
 use Rattle.std.specs.Prelude.{Some, None, if◌then◌else◌, ◌≡◌, ◌<◌, List, IsSome, IsTrue, ⊤, take}
 use Rattle.cnf_base.specs.Literals.{Literal, Clause, has, complement}
+use Rattle.clause_db.specs.Store.{is_tautology}
 use Rattle.theory.specs.Propagation.{Live}
 use Rattle.propagation.specs.Assumptions.{Assumption}
 use Rattle.propagation.specs.declared.answer.Answer.TheVariants.{Quiet}
@@ -11,17 +12,25 @@ use Rattle.watch_lists.specs.Lists.{unfit_entries}
 use Rattle.watch_lists.specs.declared.lists.WatchLists.{WatchLists}
 use Rattle.watch_lists.specs.declared.watcher.Watcher.{Watcher}
 
+-- whether a literal is one of the first two of a clause that has two or more
+abbrev pub is_first : Clause → Literal → Bool
+is_first [] l = false
+is_first (a ∷ []) l = false
+is_first (a ∷ b ∷ c) l = a == l || b == l
+
 -- whether a clause watches a literal
 abbrev pub watches : Clause → Literal → Bool
-watches [] l = false
-watches (a ∷ []) l = false
-watches (a ∷ b ∷ c) l = a == l || b == l
+watches c l = is_first c l && not (is_tautology c)
 
 -- whether a clause is too short to watch two literals
 abbrev pub is_short : Clause → Bool
 is_short [] = true
 is_short (a ∷ []) = true
 is_short (a ∷ b ∷ c) = false
+
+-- whether a clause watches no literal
+abbrev pub is_unwatched : Clause → Bool
+is_unwatched c = is_short c || is_tautology c
 
 -- ---- The lists
 
@@ -35,6 +44,11 @@ abbrev pub short_for : Option Clause → ℕ
 short_for None = 0
 short_for (Some c) = if is_short c then 1 else 0
 
+-- how many there are for it in the list of the tautologies
+abbrev pub tautology_for : Option Clause → ℕ
+tautology_for None = 0
+tautology_for (Some c) = if is_tautology c then 1 else 0
+
 -- a slot stands once in the lists of the two literals that its clause watches, and nowhere else,
 -- each time in an entry that fits the clause
 pub record IsListed (live : Live) (list_of : Literal → List Watcher) : Type 0 where
@@ -45,6 +59,10 @@ pub record IsListed (live : Live) (list_of : Literal → List Watcher) : Type 0 
 -- a slot of a short clause stands once in this list, and nothing else does
 pub record IsShortList (live : Live) (short : List ℕ) : Type 0 where
   pub listed : (s : ℕ) → times_in s short ≡ short_for (live s)
+
+-- a slot of a tautology stands once in this list, and nothing else does
+pub record IsTautologyList (live : Live) (tautologies : List ℕ) : Type 0 where
+  pub listed : (s : ℕ) → times_in s tautologies ≡ tautology_for (live s)
 
 -- the lists of the literals that the clause watches have one entry more for the slot, and no other
 -- list has more or fewer

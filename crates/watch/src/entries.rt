@@ -7,45 +7,54 @@ ghost use Rattle.cnf_base.specs.Literals.{Clause, has, size};
 ghost use Rattle.watch_lists.specs.Lists.{entries_in, entries_of};
 ghost use Rattle.watch_lists.specs.Lists.{list_at, times_in};
 ghost use Rattle.root_literals.specs.Watched.{AddsFitting, HasEntry, IsListed, IsShortList};
-ghost use Rattle.root_literals.specs.Watched.{is_short};
+ghost use Rattle.root_literals.specs.Watched.{IsTautologyList, is_short, is_unwatched};
+ghost use Rattle.clause_db.specs.Store.{is_tautology};
 
 use clause_db::{Slot, Store};
 use cnf_base::{Lit, OutOfMemory};
 use watch_lists::{SlotList, WatchLists, Watcher};
 
-/// Puts the slot of a clause of two literals or more into the lists of its first two.
+/// Puts the slot of a clause into the lists of its first two literals, unless it has fewer, or a
+/// literal and its complement.
 pub(crate) fn watch_first_two(
     lists: &mut WatchLists,
     clause: &[Lit],
     number: u32,
+    has_complements: bool,
 ) -> Result<(), OutOfMemory>
     requires low { number < 2147483648 }
+    requires complements { has_complements ≡ is_tautology clause.now }
     requires different { size clause.now ≡ length clause.now }
     ensures watched { OnOk result (HasEntry clause.now number lists.new lists.old) }
     ensures fitting { AddsFitting clause.now number lists.old lists.new }
     ensures more { OnOk result (entries_in lists.new ≡
-        entries_in lists.old + (if is_short clause.now then 0 else 2)) }
+        entries_in lists.old + (if is_unwatched clause.now then 0 else 2)) }
     ensures err_watched { OnErr result ((l s : ℕ) → entries_of s (list_at lists.new l) ≡
         entries_of s (list_at lists.old l)) }
     ensures err_entries { OnErr result (entries_in lists.new ≡ entries_in lists.old) }
 {
-    if clause.len() < 2 {
+    if clause.len() < 2 || has_complements {
         return Ok(());
     }
     lists.watch(clause[0], clause[1], number, clause.len() == 2)
 }
 
 /// Puts the slot of a clause into the lists of its first two literals, unless these are still to be
-/// made, or into that of the short clauses.
+/// made, or into that of the short clauses or of the tautologies.
 pub(crate) fn add_entries(
     store: &Store,
     lists: &mut WatchLists,
     short: &mut SlotList,
+    tautologies: &mut SlotList,
     slot: Slot,
+    has_complements: bool,
     is_loading: bool,
 ) -> Result<(), OutOfMemory>
     requires alive { IsSome (maps.get store.now.live slot) }
+    requires complements { (c : Clause) → maps.get store.now.live slot ≡ Some c →
+        has_complements ≡ is_tautology c }
     requires absent { IsFalse (has short.old slot) }
+    requires no_tautology { IsFalse (has tautologies.old slot) }
     ensures watched { OnOk result ((c : Clause) → maps.get store.now.live slot ≡ Some c →
         is_loading ≡ false → HasEntry c slot lists.new lists.old) }
     ensures fitting { (c : Clause) → maps.get store.now.live slot ≡ Some c →
@@ -53,9 +62,12 @@ pub(crate) fn add_entries(
     ensures rest { OnOk result ((c : Clause) → maps.get store.now.live slot ≡ Some c →
         (s : ℕ) → times_in s short.new ≡ times_in s short.old
         + (if is_short c && s == slot then 1 else 0)) }
+    ensures tautologies { OnOk result ((c : Clause) → maps.get store.now.live slot ≡ Some c →
+        (s : ℕ) → times_in s tautologies.new ≡ times_in s tautologies.old
+        + (if is_tautology c && s == slot then 1 else 0)) }
     ensures more { OnOk result ((c : Clause) → maps.get store.now.live slot ≡ Some c →
         entries_in lists.new ≡
-        entries_in lists.old + (if is_loading || is_short c then 0 else 2)) }
+        entries_in lists.old + (if is_loading || is_unwatched c then 0 else 2)) }
     ensures longer { OnOk result ((c : Clause) → maps.get store.now.live slot ≡ Some c →
         length short.new ≡ length short.old + (if is_short c then 1 else 0)) }
     ensures low { OnOk result (slot < 2147483648) }
@@ -63,6 +75,7 @@ pub(crate) fn add_entries(
         entries_of s (list_at lists.old l)) }
     ensures err_entries { OnErr result (entries_in lists.new ≡ entries_in lists.old) }
     ensures err_rest { OnErr result (short.new ≡ short.old) }
+    ensures err_tautologies { OnErr result (tautologies.new ≡ tautologies.old) }
     ensures different { OnOk result ((c : Clause) → maps.get store.now.live slot ≡ Some c →
         size c ≡ length c) }
 {
@@ -73,10 +86,12 @@ pub(crate) fn add_entries(
     let clause = store.clause(slot);
     if clause.len() < 2 {
         short.add(number)
+    } else if has_complements {
+        tautologies.add(number)
     } else if is_loading {
         Ok(())
     } else {
-        watch_first_two(lists, clause, number)
+        watch_first_two(lists, clause, number, has_complements)
     }
 }
 
@@ -85,6 +100,7 @@ pub(crate) fn remove_entries(
     store: &Store,
     lists: &mut WatchLists,
     short: &mut SlotList,
+    tautologies: &mut SlotList,
     slot: Slot,
     is_loading: bool,
 )
@@ -92,6 +108,7 @@ pub(crate) fn remove_entries(
     requires low { slot < 2147483648 }
     requires listed { is_loading ≡ false → IsListed (maps.get store.now.live) (list_at lists.old) }
     requires rest { IsShortList (maps.get store.now.live) short.old }
+    requires tautologies { IsTautologyList (maps.get store.now.live) tautologies.old }
     ensures watched { (c : Clause) → maps.get store.now.live slot ≡ Some c →
         is_loading ≡ false → HasEntry c slot lists.old lists.new }
     ensures fitting { (c : Clause) → maps.get store.now.live slot ≡ Some c →
@@ -99,8 +116,11 @@ pub(crate) fn remove_entries(
     ensures rest { (c : Clause) → maps.get store.now.live slot ≡ Some c →
         (s : ℕ) → times_in s short.new + (if is_short c && s == slot then 1 else 0) ≡
         times_in s short.old }
+    ensures tautologies { (c : Clause) → maps.get store.now.live slot ≡ Some c →
+        (s : ℕ) → times_in s tautologies.new + (if is_tautology c && s == slot then 1 else 0) ≡
+        times_in s tautologies.old }
     ensures fewer { (c : Clause) → maps.get store.now.live slot ≡ Some c →
-        entries_in lists.new + (if is_loading || is_short c then 0 else 2) ≡
+        entries_in lists.new + (if is_loading || is_unwatched c then 0 else 2) ≡
         entries_in lists.old }
     ensures shorter { (c : Clause) → maps.get store.now.live slot ≡ Some c →
         length short.new + (if is_short c then 1 else 0) ≡ length short.old }
@@ -111,6 +131,8 @@ pub(crate) fn remove_entries(
     let clause = store.clause(slot);
     if clause.len() < 2 {
         short.remove(number);
+    } else if tautologies.has(number) {
+        tautologies.remove(number);
     } else if !is_loading {
         let is_binary = clause.len() == 2;
         lists.take_off(clause[0], number, is_binary);

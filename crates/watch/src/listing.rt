@@ -9,6 +9,7 @@ ghost use Rattle.std.specs.Prelude.{◌≡◌, ℕ, ◌<◌, [], IsSome, IfOk};
 ghost use Rattle.std.specs.FinMap as maps;
 ghost use Rattle.cnf_base.specs.Literals.{Literal};
 ghost use Rattle.watch_lists.specs.Lists.{entries_in, list_at};
+ghost use Rattle.root_literals.specs.Watched.{IsTautologyList};
 ghost use Rattle.watch.specs.Code.State.{HasAll};
 
 use crate::entries::watch_first_two;
@@ -16,7 +17,7 @@ use clause_db::Store;
 use cnf_base::{Lit, OutOfMemory};
 use std::alloc::Global;
 use tables::{Filled, key};
-use watch_lists::WatchLists;
+use watch_lists::{SlotList, WatchLists};
 
 /// Counts a literal, up to the greatest number.
 fn count(counts: &mut Filled<u16>, l: Lit) -> Result<(), OutOfMemory> {
@@ -26,11 +27,25 @@ fn count(counts: &mut Filled<u16>, l: Lit) -> Result<(), OutOfMemory> {
     Ok(())
 }
 
+/// Whether the slot is one of these.
+fn is_among(slots: &SlotList, slot: usize) -> bool {
+    match u32::try_from(slot) {
+        Ok(number) => slots.has(number),
+        Err(_) => false,
+    }
+}
+
 /// How many clauses watch each literal, for the room of its list.
-fn count_all(alloc: Global, store: &Store) -> Result<Filled<u16>, OutOfMemory> {
+fn count_all(
+    alloc: Global,
+    store: &Store,
+    tautologies: &SlotList,
+) -> Result<Filled<u16>, OutOfMemory> {
     let mut counts = Filled::new(alloc);
     for slot in 0..store.end() {
-        if let Some([first, second, ..]) = store.at(slot) {
+        if let Some([first, second, ..]) = store.at(slot)
+            && !is_among(tautologies, slot)
+        {
             count(&mut counts, *first)?;
             count(&mut counts, *second)?;
         }
@@ -39,26 +54,36 @@ fn count_all(alloc: Global, store: &Store) -> Result<Filled<u16>, OutOfMemory> {
 }
 
 /// Lists without entries, with room for those of all clauses.
-fn with_room(alloc: Global, store: &Store) -> Result<WatchLists, OutOfMemory>
+fn with_room(
+    alloc: Global,
+    store: &Store,
+    tautologies: &SlotList,
+) -> Result<WatchLists, OutOfMemory>
     ensures lists { IfOk result (λ lists. (l : Literal) → list_at lists l ≡ []) }
     ensures entries { IfOk result (λ lists. entries_in lists ≡ 0) }
 {
-    let counts = count_all(alloc, store)?;
+    let counts = count_all(alloc, store, tautologies)?;
     let mut lists = WatchLists::new(alloc);
     lists.reserve_each(counts.near())?;
     Ok(lists)
 }
 
-/// The watch lists of all clauses of two literals or more.
-pub(crate) fn listed(alloc: Global, store: &Store) -> Result<WatchLists, OutOfMemory>
+/// The watch lists of all clauses of two literals or more, but for the tautologies.
+pub(crate) fn listed(
+    alloc: Global,
+    store: &Store,
+    tautologies: &SlotList,
+) -> Result<WatchLists, OutOfMemory>
+    requires tautologies { IsTautologyList (maps.get store.now.live) tautologies.now }
     requires low { (s : ℕ) → IsSome (maps.get store.now.live s) → s < 2147483648 }
     ensures { IfOk result (λ lists. HasAll store.now.live lists) }
 {
     store.recall_invariant();
-    let mut lists = with_room(alloc, store)?;
+    let mut lists = with_room(alloc, store, tautologies)?;
     for number in 0..store.end() {
         if let Some(clause) = store.at(number) {
-            watch_first_two(&mut lists, clause, number as u32)?;
+            let number = number as u32;
+            watch_first_two(&mut lists, clause, number, tautologies.has(number))?;
         }
     }
     Ok(lists)

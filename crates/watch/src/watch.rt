@@ -17,7 +17,7 @@ ghost use Rattle.root_literals.specs.Order.{each_in_order};
 ghost use Rattle.root_literals.specs.Roots.{is_up_to_date};
 ghost use Rattle.watch.specs.Code.ClauseSource.{clause_of};
 ghost use Rattle.watch.specs.Code.State.{IsWatch};
-ghost use Rattle.watch.specs.Watched.{long_clauses};
+ghost use Rattle.watch.specs.Watched.{watched_clauses};
 
 use crate::arrange::arrange;
 use crate::clause_source::{assume_from, reserve_given};
@@ -48,10 +48,12 @@ pub struct Watch {
     alloc: Global,
     /// That of the hashes of clauses.
     seed: u64,
-    /// Of a clause of two literals or more it watches the first two.
+    /// Of a clause of two literals or more it watches the first two, unless it is a tautology.
     store: Store,
     /// The slots of the clauses of one literal and of none.
     short: SlotList,
+    /// Those of the clauses that have a literal and its complement: nothing follows from them.
+    tautologies: SlotList,
     assumptions: Assumptions,
     /// What is known of the literals that are true with nothing assumed.
     roots: Roots,
@@ -74,6 +76,7 @@ impl Model for Watch {
     ghost use Rattle.propagation.specs.Closure.{IsClosure};
     ghost use Rattle.std.specs.FinMap as maps;
     ghost use Rattle.root_literals.specs.Roots.{has_clash, is_up_to_date};
+    ghost use Rattle.root_literals.specs.Watched.{IsTautologyList};
     ghost use Rattle.watch.specs.Code.State.{IsWatch, variables_in, watch_code};
     ghost use Rattle.watch.specs.State.{WatchState};
 
@@ -83,7 +86,7 @@ impl Model for Watch {
 
     // The order of a clause's literals changes with each move, so it is not shown. Each field has
     // to be named here, those of the roots too. Of them the store alone has lists of literals of
-    // clauses; the roots have slots, places and counts. Of the literals that are true or follow,
+    // clauses; the tautologies are slots, and the roots have slots, places and counts. Of the literals that are true or follow,
     // the trail and the closure have lists: the trail's length is shown, and the closure's list has
     // what follows from the live clauses and nothing else.
     ghost view = { λ record {
@@ -92,6 +95,7 @@ impl Model for Watch {
       store = store;
       lists = lists;
       short = short;
+      tautologies = _;
       assumptions = assumptions;
       roots = record {
         kept = kept;
@@ -125,7 +129,8 @@ impl Model for Watch {
     ghost invariant = { λ w.
         IsWatch w.is_loading w.store.live w.lists w.short w.roots w.assumptions
         × (w.store.stored ≡ literals_in (each_in_order w.store.live))
-        × IsClosure (maps.get (each_in_order w.store.live)) w.closure };
+        × IsClosure (maps.get (each_in_order w.store.live)) w.closure
+        × IsTautologyList (maps.get (each_in_order w.store.live)) w.tautologies };
 }
 
 /// Assumes the complements of a part of a clause, beside what is assumed, and propagates.
@@ -193,6 +198,7 @@ impl Watch {
             store: Store::seeded(alloc, seed)?,
             lists: WatchLists::new(alloc),
             short: SlotList::new(alloc),
+            tautologies: SlotList::new(alloc),
             assumptions: Assumptions::new(alloc)?,
             roots: Roots::new(alloc),
             closure: Closure::new(alloc),
@@ -215,7 +221,7 @@ impl Watch {
         ensures none { OnErr result (self.new.entries ≡ 0) }
         ensures slots { self.new.slots ≡ self.old.slots }
     {
-        let lists = listed(self.alloc, &self.store)?;
+        let lists = listed(self.alloc, &self.store, &self.tautologies)?;
         self.store.keep_counts()?;
         self.lists = lists;
         self.is_loading = false;
@@ -235,8 +241,8 @@ impl Watch {
         self.make_lists()
     }
 
-    /// How many entries all watch lists have, two for each clause of two literals or more; `2^64 -
-    /// 1` where they are more. It makes the lists where they are still to be made.
+    /// How many entries all watch lists have, two for each clause of two literals or more that is no
+    /// tautology; `2^64 - 1` where they are more. It makes the lists where they are still to be made.
     ///
     /// # Errors
     ///
@@ -245,7 +251,7 @@ impl Watch {
         ensures value { IfOk result (λ entries.
             entries ≡ min self.new.entries 18446744073709551615) }
         ensures two_each { OnOk result
-            (self.new.entries ≡ 2 * long_clauses self.new.propagation.live) }
+            (self.new.entries ≡ 2 * watched_clauses self.new.propagation.live) }
         ensures none { OnErr result (self.new.entries ≡ 0) }
         ensures same { self.new.propagation ≡ self.old.propagation }
         ensures slots { self.new.slots ≡ self.old.slots }
@@ -398,17 +404,19 @@ impl Propagate for Watch {
     fn insert(&mut self, lits: &[Lit]) -> Result<Slot, OutOfMemory> {
         reserve_room(&mut self.assumptions, &mut self.roots, lits)?;
         let slot = insert_clause(&mut self.store, &mut self.closure, lits)?;
-        let left = arrange(&mut self.store, self.assumptions.trail(), slot);
+        let arranged = arrange(&mut self.store, self.assumptions.trail(), slot);
         match add_entries(
             &self.store,
             &mut self.lists,
             &mut self.short,
+            &mut self.tautologies,
             slot,
+            arranged.has_complements,
             self.is_loading,
         ) {
             Ok(()) => {
                 self.roots
-                    .enter(&self.store, &mut self.assumptions, slot, left);
+                    .enter(&self.store, &mut self.assumptions, slot, arranged.left);
                 Ok(slot)
             }
             Err(refused) => {
@@ -425,6 +433,7 @@ impl Propagate for Watch {
             &self.store,
             &mut self.lists,
             &mut self.short,
+            &mut self.tautologies,
             slot,
             self.is_loading,
         );

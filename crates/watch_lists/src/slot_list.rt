@@ -1,4 +1,4 @@
-//! The slots of the clauses of one literal and of none, which no watch list has.
+//! The slots of clauses that no watch list has.
 //!
 //! Each has its place noted, so that one is taken out without a walk: a formula may have a million.
 
@@ -52,6 +52,17 @@ impl SlotList {
         ensures { result.now ≡ self.now }
     {
         self.slots.as_slice()
+    }
+
+    /// Whether it has the slot.
+    pub fn has(&self, slot: u32) -> bool
+        ensures { result ≡ has self.now slot }
+    {
+        let Some(place) = self.places.get(slot) else {
+            return false;
+        };
+        let place = place as usize;
+        place < self.slots.len() && self.slots[place] == slot
     }
 
     /// Puts a slot at the end.

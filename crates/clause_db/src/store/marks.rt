@@ -6,6 +6,7 @@ ghost use Rattle.std.specs.Prelude.{vec_capacity};
 ghost use Rattle.std.specs.List.{list_all};
 ghost use Rattle.cnf_base.specs.Literals.{has, same_clause, size};
 ghost use Rattle.clause_index.specs.Hashes.{hash};
+ghost use Rattle.clause_db.specs.Store.{is_tautology};
 ghost use Rattle.clause_db.specs.Code.LiteralMarks.{is_marked};
 ghost use Rattle.tables.specs.Filled.{at};
 
@@ -45,7 +46,7 @@ pub(crate) fn mark_new(marks: &mut Filled<bool>, lits: &[Lit]) -> Result<usize, 
 /// Whether the literal is one of a few. No call of a general search is worth its while for so few.
 #[inline(always)]
 fn is_among(lits: &[Lit], l: Lit) -> bool
-    ensures { result ≡ false → has lits.now l ≡ false }
+    ensures { result ≡ has lits.now l }
 {
     for other in lits {
         if *other == l {
@@ -66,6 +67,29 @@ pub(crate) fn are_different(lits: &[Lit]) -> bool
         }
     }
     true
+}
+
+/// Whether a literal and its complement are among a few. It takes a time that grows with the square
+/// of how many there are.
+#[inline(always)]
+pub(crate) fn few_have_complements(lits: &[Lit]) -> bool
+    ensures { result ≡ is_tautology lits.now }
+{
+    lits.iter().any(|l| is_among(lits, l.neg()))
+}
+
+/// Whether a literal and its complement are among these, where none is marked.
+pub(crate) fn have_complements(marks: &mut Filled<bool>, lits: &[Lit]) -> bool
+    requires known { (l : ℕ) → has lits.now l ≡ true → IsSome (at marks.old l) }
+    requires clear { (l : ℕ) → is_marked (at marks.old l) ≡ false }
+    ensures yes { result ≡ is_tautology lits.now }
+    ensures clear { (l : ℕ) → is_marked (at marks.new l) ≡ false }
+    ensures known { (l : ℕ) → is_some (at marks.new l) ≡ is_some (at marks.old l) }
+{
+    let _digest = mark_all(marks, lits, 0);
+    let is_tautology = lits.iter().any(|l| is_set(marks, l.neg()));
+    unmark_all(marks, lits);
+    is_tautology
 }
 
 /// Makes room in the table for the literals.

@@ -28,7 +28,7 @@ use Rattle.cnf_base.proofs.MapLemmas.{remove_here, remove_other}
 use Rattle.cnf_base.proofs.SetLemmas.{has_head}
 use Rattle.root_literals.proofs.RootLemmas.History.{history_cut, history_none, history_noted}
 use Rattle.root_literals.proofs.RootLemmas.History.{watched_cut, watched_none}
-use Rattle.root_literals.proofs.RootLemmas.Watched.{sure_by, sure_is, watched_sure}
+use Rattle.root_literals.proofs.RootLemmas.Watched.{sure_by, sure_is, watched_sure, watched_first}
 use Rattle.root_literals.proofs.RootLemmas.Reasons.{reasoned_among, reasoned_cut, reasoned_instead}
 use Rattle.root_literals.proofs.RootLemmas.Reasons.{reasoned_none}
 use Rattle.root_literals.specs.Uses.{AreCounted, clause_in, is_in, times}
@@ -95,7 +95,7 @@ pub met_open : (c : Clause) (trues done more : List Literal) → IsPart done tru
 met_open [] trues done more part first l h there = absurd (false≢true there)
 met_open (a ∷ []) trues done more part first l h there = absurd (false≢true there)
 met_open (a ∷ b ∷ c) trues done more part first l h there =
-    absurd (elim (one_of_two a b l there) [
+    absurd (elim (one_of_two a b l (watched_first (a ∷ b ∷ c) l there)) [
       | inl e ↦ true≢false (sym (part (complement l) h) ∙ ap (λ x. has trues (complement x)) (sym e) ∙ first.1)
       | inr e ↦ true≢false (sym (part (complement l) h) ∙ ap (λ x. has trues (complement x)) (sym e) ∙ first.2)
     ])

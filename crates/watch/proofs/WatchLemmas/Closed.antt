@@ -7,14 +7,16 @@ use Rattle.std.specs.FinMap as maps
 use Rattle.std.specs.FinMap.{FinMap}
 use Rattle.std.proofs.lemmas.Bool.{cases_eq, true≢false, false≢true}
 use Rattle.cnf_base.specs.Literals.{Literal, complement, Clause, has, size}
-use Rattle.cnf_base.proofs.SetLemmas.{has_head, has_tail, has_cases}
+use Rattle.cnf_base.proofs.SetLemmas.{any_some, has_head, has_tail, has_cases}
 use Rattle.theory.specs.Propagation.{IsClosed, Clash, by_empty, by_both}
 use Rattle.theory.specs.Sets.{conflicts}
 use Rattle.root_literals.specs.Order.{in_order, each_in_order}
+use Rattle.clause_db.specs.Store.{is_tautology}
+use Rattle.cnf_base.proofs.LiteralLemmas.{complement-complement, complement-other}
 use Rattle.root_literals.specs.Watched.{is_short, short_for, watches, IsMet, HasUnit, IsWatched}
 use Rattle.theory.proofs.PropagationLemmas.Conflicts.{conflict_from}
 use Rattle.root_literals.proofs.RootLemmas.Order.{has-in_order, seen_there, there_seen}
-use Rattle.root_literals.proofs.RootLemmas.Watched.{unit_more}
+use Rattle.root_literals.proofs.RootLemmas.Watched.{unit_more, watches_first}
 use Rattle.trail.proofs.TrailLemmas.Longer.{has_begun}
 use Rattle.propagation.specs.Assumptions.{AssumptionsState}
 use Rattle.watch.specs.Code.Visits.{PropagatesTo}
@@ -27,11 +29,7 @@ pub clause_closed : (c : Clause) (trues : List Literal) → size c ≡ length c 
 clause_closed [] trues different unit met apart m member others = absurd unit
 clause_closed (a ∷ []) trues different unit met apart m member others =
     elim (has_cases a [] m member) [ inl e ↦ subst (λ x. has trues x ≡ true) e unit | inr none ↦ absurd (false≢true none) ]
-clause_closed (a ∷ b ∷ c) trues different unit met apart m member others =
-    elim (cases_eq a m) [
-      | inl first ↦ by_false b (has_tail a (b ∷ c) b (has_head b c)) (eq-or (eqb a b) (eqb b b) (eq-eqb b b refl)) (λ e. a_b (first ∙ sym e))
-      | inr not_first ↦ by_false a (has_head a (b ∷ c)) (ap (λ t. t || eqb b a) (eq-eqb a a refl)) not_first
-    ]
+clause_closed (a ∷ b ∷ c) trues different unit met apart m member others = by_test (is_tautology (a ∷ b ∷ c)) refl
   where
     a_b : a ≢ b
     a_b same = true≢false (sym (has_head b c) ∙ ap (has (b ∷ c)) (sym same) ∙ (distinct_parts a (b ∷ c) different).0)
@@ -45,6 +43,34 @@ clause_closed (a ∷ b ∷ c) trues different unit met apart m member others =
     by_false l there watched ne =
         let w = met l (others l there ne) watched in
         elim (cases_eq w.0 m) [ inl same ↦ subst (λ x. has trues x ≡ true) same w.2 | inr other ↦ absurd (apart w.0 w.2 (others w.0 w.1 other)) ]
+
+    by_two : is_tautology (a ∷ b ∷ c) ≡ false → has trues m ≡ true
+    by_two none = elim (cases_eq a m) [
+      | inl first ↦
+          by_false b (has_tail a (b ∷ c) b (has_head b c))
+          (watches_first (a ∷ b ∷ c) b none ∙ eq-or (eqb a b) (eqb b b) (eq-eqb b b refl)) (λ e. a_b (first ∙ sym e))
+      | inr not_first ↦
+          by_false a (has_head a (b ∷ c))
+          (watches_first (a ∷ b ∷ c) a none ∙ ap (λ t. t || eqb b a) (eq-eqb a a refl)) not_first
+    ]
+
+    -- no two complements are both false, so one is m and true
+    by_both : is_tautology (a ∷ b ∷ c) ≡ true → has trues m ≡ true
+    by_both both =
+        let w = any_some (λ l. has (a ∷ b ∷ c) (complement l)) (a ∷ b ∷ c) both in
+        elim (cases_eq w.0 m) [
+          | inl e ↦
+              subst (λ x. has trues x ≡ true) (complement-complement w.0 ∙ e)
+              (others (complement w.0) w.2 (λ same. complement-other w.0 (same ∙ sym e)))
+          | inr ne ↦ elim (cases_eq (complement w.0) m) [
+            | inl e ↦ subst (λ x. has trues x ≡ true) e (others w.0 w.1 ne)
+            | inr other ↦ absurd (apart (complement w.0) (others w.0 w.1 ne) (others (complement w.0) w.2 other))
+          ]
+        ]
+
+    by_test : (t : Bool) → is_tautology (a ∷ b ∷ c) ≡ t → has trues m ≡ true
+    by_test true both = by_both both
+    by_test false none = by_two none
 
 -- a unit in another order
 pub unit_alike : (c d : Clause) (trues : List Literal) → is_short d ≡ is_short c → ((l : Literal) → has d l ≡ has c l) → HasUnit c trues → HasUnit d trues

@@ -9,7 +9,9 @@ use Rattle.trail.specs.Trail.{HasNoVariableTwice}
 use Rattle.trail.proofs.TrailLemmas.Truth.{consistent}
 use Rattle.watch_lists.specs.Lists.{fits}
 use Rattle.cnf_base.proofs.SetLemmas.{has_head}
+use Rattle.clause_db.specs.Store.{is_tautology}
 use Rattle.root_literals.specs.Watched.{watches, is_short}
+use Rattle.root_literals.proofs.RootLemmas.Watched.{watched_first, watches_first}
 use Rattle.cnf_base.proofs.SizeLemmas.{distinct_parts}
 
 -- a clause of two literals or more
@@ -20,10 +22,12 @@ module _ (first second : Literal) where
   two_apart (a ∷ b ∷ c) long different first_is second_is = λ same.
       true≢false (sym (has_head b c) ∙ ap (has (b ∷ c)) (sym second_is ∙ sym same ∙ first_is) ∙ (distinct_parts a (b ∷ c) different).0)
 
-  pub two_watched : (c : Clause) → 2 ≤ length c → first ≡ get_or c 0 first → second ≡ get_or c 1 second → (x : Literal) → watches c x ≡ (eqb first x || eqb second x)
-  two_watched [] long first_is second_is x = absurd (omega (arith, long))
-  two_watched (a ∷ []) long first_is second_is x = absurd (omega (arith, long))
-  two_watched (a ∷ b ∷ c) long first_is second_is x = ap (λ l. eqb l x || eqb b x) (sym first_is) ∙ ap (λ l. eqb first x || eqb l x) (sym second_is)
+  pub two_watched : (c : Clause) → is_tautology c ≡ false → 2 ≤ length c → first ≡ get_or c 0 first → second ≡ get_or c 1 second → (x : Literal) → watches c x ≡ (eqb first x || eqb second x)
+  two_watched [] apart long first_is second_is x = absurd (omega (arith, long))
+  two_watched (a ∷ []) apart long first_is second_is x = absurd (omega (arith, long))
+  two_watched (a ∷ b ∷ c) apart long first_is second_is x =
+      watches_first (a ∷ b ∷ c) x apart
+      ∙ ap (λ l. eqb l x || eqb b x) (sym first_is) ∙ ap (λ l. eqb first x || eqb l x) (sym second_is)
 
   -- an entry in each of the two lists
   pub one_each : first ≢ second → (slot l s : ℕ) → cond {A = ℕ} ((eqb first l || eqb second l) && eqb s slot) 1 0 ≡ cond (eqb l first && eqb s slot) 1 0 + cond (eqb l second && eqb s slot) 1 0
@@ -39,10 +43,10 @@ short_is [] h = refl
 short_is (a ∷ []) h = refl
 short_is (a ∷ b ∷ c) h = absurd (omega (arith, h))
 
-pub short_unwatched : (c : Clause) → is_short c ≡ true → (x : Literal) → watches c x ≡ false
-short_unwatched [] h x = refl
-short_unwatched (a ∷ []) h x = refl
-short_unwatched (a ∷ b ∷ c) h x = absurd (false≢true h)
+-- of a clause that is no tautology no list of them has more
+pub none_more : (c : Clause) (n s slot : ℕ) → is_tautology c ≡ false → n ≡ n + cond {A = ℕ} (is_tautology c && eqb s slot) 1 0
+none_more c n s slot alone =
+    let none = ap (λ b. cond {A = ℕ} (b && eqb s slot) 1 0) alone in omega (arith, none)
 
 -- ---- Entries that fit
 
@@ -62,7 +66,9 @@ kept_fits trues apart c l was other false fitting l_false member is_true = and_f
 pub no_third : (c : Clause) (l other : Literal) → watches c l ≡ true → fits c l other true ≡ true → (k : Literal) → has c k ≡ true → k ≢ other → k ≡ l
 no_third [] l other watched fitting k member differ = absurd (false≢true watched)
 no_third (a ∷ []) l other watched fitting k member differ = absurd (false≢true watched)
-no_third (a ∷ b ∷ []) l other watched fitting k member differ = grind (arith, nat_tests)
+no_third (a ∷ b ∷ []) l other watched fitting k member differ =
+    let first : (eqb a l || eqb b l) ≡ true = watched_first (a ∷ b ∷ []) l watched in
+    grind (arith, nat_tests)
 no_third (a ∷ b ∷ x ∷ c) l other watched fitting k member differ =
     let two = and_parts (eqb (length (a ∷ b ∷ x ∷ c)) 2) _ (and_parts (has (a ∷ b ∷ x ∷ c) other) _ fitting).1 in
     absurd (let long = eqb-true (length (a ∷ b ∷ x ∷ c)) 2 two.0 in let wrong : ⊥ = omega (arith, long) in wrong)

@@ -8,7 +8,10 @@ use Rattle.std.proofs.lemmas.List.Sums.{sum_by_more, sum_by_more_le, sum_by-cons
 use Rattle.cnf_base.specs.Literals.{Literal, Clause, has}
 use Rattle.theory.specs.Propagation.{Live}
 use Rattle.watch_lists.specs.Lists.{entries_of, times_in, unfit_entries}
+use Rattle.clause_db.specs.Store.{is_tautology}
+use Rattle.cnf_base.proofs.SetLemmas.{both_pass}
 use Rattle.root_literals.specs.Watched.{IsPart, watches, entries_for, IsListed, IsMet}
+use Rattle.root_literals.specs.Watched.{IsTautologyList, tautology_for}
 use Rattle.watch_lists.specs.declared.watcher.Watcher.{Watcher}
 use Rattle.root_literals.proofs.RootLemmas.Watched.{met_more, met_unwatched}
 
@@ -127,3 +130,17 @@ hand_taken lists after l list is others k = by_test (eqb k l) refl
     by_test : (b : Bool) → eqb k l ≡ b → cond b list (after k) ≡ lists k
     by_test true e = is ∙ ap lists (sym (eqb-true k l e))
     by_test false e = others k ∙ ap (λ b. cond b [] (lists k)) e
+
+-- ---- Tautologies
+
+-- a slot stands in their list where its clause is one
+pub tautology_listed : (live : Live) (list : List ℕ) → IsTautologyList live list → (s : ℕ) (c : Clause) → live s ≡ Some c → has list s ≡ is_tautology c
+tautology_listed live list listed s c here =
+    let count = listed.listed s ∙ ap tautology_for here in
+    both_pass (has list s) (is_tautology c)
+    (λ h. let some = times_has list s h in by_count (is_tautology c) (omega (arith, some, count)))
+    (λ h. has_times list s (let one = ap (λ b. cond {A = ℕ} b 1 0) h in omega (arith, one, count)))
+  where
+    by_count : (b : Bool) → 0 < cond {A = ℕ} b 1 0 → b ≡ true
+    by_count true h = refl
+    by_count false h = absurd (omega (arith, h))

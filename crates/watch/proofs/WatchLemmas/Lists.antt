@@ -14,9 +14,11 @@ use Rattle.cnf_base.proofs.MapLemmas.{sum_empty, sum_insert, sum_remove}
 use Rattle.watch_lists.specs.Lists.{entries_in, entries_of, list_at, unfit_entries}
 use Rattle.watch_lists.specs.declared.lists.WatchLists.{WatchLists}
 use Rattle.watch_lists.proofs.WatchListsLemmas.Lists.{unfit_absent}
-use Rattle.root_literals.specs.Watched.{AddsFitting, HasEntry, entries_for, is_short, watches}
+use Rattle.root_literals.specs.Watched.{AddsFitting, HasEntry, entries_for, is_short, is_unwatched}
+use Rattle.root_literals.specs.Watched.{watches}
+use Rattle.clause_db.specs.Store.{is_tautology}
 use Rattle.watch.specs.Code.State.{AreLists, HasAll, HasNone}
-use Rattle.watch.specs.Watched.{long_clauses}
+use Rattle.watch.specs.Watched.{watched_clauses}
 use Rattle.propagation.proofs.PropagationLemmas.Gather.{below, below_all, below_next, below_none, below_same, gone}
 use Rattle.watch.proofs.WatchLemmas.Moves.{and_false, and_true}
 
@@ -30,12 +32,19 @@ long_is [] different = refl
 long_is (a ∷ []) different = ap (nat_le 2) different
 long_is (a ∷ b ∷ c) different = ap (nat_le 2) different ∙ two_le (length c)
 
-pub long_weight : (c : Clause) → size c ≡ length c → 2 * cond (nat_le 2 (size c)) 1 0 ≡ cond (is_short c) 0 2
-long_weight c different = ap (λ b. 2 * cond b 1 0) (long_is c different) ∙ by_test (is_short c)
+-- whether it is watched
+abbrev pub is_counted : Clause → Bool
+is_counted c = nat_le 2 (size c) && not (is_tautology c)
+
+pub watched_weight : (c : Clause) → size c ≡ length c → 2 * cond (is_counted c) 1 0 ≡ cond (is_unwatched c) 0 2
+watched_weight c different =
+    ap (λ b. 2 * cond (b && not (is_tautology c)) 1 0) (long_is c different)
+    ∙ by_test (is_short c) (is_tautology c)
   where
-    by_test : (b : Bool) → 2 * cond (not b) 1 0 ≡ cond b 0 2
-    by_test true = refl
-    by_test false = refl
+    by_test : (a b : Bool) → 2 * cond (not a && not b) 1 0 ≡ cond (a || b) 0 2
+    by_test true b = refl
+    by_test false true = refl
+    by_test false false = refl
 
 pub short_weight : (c : Clause) → size c ≡ length c → cond {A = ℕ} (nat_le 2 (size c)) 0 1 ≡ cond (is_short c) 1 0
 short_weight c different = ap (λ b. cond b 0 1) (long_is c different) ∙ by_test (is_short c)
@@ -96,13 +105,13 @@ module _ (live after : FinMap nat_cmp Clause) (slot : ℕ) (c : Clause) where
     ]
 
     pub lists_added : size c ≡ length c → slot < 2147483648 → (lists lists2 : WatchLists) (loading : Bool) → (loading ≡ false → HasEntry c slot lists2 lists) → AddsFitting c slot lists lists2 →
-        entries_in lists2 ≡ entries_in lists + cond (loading || is_short c) 0 2 → AreLists loading live lists → AreLists loading after lists2
+        entries_in lists2 ≡ entries_in lists + cond (loading || is_unwatched c) 0 2 → AreLists loading live lists → AreLists loading after lists2
     lists_added different low lists lists2 true times fewer entries was =
         let none = was.none in
         record { none = omega (arith, entries, none); low = low_added low was.low }
     lists_added different low lists lists2 false times fewer entries was =
-        let more = ap long_clauses is ∙ sum_insert (λ c. cond (nat_le 2 (size c)) 1 0) live slot c free in
-        let weight = long_weight c different in
+        let more = ap watched_clauses is ∙ sum_insert (λ c. cond (is_counted c) 1 0) live slot c free in
+        let weight = watched_weight c different in
         let two = was.two_each in record {
           each = record {
             watched = λ l s. times refl l s ∙ added (λ o. entries_for o l) refl (watches c l) refl s (entries_of s (list_at lists l)) (was.each.watched l s);
@@ -148,14 +157,14 @@ module _ (live after : FinMap nat_cmp Clause) (slot : ℕ) (c : Clause) where
     ]
 
     pub lists_removed : size c ≡ length c → (lists lists2 : WatchLists) (loading : Bool) → (loading ≡ false → HasEntry c slot lists lists2) → AddsFitting c slot lists lists2 →
-        entries_in lists2 + cond (loading || is_short c) 0 2 ≡ entries_in lists → AreLists loading live lists → AreLists loading after lists2
+        entries_in lists2 + cond (loading || is_unwatched c) 0 2 ≡ entries_in lists → AreLists loading live lists → AreLists loading after lists2
     lists_removed different lists lists2 true times fewer entries was =
         let none = was.none in
         record { none = omega (arith, entries, none); low = low_left was.low }
     lists_removed different lists lists2 false times fewer entries was =
-        let less = sum_remove (λ c. cond (nat_le 2 (size c)) 1 0) live slot c there in
-        let as_map = ap long_clauses is in
-        let weight = long_weight c different in
+        let less = sum_remove (λ c. cond (is_counted c) 1 0) live slot c there in
+        let as_map = ap watched_clauses is in
+        let weight = watched_weight c different in
         let two = was.two_each in record {
           each = record {
             watched = λ l s. removed (λ o. entries_for o l) refl (watches c l) refl s (entries_of s (list_at lists2 l)) (sym (times refl l s) ∙ was.each.watched l s);
@@ -182,11 +191,11 @@ made_none live lists empty no_entries =
         low = λ s is. absurd (false≢true (sym (ap is_some (free s)) ∙ is));
         fitting = λ l s c here. absurd (none-some c (sym (free s) ∙ here));
       };
-      two_each = no_entries ∙ sym (ap (λ n. 2 * n) (ap long_clauses none ∙ sum_empty (λ c. cond (nat_le 2 (size c)) 1 0)));
+      two_each = no_entries ∙ sym (ap (λ n. 2 * n) (ap watched_clauses none ∙ sum_empty (λ c. cond (is_counted c) 1 0)));
     }
 
 pub made_next : (live : FinMap nat_cmp Clause) (n : ℕ) (c : Clause) (lists lists2 : WatchLists) → maps.get live n ≡ Some c → size c ≡ length c → n < 2147483648 → HasEntry c n lists2 lists → AddsFitting c n lists lists2 →
-    entries_in lists2 ≡ entries_in lists + cond (is_short c) 0 2 → HasAll (below n live) lists → HasAll (below (n + 1) live) lists2
+    entries_in lists2 ≡ entries_in lists + cond (is_unwatched c) 0 2 → HasAll (below n live) lists → HasAll (below (n + 1) live) lists2
 made_next live n c lists lists2 here different low times fewer entries =
     lists_added (below n live) (below (n + 1) live) n c (gone n live n (omega arith)) (below_next n live c here) different low lists lists2 false (λ _. times) fewer entries
 

@@ -16,7 +16,11 @@ use Rattle.cnf_base.specs.Literals.{Literal, complement, Clause, has, size}
 use Rattle.cnf_base.proofs.SetLemmas.{has_head, has_tail}
 use Rattle.theory.specs.Propagation.{Live}
 use Rattle.watch_lists.specs.Lists.{entries_of, fits, unfit_entries}
-use Rattle.root_literals.specs.Watched.{watches, is_short, entries_for, short_for, IsListed, IsMet}
+use Rattle.clause_db.specs.Store.{is_tautology}
+use Rattle.clause_db.proofs.StoreLemmas.Swap.{has_swapped}
+use Rattle.root_literals.specs.Watched.{watches, is_first, is_short, entries_for, short_for, IsListed}
+use Rattle.root_literals.specs.Watched.{IsMet}
+use Rattle.root_literals.proofs.RootLemmas.Watched.{tautology_alike, watches_first}
 use Rattle.root_literals.specs.Watched.{IsWatched}
 use Rattle.root_literals.specs.History.{sure_of}
 use Rattle.root_literals.proofs.RootLemmas.Watched.{sure_by, sure_is}
@@ -57,25 +61,35 @@ module _ (a b : Literal) (c : Clause) (k : ℕ) (m : Literal) (different : size 
   read : (d : Literal) → get_or c k d ≡ m
   read d = get_or_default_zero c k d inside ∙ is
 
-  entries_first : (x : Literal) → cond (watches (swap (a ∷ b ∷ c) 0 (suc (suc k))) x) 1 0 + cond {A = ℕ} (eqb x a) 1 0 ≡ cond (watches (a ∷ b ∷ c) x) 1 0 + cond {A = ℕ} (eqb x m) 1 0
+  entries_first : (x : Literal) → cond (is_first (swap (a ∷ b ∷ c) 0 (suc (suc k))) x) 1 0 + cond {A = ℕ} (eqb x a) 1 0 ≡ cond (is_first (a ∷ b ∷ c) x) 1 0 + cond {A = ℕ} (eqb x m) 1 0
   entries_first x = ap (λ y. cond (eqb y x || eqb b x) 1 0 + cond {A = ℕ} (eqb x a) 1 0) (read a) ∙ one_moved a b m x a_b m_b
 
-  entries_second : (x : Literal) → cond (watches (swap (a ∷ b ∷ c) 1 (suc (suc k))) x) 1 0 + cond {A = ℕ} (eqb x b) 1 0 ≡ cond (watches (a ∷ b ∷ c) x) 1 0 + cond {A = ℕ} (eqb x m) 1 0
+  entries_second : (x : Literal) → cond (is_first (swap (a ∷ b ∷ c) 1 (suc (suc k))) x) 1 0 + cond {A = ℕ} (eqb x b) 1 0 ≡ cond (is_first (a ∷ b ∷ c) x) 1 0 + cond {A = ℕ} (eqb x m) 1 0
   entries_second x = ap (λ y. cond (eqb a x || eqb y x) 1 0 + cond {A = ℕ} (eqb x b) 1 0) (read a) ∙ one_moved_second a b m x a_b m_a
 
 -- the literal l, one of the first two, is exchanged with m, which is none of them
 module _ (l m : Literal) where
-  pub entries_moved : (c : Clause) (from to : ℕ) → size c ≡ length c → from < 2 → get_or c from 0 ≡ l → 2 ≤ to → to < length c → get_or c to 0 ≡ m → (x : Literal) →
+  first_moved : (c : Clause) (from to : ℕ) → size c ≡ length c → from < 2 → get_or c from 0 ≡ l → 2 ≤ to → to < length c → get_or c to 0 ≡ m → (x : Literal) →
+      cond (is_first (swap c from to) x) 1 0 + cond {A = ℕ} (eqb x l) 1 0 ≡ cond (is_first c x) 1 0 + cond {A = ℕ} (eqb x m) 1 0
+  first_moved [] from to different low there past inside to_is x = absurd (omega (arith, inside))
+  first_moved (a ∷ []) from to different low there past inside to_is x = absurd (omega (arith, inside, past))
+  first_moved (a ∷ b ∷ c) from zero different low there past inside to_is x = absurd (omega (arith, past))
+  first_moved (a ∷ b ∷ c) from (suc zero) different low there past inside to_is x = absurd (omega (arith, past))
+  first_moved (a ∷ b ∷ c) zero (suc (suc k)) different low there past inside to_is x =
+      ap (λ y. cond (is_first (swap (a ∷ b ∷ c) 0 (suc (suc k))) x) 1 0 + cond {A = ℕ} (eqb x y) 1 0) (sym there) ∙ entries_first a b c k m different (omega (arith, inside)) to_is x
+  first_moved (a ∷ b ∷ c) (suc zero) (suc (suc k)) different low there past inside to_is x =
+      ap (λ y. cond (is_first (swap (a ∷ b ∷ c) 1 (suc (suc k))) x) 1 0 + cond {A = ℕ} (eqb x y) 1 0) (sym there) ∙ entries_second a b c k m different (omega (arith, inside)) to_is x
+  first_moved (a ∷ b ∷ c) (suc (suc from)) (suc (suc k)) different low there past inside to_is x = absurd (omega (arith, low))
+
+  pub entries_moved : (c : Clause) (from to : ℕ) → is_tautology c ≡ false → size c ≡ length c → from < 2 → get_or c from 0 ≡ l → 2 ≤ to → to < length c → get_or c to 0 ≡ m → (x : Literal) →
       cond (watches (swap c from to) x) 1 0 + cond {A = ℕ} (eqb x l) 1 0 ≡ cond (watches c x) 1 0 + cond {A = ℕ} (eqb x m) 1 0
-  entries_moved [] from to different low there past inside to_is x = absurd (omega (arith, inside))
-  entries_moved (a ∷ []) from to different low there past inside to_is x = absurd (omega (arith, inside, past))
-  entries_moved (a ∷ b ∷ c) from zero different low there past inside to_is x = absurd (omega (arith, past))
-  entries_moved (a ∷ b ∷ c) from (suc zero) different low there past inside to_is x = absurd (omega (arith, past))
-  entries_moved (a ∷ b ∷ c) zero (suc (suc k)) different low there past inside to_is x =
-      ap (λ y. cond (watches (swap (a ∷ b ∷ c) 0 (suc (suc k))) x) 1 0 + cond {A = ℕ} (eqb x y) 1 0) (sym there) ∙ entries_first a b c k m different (omega (arith, inside)) to_is x
-  entries_moved (a ∷ b ∷ c) (suc zero) (suc (suc k)) different low there past inside to_is x =
-      ap (λ y. cond (watches (swap (a ∷ b ∷ c) 1 (suc (suc k))) x) 1 0 + cond {A = ℕ} (eqb x y) 1 0) (sym there) ∙ entries_second a b c k m different (omega (arith, inside)) to_is x
-  entries_moved (a ∷ b ∷ c) (suc (suc from)) (suc (suc k)) different low there past inside to_is x = absurd (omega (arith, low))
+  entries_moved c from to apart different low there past inside to_is x =
+      ap (λ b. cond b 1 0 + cond {A = ℕ} (eqb x l) 1 0) (watches_first (swap c from to) x (alike ∙ apart))
+      ∙ first_moved c from to different low there past inside to_is x
+      ∙ ap (λ b. cond b 1 0 + cond {A = ℕ} (eqb x m) 1 0) (sym (watches_first c x apart))
+    where
+      alike : is_tautology (swap c from to) ≡ is_tautology c
+      alike = tautology_alike c (swap c from to) (has_swapped c (swap c from to) from to (omega (arith, low, past, inside)) inside refl)
 
   -- of a literal that isn't m
   pub still_watched : (c d : Clause) → ((x : Literal) → cond (watches d x) 1 0 + cond {A = ℕ} (eqb x l) 1 0 ≡ cond (watches c x) 1 0 + cond {A = ℕ} (eqb x m) 1 0) → (x : Literal) → x ≢ m → watches d x ≡ true → watches c x ≡ true

@@ -12,6 +12,7 @@ use Rattle.theory.specs.Propagation.{Forced, Clash}
 use Rattle.propagation.specs.Assumptions.{AssumptionsState}
 use Rattle.propagation.specs.Code.Exact.{Extends}
 use Rattle.theory.specs.Sets.{SameSet}
+use Rattle.clause_db.specs.Store.{is_tautology}
 use Rattle.root_literals.specs.Order.{in_order, each_in_order}
 use Rattle.root_literals.specs.Roots.{AreReasoned, IsFalseAt}
 use Rattle.watch.specs.Code.Visits.{PropagatesTo}
@@ -62,9 +63,9 @@ clash_from a b x y r s carried slot false_at =
 
 -- the literal m, which isn't false, is exchanged with l, which is
 module _ (live : FinMap nat_cmp Clause) (held : AssumptionsState) (slot : ℕ) (c : Clause) (here : maps.get live slot ≡ Some c) where
-  pub propagates_moved : (from to : ℕ) (l m : Literal) → size c ≡ length c → from < 2 → get_or c from 0 ≡ l → 2 ≤ to → to < length c → get_or c to 0 ≡ m → has held.trail.lits (complement m) ≡ false →
+  pub propagates_moved : (from to : ℕ) (l m : Literal) → is_tautology c ≡ false → size c ≡ length c → from < 2 → get_or c from 0 ≡ l → 2 ≤ to → to < length c → get_or c to 0 ≡ m → has held.trail.lits (complement m) ≡ false →
       (reason_of : Literal → Option ℕ) → PropagatesTo live (maps.insert live slot (swap c from to)) held held reason_of reason_of
-  propagates_moved from to l m different low there past inside to_is m_open reason_of = record {
+  propagates_moved from to l m apart different low there past inside to_is m_open reason_of = record {
     same = ordered_same live slot c (swap c from to) here swapped;
     short = shorts_moved live slot c (swap c from to) here l m moved (short_moved c from to low past inside);
     kept = λ doubts done trues p q w.
@@ -80,7 +81,7 @@ module _ (live : FinMap nat_cmp Clause) (held : AssumptionsState) (slot : ℕ) (
   }
     where
       moved : (x : Literal) → cond (watches (swap c from to) x) 1 0 + cond {A = ℕ} (eqb x l) 1 0 ≡ cond (watches c x) 1 0 + cond {A = ℕ} (eqb x m) 1 0
-      moved = entries_moved l m c from to different low there past inside to_is
+      moved = entries_moved l m c from to apart different low there past inside to_is
 
       swapped : (k : Literal) → has (swap c from to) k ≡ has c k
       swapped = has_swapped c (swap c from to) from to (omega (arith, low, past, inside)) inside refl

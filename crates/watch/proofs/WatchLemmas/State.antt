@@ -1,6 +1,6 @@
 -- What holds of watched literals, as assumptions come and go.
 use Rattle.std.proofs.Common.{◌≡◌, ℕ, ◌+◌, ◌*◌, ◌/◌, ◌<◌, ◌≤◌, Bool, true, false}
-use Rattle.std.proofs.Common.{◌&&◌, ◌||◌, cond, eqb, Option, Some, None, is_some, nat_le}
+use Rattle.std.proofs.Common.{◌&&◌, ◌||◌, not, cond, eqb, Option, Some, None, is_some, nat_le, option_map}
 use Rattle.std.proofs.Common.{drop, slice_index, List, [], ◌∷◌, length, take, refl, sym, ap, ◌∙◌}
 use Rattle.std.proofs.Common.{subst, arith}
 use Rattle.std.specs.Ordering.{nat_cmp}
@@ -17,16 +17,18 @@ use Rattle.trail.specs.Trail.{HasRoomForAll}
 use Rattle.watch_lists.specs.Lists.{entries_in, entries_of, list_at, unfit_entries}
 use Rattle.watch_lists.specs.Lists.{times_in}
 use Rattle.root_literals.specs.History.{IsHistory, sure_of}
-use Rattle.root_literals.specs.Order.{each_in_order}
+use Rattle.root_literals.specs.Order.{each_in_order, in_order}
 use Rattle.root_literals.specs.Roots.{IsKept, IsKnown, IsStanding, is_up_to_date}
 use Rattle.propagation.specs.Code.Closure.{AreForced}
 use Rattle.watch.specs.Code.State.{AddsRoom, AreLists, HasAll, HaveReasons, IsWatch}
 use Rattle.watch.specs.Code.Visits.{PropagatesTo}
 use Rattle.root_literals.specs.Watched.{IsPart, AreUnchanged, AreWatched, HasEntry, IsListed}
-use Rattle.root_literals.specs.Watched.{AddsFitting, IsShortList, IsWatched, is_short}
+use Rattle.root_literals.specs.Watched.{AddsFitting, IsShortList, IsTautologyList, IsWatched, is_short}
+use Rattle.root_literals.specs.Watched.{is_unwatched, tautology_for}
+use Rattle.clause_db.specs.Store.{is_tautology}
 use Rattle.root_literals.specs.Watched.{short_for}
 use Rattle.propagation.specs.Slots.{short_clauses}
-use Rattle.watch.specs.Watched.{long_clauses}
+use Rattle.watch.specs.Watched.{watched_clauses}
 use Rattle.propagation.specs.declared.answer.Answer.{Answer}
 use Rattle.propagation.specs.declared.answer.Answer.TheVariants.{Quiet}
 use Rattle.watch_lists.specs.declared.lists.WatchLists.{WatchLists}
@@ -37,11 +39,12 @@ use Rattle.propagation.proofs.PropagationLemmas.Exact.{begins_on, longer_from}
 use Rattle.trail.proofs.TrailLemmas.Longer.{has_begun}
 use Rattle.propagation.proofs.PropagationLemmas.Scan.{held_reserved}
 use Rattle.root_literals.proofs.RootLemmas.Watched.{front_part}
-use Rattle.watch.proofs.WatchLemmas.Lists.{added, lists_added, lists_removed, lists_same, removed}
+use Rattle.watch.proofs.WatchLemmas.Lists.{added, is_counted, lists_added, lists_removed, lists_same, removed}
 use Rattle.watch.proofs.WatchLemmas.Lists.{short_weight}
 use Rattle.watch.proofs.WatchLemmas.Kept.{kept_carried, kept_forced, roots_alone, roots_part}
 use Rattle.root_literals.proofs.RootLemmas.Kept.{kept_nothing, seen_same}
-use Rattle.root_literals.proofs.RootLemmas.Order.{ordered_empty, size-in_order, sum_ordered}
+use Rattle.root_literals.proofs.RootLemmas.Order.{get_ordered, has-in_order, ordered_empty, size-in_order, sum_ordered}
+use Rattle.root_literals.proofs.RootLemmas.Watched.{tautology_alike}
 use Rattle.root_literals.proofs.RootLemmas.Reasons.{reasoned_same, reasoned_some}
 use Rattle.root_literals.proofs.RootLemmas.Uses.{counted_in_order, counted_same}
 use Rattle.root_literals.specs.Uses.{times}
@@ -49,14 +52,19 @@ use Rattle.cnf_base.proofs.MapLemmas.{sum_empty, sum_insert, sum_remove}
 
 -- ---- Numbers
 
-pub long_shown : (live : FinMap nat_cmp Clause) → long_clauses (each_in_order live) ≡ long_clauses live
-long_shown = sum_ordered (λ c. cond (nat_le 2 (size c)) 1 0) (λ c. cond (nat_le 2 (size c)) 1 0) (λ c. ap (λ n. cond (nat_le 2 n) 1 0) (size-in_order c))
+tautology-in_order : (c : Clause) → is_tautology (in_order c) ≡ is_tautology c
+tautology-in_order c = tautology_alike c (in_order c) (has-in_order c)
+
+pub watched_shown : (live : FinMap nat_cmp Clause) → watched_clauses (each_in_order live) ≡ watched_clauses live
+watched_shown =
+    sum_ordered (λ c. cond (is_counted c) 1 0) (λ c. cond (is_counted c) 1 0)
+    (λ c i. cond (nat_le 2 (size-in_order c i) && not (tautology-in_order c i)) 1 0)
 
 pub short_shown : (live : FinMap nat_cmp Clause) → short_clauses (each_in_order live) ≡ short_clauses live
 short_shown = sum_ordered (λ c. cond (nat_le 2 (size c)) 0 1) (λ c. cond (nat_le 2 (size c)) 0 1) (λ c. ap (λ n. cond (nat_le 2 n) 0 1) (size-in_order c))
 
-pub long_alike : (before after : FinMap nat_cmp Clause) → each_in_order after ≡ each_in_order before → long_clauses after ≡ long_clauses before
-long_alike before after same = sym (long_shown after) ∙ ap long_clauses same ∙ long_shown before
+pub watched_alike : (before after : FinMap nat_cmp Clause) → each_in_order after ≡ each_in_order before → watched_clauses after ≡ watched_clauses before
+watched_alike before after same = sym (watched_shown after) ∙ ap watched_clauses same ∙ watched_shown before
 
 pub short_alike : (before after : FinMap nat_cmp Clause) → each_in_order after ≡ each_in_order before → short_clauses after ≡ short_clauses before
 short_alike before after same = sym (short_shown after) ∙ ap short_clauses same ∙ short_shown before
@@ -101,7 +109,7 @@ module _ (live live2 : FinMap nat_cmp Clause) (lists lists2 : WatchLists) (short
       IsKept live2 roots2 (roots_in last.trail.lits last.assumptions last.starts) → IsStanding roots2.kept last.assumptions → IsWatch false live2 lists2 short roots2 last
   watch_with last reserved scan watched kept standing = record {
     scan = subst (λ m. IsHeld m (AreForced (maps.get m)) last) (sym carried.same) scan;
-    listed = record { each = listed; two_each = entries ∙ watch.listed.two_each ∙ ap (λ n. 2 * n) (sym (long_alike live live2 carried.same)) };
+    listed = record { each = listed; two_each = entries ∙ watch.listed.two_each ∙ ap (λ n. 2 * n) (sym (watched_alike live live2 carried.same)) };
     rest = record { listed = λ s. watch.rest.listed s ∙ sym (carried.short s) };
     watched = watched;
     one_each = watch.one_each ∙ sym (short_alike live live2 carried.same);
@@ -238,7 +246,7 @@ pub watch_refreshed : (live live2 : FinMap nat_cmp Clause) (lists lists2 : Watch
     IsKept live2 roots2 held2.trail.lits → ((l : Literal) → is_some (at roots.reasons l) ≡ true → is_some (at roots2.reasons l) ≡ true) → IsWatch false live2 lists2 short roots2 held2
 watch_refreshed live live2 lists lists2 short roots roots2 held held2 watch nothing reserved same shorts listed entries kept noted =
     watch_alone false live2 lists2 short roots2 held2 nothing (record { each = λ k c here l member. reserved (l / 2) ∙ watch.scan.room.each k c (ap (λ m. maps.get m k) (sym same) ∙ here) l member })
-    (record { each = listed; two_each = entries ∙ watch.listed.two_each ∙ ap (λ n. 2 * n) (sym (long_alike live live2 same)) })
+    (record { each = listed; two_each = entries ∙ watch.listed.two_each ∙ ap (λ n. 2 * n) (sym (watched_alike live live2 same)) })
     (record { listed = λ s. watch.rest.listed s ∙ sym (shorts s) }) (watch.one_each ∙ sym (short_alike live live2 same)) kept
     (λ l h. noted l (watch.noted l (sym (reserved (variable l)) ∙ h)))
 
@@ -263,7 +271,7 @@ module _ (loading : Bool) (live after : FinMap nat_cmp Clause) (lists lists2 : W
     (slot : ℕ) (c : Clause) (different : size c ≡ length c) (room : HasRoomForAll held2.trail.reserved (maps.get (each_in_order after))) (kept : IsKept after roots2 held2.trail.lits) (noted : HaveReasons held2.trail.reserved (at roots2.reasons)) where
   pub watch_added : maps.get live slot ≡ None → after ≡ maps.insert live slot c → slot < 2147483648 →
       (loading ≡ false → HasEntry c slot lists2 lists) → AddsFitting c slot lists lists2 → ((s : ℕ) → times_in s short2 ≡ times_in s short + cond (is_short c && eqb s slot) 1 0) →
-      entries_in lists2 ≡ entries_in lists + cond (loading || is_short c) 0 2 → length short2 ≡ length short + cond (is_short c) 1 0 → IsWatch loading after lists2 short2 roots2 held2
+      entries_in lists2 ≡ entries_in lists + cond (loading || is_unwatched c) 0 2 → length short2 ≡ length short + cond (is_short c) 1 0 → IsWatch loading after lists2 short2 roots2 held2
   watch_added free is low times fewer short_times entries longer =
       let more_short = ap short_clauses is ∙ sum_insert (λ c. cond (nat_le 2 (size c)) 0 1) live slot c free in
       let weight_short = short_weight c different in
@@ -274,7 +282,7 @@ module _ (loading : Bool) (live after : FinMap nat_cmp Clause) (lists lists2 : W
 
   pub watch_removed : maps.get live slot ≡ Some c → after ≡ maps.remove live slot →
       (loading ≡ false → HasEntry c slot lists lists2) → AddsFitting c slot lists lists2 → ((s : ℕ) → times_in s short2 + cond (is_short c && eqb s slot) 1 0 ≡ times_in s short) →
-      entries_in lists2 + cond (loading || is_short c) 0 2 ≡ entries_in lists → length short2 + cond (is_short c) 1 0 ≡ length short → IsWatch loading after lists2 short2 roots2 held2
+      entries_in lists2 + cond (loading || is_unwatched c) 0 2 ≡ entries_in lists → length short2 + cond (is_short c) 1 0 ≡ length short → IsWatch loading after lists2 short2 roots2 held2
   watch_removed there is times fewer short_times entries shorter =
       let less_short = sum_remove (λ c. cond (nat_le 2 (size c)) 0 1) live slot c there in
       let as_map_short = ap short_clauses is in
@@ -301,3 +309,36 @@ watch_loaded live lists after short roots held listed watch = record {
 pub same_state : (live live2 : FinMap nat_cmp Clause) (assumptions assumptions2 : List Assumption) (stored stored2 : ℕ) (has_refused : Bool) → live ≡ live2 → assumptions ≡ assumptions2 → stored ≡ stored2 →
     ◌≡◌ {A = Propagation} (record { live = live; assumptions = assumptions; stored = stored; has_refused = has_refused }) (record { live = live2; assumptions = assumptions2; stored = stored2; has_refused = has_refused })
 same_state live live2 assumptions assumptions2 stored stored2 has_refused p q r = λ i. record { live = p i; assumptions = q i; stored = r i; has_refused = has_refused }
+
+-- ---- Tautologies
+
+tautology_shown : (live : FinMap nat_cmp Clause) (s : ℕ) → tautology_for (maps.get (each_in_order live) s) ≡ tautology_for (maps.get live s)
+tautology_shown live s = ap tautology_for (get_ordered live s) ∙ by_clause (maps.get live s)
+  where
+    by_clause : (o : Option Clause) → tautology_for (option_map in_order o) ≡ tautology_for o
+    by_clause None = refl
+    by_clause (Some c) = ap (λ b. cond {A = ℕ} b 1 0) (tautology-in_order c)
+
+pub tautologies_there : (live : FinMap nat_cmp Clause) (list : List ℕ) → IsTautologyList (maps.get (each_in_order live)) list → IsTautologyList (maps.get live) list
+tautologies_there live list listed = record { listed = λ s. listed.listed s ∙ tautology_shown live s }
+
+pub tautologies_none : (live : FinMap nat_cmp Clause) (list : List ℕ) → live ≡ maps.empty → list ≡ [] → IsTautologyList (maps.get (each_in_order live)) list
+tautologies_none live list none empty = record {
+  listed = λ s. ap (times_in s) empty ∙ sym (tautology_shown live s ∙ ap (λ m. tautology_for (maps.get m s)) none ∙ ap tautology_for (maps.get-empty nat_cmp s));
+}
+
+pub tautologies_added : (live after : FinMap nat_cmp Clause) (list list2 : List ℕ) (slot : ℕ) (c : Clause) → IsTautologyList (maps.get (each_in_order live)) list → maps.get live slot ≡ None → after ≡ maps.insert live slot c →
+    ((s : ℕ) → times_in s list2 ≡ times_in s list + cond (is_tautology c && eqb s slot) 1 0) → IsTautologyList (maps.get (each_in_order after)) list2
+tautologies_added live after list list2 slot c listed free is times = record {
+  listed = λ s.
+      times s ∙ added live after slot c free is tautology_for refl (is_tautology c) refl s (times_in s list) (listed.listed s ∙ tautology_shown live s)
+      ∙ sym (tautology_shown after s);
+}
+
+pub tautologies_removed : (live after : FinMap nat_cmp Clause) (list list2 : List ℕ) (slot : ℕ) (c : Clause) → IsTautologyList (maps.get (each_in_order live)) list → maps.get live slot ≡ Some c → after ≡ maps.remove live slot →
+    ((s : ℕ) → times_in s list2 + cond (is_tautology c && eqb s slot) 1 0 ≡ times_in s list) → IsTautologyList (maps.get (each_in_order after)) list2
+tautologies_removed live after list list2 slot c listed there is times = record {
+  listed = λ s.
+      removed live after slot c there is tautology_for refl (is_tautology c) refl s (times_in s list2) (times s ∙ listed.listed s ∙ tautology_shown live s)
+      ∙ sym (tautology_shown after s);
+}

@@ -1,4 +1,5 @@
 -- A clause whose first two literals are put in the order in which a given one is the second.
+use Rattle.std.proofs.Common.{◌&&◌, not}
 use Rattle.std.proofs.Common.{◌≡◌, ℕ, zero, suc, ◌+◌, ◌-◌, ◌<◌, ◌≤◌, Bool, true, false, cond, eqb}
 use Rattle.std.proofs.Common.{◌||◌, Option, Some, List, [], ◌∷◌, length, get_or, swap, refl, sym, ap}
 use Rattle.std.proofs.Common.{◌∙◌, arith}
@@ -12,7 +13,9 @@ use Rattle.cnf_base.proofs.SizeLemmas.{size_same}
 use Rattle.cnf_base.proofs.MapLemmas.{insert_here, insert_twice}
 use Rattle.clause_db.proofs.StoreLemmas.Swap.{has_swapped}
 use Rattle.propagation.specs.Assumptions.{AssumptionsState}
-use Rattle.root_literals.specs.Watched.{IsListed, is_short, watches}
+use Rattle.clause_db.specs.Store.{is_tautology}
+use Rattle.root_literals.specs.Watched.{IsListed, is_first, is_short, watches}
+use Rattle.root_literals.proofs.RootLemmas.Watched.{tautology_alike}
 use Rattle.root_literals.proofs.RootLemmas.Order.{ordered_same}
 use Rattle.theory.proofs.PropagationLemmas.Forced.{forced_assumed}
 use Rattle.watch.specs.Code.Visits.{IsExchange, IsExchangeAt, PropagatesTo}
@@ -57,12 +60,18 @@ turned_rest (a ∷ b ∷ c) from (suc zero) low past = absurd (omega (arith, pas
 turned_rest (a ∷ b ∷ c) zero (suc (suc to)) low past = refl
 turned_rest (a ∷ b ∷ c) (suc zero) (suc (suc to)) low past = refl
 
+turned_first_two : (c : Clause) (from : ℕ) → from < 2 → 2 ≤ length c → (x : Literal) → is_first (turned c from) x ≡ is_first c x
+turned_first_two [] from low long x = absurd (omega (arith, long))
+turned_first_two (a ∷ []) from low long x = absurd (omega (arith, long))
+turned_first_two (a ∷ b ∷ c) zero low long x = or_turned (eqb a x) (eqb b x)
+turned_first_two (a ∷ b ∷ c) (suc zero) low long x = refl
+turned_first_two (a ∷ b ∷ c) (suc (suc from)) low long x = absurd (omega (arith, low))
+
 pub turned_watches : (c : Clause) (from : ℕ) → from < 2 → 2 ≤ length c → (x : Literal) → watches (turned c from) x ≡ watches c x
-turned_watches [] from low long x = absurd (omega (arith, long))
-turned_watches (a ∷ []) from low long x = absurd (omega (arith, long))
-turned_watches (a ∷ b ∷ c) zero low long x = or_turned (eqb a x) (eqb b x)
-turned_watches (a ∷ b ∷ c) (suc zero) low long x = refl
-turned_watches (a ∷ b ∷ c) (suc (suc from)) low long x = absurd (omega (arith, low))
+turned_watches c from low long x = λ i. turned_first_two c from low long x i && not (alike i)
+  where
+    alike : is_tautology (turned c from) ≡ is_tautology c
+    alike = tautology_alike c (turned c from) (has_swapped c (turned c from) 0 (1 - from) (omega (arith, long)) (omega (arith, long)) refl)
 
 turned_short : (c : Clause) (from : ℕ) → from < 2 → 2 ≤ length c → is_short (turned c from) ≡ is_short c
 turned_short [] from low long = absurd (omega (arith, long))
@@ -135,6 +144,9 @@ module _ {live : FinMap nat_cmp Clause} {slot : ℕ} {l : Literal} {x : Exchange
     clause = turned_clause;
     at = insert_here live slot slot turned_clause refl;
     different = turned_size w.clause w.exchange.from w.exchange.from_low (exchange_long w.exchange) w.different;
+    apart =
+        tautology_alike w.clause turned_clause
+        (turned_has w.clause w.exchange.from w.exchange.from_low (exchange_long w.exchange)) ∙ w.apart;
     exchange = exchange_turned w.exchange;
   }
 

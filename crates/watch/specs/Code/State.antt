@@ -18,7 +18,7 @@ use Rattle.root_literals.specs.Uses.{times}
 use Rattle.propagation.specs.Code.Closure.{AreForced}
 use Rattle.root_literals.specs.Watched.{AreWatched, IsListed, IsShortList}
 use Rattle.watch.specs.State.{WatchState}
-use Rattle.watch.specs.Watched.{long_clauses}
+use Rattle.watch.specs.Watched.{watched_clauses}
 use Rattle.watch_lists.specs.declared.lists.WatchLists.{WatchLists}
 use Rattle.root_literals.specs.declared.roots.Roots.{Roots}
 
@@ -73,10 +73,10 @@ pub record AddsRoom (held now : AssumptionsState) (roots roots_now : Roots) : Ty
   pub counted : roots_now.uses.counted ≡ roots.uses.counted
   pub times : (k : Literal) → times roots_now.uses k ≡ times roots.uses k
 
--- each clause of two literals or more stands in the two lists where it should, and nothing else does
+-- each clause that is watched stands in the two lists where it should, and nothing else does
 pub record HasAll (live : FinMap nat_cmp Clause) (lists : WatchLists) : Type 0 where
   pub each : IsListed (maps.get live) (list_at lists)
-  pub two_each : entries_in lists ≡ 2 * long_clauses live
+  pub two_each : entries_in lists ≡ 2 * watched_clauses live
 
 -- the lists have no entries, and each clause can have some
 pub record HasNone (live : FinMap nat_cmp Clause) (lists : WatchLists) : Type 0 where

@@ -12,6 +12,7 @@ use Rattle.propagation.specs.Code.Exact.{Extends}
 use Rattle.watch_lists.specs.Cursor.{CursorState}
 use Rattle.watch_lists.specs.Lists.{entries_in, entries_of, fits, has_list_at, list_at}
 use Rattle.watch_lists.specs.Lists.{slot_at}
+use Rattle.clause_db.specs.Store.{is_tautology}
 use Rattle.root_literals.specs.History.{sure_of}
 use Rattle.root_literals.specs.Order.{each_in_order}
 use Rattle.root_literals.specs.Roots.{AreNoted, AreReasoned}
@@ -42,6 +43,7 @@ pub record IsExchangeAt (live : FinMap nat_cmp Clause) (slot : ℕ) (l : Literal
   pub clause : Clause
   pub at : maps.get live slot ≡ Some clause
   pub different : size clause ≡ length clause
+  pub apart : IsFalse (is_tautology clause)
   pub exchange : IsExchange clause l x
 
 -- the entry, in the list of the literal, fits the clause in its slot, which watches the literal

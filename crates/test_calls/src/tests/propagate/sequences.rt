@@ -183,7 +183,10 @@ fn both_answer_alike(rt: HostRuntime) -> Result<(), Fail> {
 fn counts_of(alloc: Global, watch: &mut Watch) -> Result<(u64, usize, usize), Fail>
     requires { watch.old.propagation.assumptions ≡ [] }
 {
-    fill(alloc, watch, &[[1, 2], [-1, 3], [1, 1]])?;
+    fill(alloc, watch, &[[1, 2], [-1, 3], [1, 1], [4, -4]])?;
+    let _ = watch.assume(&[])?;
+    watch.undo();
+    fill(alloc, watch, &[[5, -5]])?;
     let _ = watch.assume(&[])?;
     Ok((
         watch.watch_entries()?,

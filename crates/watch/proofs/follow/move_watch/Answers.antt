@@ -70,7 +70,7 @@ returns-in-Ok c =
       known = c.push.ensures.known l c.requires.hand.known;
       taken = put l ∙ ap (λ b. cond b (lists l ++ entry ∷ []) (lists l)) (ne_eqb l x.next other) ∙ c.requires.hand.taken;
       listed = subst (λ m. IsListed (maps.get m) (with_list c.push.new.self l left)) (sym moved)
-          (listed_moved live slot w.clause d w.at l x.next (entries_moved l x.next w.clause 1 x.to w.different w.exchange.from_low w.exchange.from_is past within w.exchange.to_is)
+          (listed_moved live slot w.clause d w.at l x.next (entries_moved l x.next w.clause 1 x.to w.apart w.different w.exchange.from_low w.exchange.from_is past within w.exchange.to_is)
           (with_list c.args.lists.now l list) (with_list c.push.new.self l left) (turned_listed was (with_list c.args.lists.now l list) c.requires.hand.listed)
           (times_moved lists pushed l x.next entry other put list left taken)
           (has_swapped w.clause d 1 x.to (omega (arith, past, within)) within refl) (length-swap w.clause 1 x.to)
@@ -82,7 +82,7 @@ returns-in-Ok c =
         entries = let more = c.in-Ok.ensures.more in let len = ap length c.take_out.ensures.entries in omega (arith, more, shorter, len);
         propagates = subst (λ m. PropagatesTo before m held held reason_of reason_of) (sym moved)
             (propagates_on before live (maps.insert live slot d) held held held reason_of reason_of reason_of (turned_propagates was held reason_of)
-            (propagates_moved live held slot w.clause w.at 1 x.to l x.next w.different w.exchange.from_low w.exchange.from_is past within w.exchange.to_is is_open reason_of));
+            (propagates_moved live held slot w.clause w.at 1 x.to l x.next w.apart w.different w.exchange.from_low w.exchange.from_is past within w.exchange.to_is is_open reason_of));
       };
       taken = same_cursor c.take_out.new.self (remove list place) place c.take_out.ensures.entries c.take_out.ensures.visited;
       others = λ s ne. ap (λ m. maps.get m s) moved ∙ insert_other live slot s d ne ∙ insert_other before slot s (turned_clause was) ne;

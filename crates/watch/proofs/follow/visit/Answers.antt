@@ -7,6 +7,7 @@ use Rattle.cnf_base.specs.Literals.{complement, has}
 use Rattle.watch_lists.specs.Lists.{entries_in, fits, list_at}
 use Rattle.watch.specs.Code.Visits.{IsInHand}
 use Rattle.watch_lists.specs.declared.watcher.Watcher.{Watcher}
+use Rattle.root_literals.proofs.RootLemmas.Watched.{watched_apart}
 use Rattle.watch.proofs.WatchLemmas.Entries.{kept_fits}
 use Rattle.watch.proofs.WatchLemmas.Cursor.{kept_fewer, kept_met, put_same, taken_fewer, taken_met}
 use Rattle.watch.proofs.WatchLemmas.Follow.{front_apart}
@@ -28,7 +29,7 @@ move_watch-requires-clause-next c =
 pub move_watch-requires-clause-exchange : goal.move_watch-requires-clause-exchange
 move_watch-requires-clause-exchange c =
     let w = next_entry c.args.cursor.now c.args.entry c.requires.next c.requires.hand in
-    record { clause = w.clause; at = ap (maps.get c.args.store.now.live) c.slot.ensures.value ∙ w.at; different = c.in-Moves.ensures.unrepeated w.clause w.at; exchange = (c.in-Moves.ensures.visit w.clause w.at).0 }
+    record { clause = w.clause; at = ap (maps.get c.args.store.now.live) c.slot.ensures.value ∙ w.at; different = c.in-Moves.ensures.unrepeated w.clause w.at; apart = watched_apart w.clause c.args.l w.watched; exchange = (c.in-Moves.ensures.visit w.clause w.at).0 }
 
 pub returns-in_ok-move_watch-in-Moves-clause-visited : goal.returns-in_ok-move_watch-in-Moves-clause-visited
 returns-in_ok-move_watch-in-Moves-clause-visited c held reason_of same =

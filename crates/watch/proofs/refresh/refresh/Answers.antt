@@ -27,13 +27,13 @@ returns-in-Ok-clause-watch c =
     let held = c.catch_up.new.assumptions in
     let room = c.make_room.ensures in
     let watch =
-        watch_refreshed c.args.store.now.live live c.args.lists.now lists c.args.short.now
-        c.args.roots.now c.catch_up.new.roots c.args.assumptions.now held c.requires.watch
-        (p.extends.assumptions ∙ c.start.ensures.assumptions ∙ nothing_stands c.args.roots.now.kept
-        c.args.assumptions.now.assumptions c.requires.watch.standing
-        (sym c.is_up_to_date.ensures ∙ c.if-is_up_to_date.false))
-        (λ v. p.extends.reserved v ∙ c.start.ensures.reserved v) p.same p.short e.listed e.entries
-        c.in-Ok.ensures.kept (λ l h. p.noted l (c.start.ensures.noted l h)) in
+    watch_refreshed c.args.store.now.live live c.args.lists.now lists c.args.short.now
+    c.args.roots.now c.catch_up.new.roots c.args.assumptions.now held c.requires.watch
+    (p.extends.assumptions ∙ c.start.ensures.assumptions ∙ nothing_stands c.args.roots.now.kept
+    c.args.assumptions.now.assumptions c.requires.watch.standing
+    (sym c.is_up_to_date.ensures ∙ c.if-is_up_to_date.false))
+    (λ v. p.extends.reserved v ∙ c.start.ensures.reserved v) p.same p.short e.listed e.entries
+    c.in-Ok.ensures.kept (λ l h. p.noted l (c.start.ensures.noted l h)) in
     watch_room false live lists c.args.short.now c.catch_up.new.roots c.make_room.new.self held held
     (record {
       reserved = λ v h. h;

@@ -3,6 +3,7 @@ use Rattle.std.specs.FinMap as maps
 use Rattle.propagation.specs.Closure.{IsClosure}
 use Rattle.propagation.proofs.PropagationLemmas.Reduced.{unless_refused}
 use Rattle.root_literals.proofs.RootLemmas.Order.{literals_ordered}
+use Rattle.root_literals.specs.Watched.{IsTautologyList}
 use Rattle.watch.specs.Code.State.{IsWatch}
 use Rattle.watch.proofs.watch.Watch.prepare.Goals as goal
 
@@ -13,6 +14,7 @@ invariant_of-self-2 c =
       subst (λ b. IsWatch b e.new.store.live e.new.lists c.self-2.inside.short e.new.roots e.new.assumptions) (sym loaded) e.ensures.watch,
       c.recall_invariant-2.ensures.live_alone ∙ sym (literals_ordered e.new.store.live),
       subst (λ m. IsClosure (maps.get m) c.self-2.inside.closure) (sym e.ensures.same) c.self-2.invariant.2,
+      subst (λ m. IsTautologyList (maps.get m) c.self-2.inside.tautologies) (sym e.ensures.same) c.self-2.invariant.3,
     )
 
 pub returns-clause-live_alone : goal.returns-clause-live_alone

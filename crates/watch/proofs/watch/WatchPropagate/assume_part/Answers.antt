@@ -2,6 +2,7 @@ use Rattle.std.proofs.Common.{rules, refl, sym, ap, ◌∙◌, subst}
 use Rattle.std.specs.FinMap as maps
 use Rattle.propagation.specs.Closure.{IsClosure}
 use Rattle.propagation.proofs.PropagationLemmas.Reduced.{unless_refused}
+use Rattle.root_literals.specs.Watched.{IsTautologyList}
 use Rattle.watch.proofs.WatchLemmas.Assumed.{assuming_source, refused_source, source_room}
 use Rattle.watch.proofs.WatchLemmas.Assumed.{source_there}
 use Rattle.root_literals.proofs.RootLemmas.Order.{literals_ordered}
@@ -16,6 +17,7 @@ invariant_of-self g c =
       watch_room i.is_loading i.store.live i.lists i.short i.roots c.reserve_given.new.roots i.assumptions c.reserve_given.new.assumptions r.more r.noted c.self.invariant.0,
       c.self.invariant.1,
       c.self.invariant.2,
+      c.self.invariant.3,
     )
 
 pub assume_part-assumed-requires-clause-watch : goal.assume_part-assumed-requires-clause-watch
@@ -43,6 +45,7 @@ invariant_of-self-2 g c = (
       (sym (ap (λ w. w.is_loading) c.self.view_is ∙ c.in_ok-prepare.ensures.loaded)) c.assume_part-assumed.ensures.watch,
   c.recall_invariant.ensures.live_alone ∙ sym (literals_ordered c.assume_part-assumed.new.store.live),
   subst (λ m. IsClosure (maps.get m) c.self.inside.closure) (sym c.assume_part-assumed.ensures.same) c.self.invariant.2,
+  subst (λ m. IsTautologyList (maps.get m) c.self.inside.tautologies) (sym c.assume_part-assumed.ensures.same) c.self.invariant.3,
 )
 
 pub returns-in_err-prepare-clause-assumed : goal.returns-in_err-prepare-clause-assumed

@@ -6,7 +6,8 @@ use Rattle.propagation.proofs.PropagationLemmas.Scan.{room_removed}
 use Rattle.root_literals.proofs.RootLemmas.Order.{alive_alike, alive_clause, literals_ordered}
 use Rattle.root_literals.proofs.RootLemmas.Order.{ordered_remove}
 use Rattle.watch.proofs.WatchLemmas.Lists.{lists_low, loaded_all}
-use Rattle.watch.proofs.WatchLemmas.State.{alone_kept, watch_put_back, watch_removed}
+use Rattle.watch.proofs.WatchLemmas.State.{alone_kept, tautologies_removed, tautologies_there}
+use Rattle.watch.proofs.WatchLemmas.State.{watch_put_back, watch_removed}
 use Rattle.watch.proofs.watch.WatchPropagate.remove.Goals as goal
 
 pub remove_entries-requires-clause-alive : goal.remove_entries-requires-clause-alive
@@ -37,6 +38,10 @@ remove_entries-requires-clause-low c =
     lists_low i.is_loading i.store.live i.lists c.self.invariant.0.listed c.args.slot
     (sym (alive_alike i.store.live c.args.slot) ∙ ap (λ w. is_some (maps.get w.propagation.live c.args.slot)) c.self.view_is ∙ c.requires.alive)
 
+pub remove_entries-requires-clause-tautologies : goal.remove_entries-requires-clause-tautologies
+remove_entries-requires-clause-tautologies c =
+    tautologies_there c.self.inside.store.live c.self.inside.tautologies c.self.invariant.3
+
 pub invariant_of-self : goal.invariant_of-self
 invariant_of-self c =
     let i = c.self.inside in
@@ -57,6 +62,7 @@ invariant_of-self c =
           d.1 c.remove_clause.ensures.live (e.watched d.0 d.1) (e.fitting d.0 d.1) (e.rest d.0 d.1) (e.fewer d.0 d.1) (e.shorter d.0 d.1),
       c.remove_clause.ensures.live_alone ∙ sym (literals_ordered after),
       c.remove_clause.ensures.closure,
+      tautologies_removed live after i.tautologies c.remove_entries.new.tautologies slot d.0 c.self.invariant.3 d.1 c.remove_clause.ensures.live (e.tautologies d.0 d.1),
     )
 
 pub returns-clause-live : goal.returns-clause-live

@@ -5,7 +5,7 @@ use Rattle.root_literals.specs.Roots.{IsBrought}
 use Rattle.watch.proofs.WatchLemmas.Arrange.{arranged_more, arranged_nothing, arranged_one}
 use Rattle.watch.proofs.WatchLemmas.Arrange.{one_inside}
 use Rattle.root_literals.proofs.RootLemmas.Order.{alive_clause}
-use Rattle.watch.proofs.arrange.arrange.Goals as goal
+use Rattle.watch.proofs.arrange.put_non_false_first.Goals as goal
 
 pub returns-then-not-bring-clause-arranged : goal.returns-then-not-bring-clause-arranged
 returns-then-not-bring-clause-arranged c clause there =
