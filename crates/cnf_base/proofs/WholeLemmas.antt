@@ -18,7 +18,7 @@ use Rattle.cnf_base.specs.Words.{is_digit, number, word_of}
 use Rattle.cnf_base.specs.Code.Digits.{decimal_after}
 use Rattle.cnf_base.specs.Code.Digits.{digits_word, AreDigits}
 use Rattle.cnf_base.specs.Ahead.{is_inner, IsEnded, IsWholeNumber}
-use Rattle.cnf_base.specs.Code.Eight.{unsigned, AreFront}
+use Rattle.cnf_base.specs.Code.Eight.{unsigned}
 use Rattle.cnf_base.specs.Code.Whole.{GoOn}
 use Rattle.cnf_base.specs.declared.scanner.digits.Digits.{Digits}
 use Rattle.cnf_base.specs.declared.scanner.digits.Digits.TheVariants.{Counting, Zero}
@@ -159,22 +159,6 @@ unsigned-behind false bytes count some inside = refl
 unsigned-behind true bytes zero some inside = absurd (omega (arith, some))
 unsigned-behind true [] (suc n) some inside = absurd (omega (arith, inside))
 unsigned-behind true (b ∷ bs) (suc n) some inside = refl
-
--- the first digits are all
-pub GoOn-front : (is_negative : Bool) (bytes : List ℕ) (count size : ℕ) → AreFront (unsigned is_negative bytes) count size
-    → count < length bytes → is_separator (slice_index bytes count) ≡ true → GoOn 0 (unsigned is_negative bytes) count size
-GoOn-front false bytes count size front inside last = record {
-  ended = record { within = inside; separator = last };
-  each = front.each;
-  says = front.says;
-}
-GoOn-front true bytes zero size front inside last = absurd (let some = front.some in omega (arith, some))
-GoOn-front true [] (suc n) size front inside last = absurd (omega (arith, inside))
-GoOn-front true (b ∷ bs) (suc n) size front inside last = record {
-  ended = record { within = omega (arith, inside); separator = last };
-  each = front.each;
-  says = front.says;
-}
 
 -- digits after an optional `-`
 pub IsWholeNumber-signed : (bytes : List ℕ) (is_negative : Bool) (minus count size : ℕ) → 0 < length bytes

@@ -31,9 +31,6 @@ copies_few live l =
 
 -- ---- Through a change of the clauses
 
-pub counted_empty : (counts : Filled ℕ) → ((l : ℕ) → at counts l ≡ None) → AreCounted (Some counts) maps.empty
-counted_empty counts none l = ap count_of (none l) ∙ sym (sum_empty (with_literal l))
-
 module _ (old new : Filled ℕ) (live : FinMap nat_cmp Clause) (k : ℕ) (c : Clause) (are : AreCounted (Some old) live) where
   pub counted_with : maps.get live k ≡ None → ((l : ℕ) → count_of (at new l) ≡ count_of (at old l) + cond (has c l) 1 0) → AreCounted (Some new) (maps.insert live k c)
   counted_with free counts l =

@@ -1,7 +1,7 @@
 -- Clauses in order are the same sets.
 use Rattle.std.proofs.Common.{◌≡◌, ◌≢◌, ℕ, ◌+◌, Bool, true, false, cond, eqb, eqb-true}
 use Rattle.std.proofs.Common.{filter, ◌&&◌, ◌||◌, T, Option, Some, None, option_map, is_some, List}
-use Rattle.std.proofs.Common.{[], ◌∷◌, length, map, sum_by, refl, sym, ap, ◌∙◌, subst, arith}
+use Rattle.std.proofs.Common.{[], ◌∷◌, map, sum_by, refl, sym, ap, ◌∙◌, subst, arith}
 use Rattle.std.specs.Ordering.{nat_cmp, is_lt, eq_by_cmp}
 use Rattle.std.specs.Cmp.{nat_cmp_total}
 use Rattle.std.specs.List.{list_any}
@@ -10,7 +10,6 @@ use Rattle.std.specs.FinMap.{FinMap, find, is_sorted}
 use Rattle.std.specs.FinMap.Entries.{below_all}
 use Rattle.std.proofs.lemmas.Bool.{true≢false}
 use Rattle.std.proofs.lemmas.Bool.Decides.{nat_tests}
-use Rattle.std.proofs.lemmas.List.{length-map}
 use Rattle.std.proofs.lemmas.List.Sums.{sum_by-cons}
 use Rattle.std.proofs.lemmas.Option.{none-some, same_Some}
 use Rattle.cnf_base.specs.Literals.{Literal, Clause, complement, complements, has, same_clause}
@@ -19,7 +18,7 @@ use Rattle.cnf_base.proofs.LiteralLemmas.{complement-complement}
 use Rattle.cnf_base.proofs.SetLemmas.{both_pass, complements_has, filter_has, has-complements}
 use Rattle.cnf_base.proofs.SetLemmas.{has-filter, same_from}
 use Rattle.propagation.specs.Assumptions.{HasAt}
-use Rattle.clause_db.specs.Store.{IsTouchedAt, literals_in, copies_with}
+use Rattle.clause_db.specs.Store.{IsTouchedAt, literals_in}
 use Rattle.cnf_base.specs.Maps.{sum_over}
 use Rattle.root_literals.specs.Order.{set_of, in_order, each_in_order}
 use Rattle.cnf_base.proofs.SizeLemmas.{size_same}
@@ -52,20 +51,6 @@ same-in_order c = same_from (in_order c) c (λ l h. sym (has-in_order c l) ∙ h
 
 pub size-in_order : (c : Clause) → size (in_order c) ≡ size c
 size-in_order c = size_same (in_order c) c (λ l h. sym (has-in_order c l) ∙ h) (λ l h. has-in_order c l ∙ h)
-
--- no literal stands twice there
-pub length-in_order : (c : Clause) → length (in_order c) ≡ size c
-length-in_order c = length-map (maps.entries (set_of c)) (λ e. e.0) ∙ sym (maps.len-entries (set_of c)) ∙ as_many c
-  where
-    by_test : (b : Bool) (m n : ℕ) → m ≡ n → cond b m (m + 1) ≡ cond b n (1 + n)
-    by_test true m n e = e
-    by_test false m n e = omega arith
-
-    as_many : (d : Clause) → maps.len (set_of d) ≡ size d
-    as_many [] = maps.len-empty nat_cmp Unit
-    as_many (l ∷ d) =
-        let is = as_many d in
-        maps.len-insert nat_cmp_total (set_of d) l tt ∙ ap (λ b. cond b (maps.len (set_of d)) (maps.len (set_of d) + 1)) (in_set d l) ∙ by_test (has d l) (maps.len (set_of d)) (size d) is
 
 -- clauses with the same literals are shown alike
 pub alike_in_order : (c d : Clause) → ((l : Literal) → has c l ≡ has d l) → in_order c ≡ in_order d
@@ -119,22 +104,10 @@ sum_ordered w v alike live =
     ap (λ es. sum_by w (map (λ e. e.1) es)) (maps.entries-from_sorted nat_cmp (ordered (maps.entries live)) (still_sorted live))
     ∙ weights_ordered w v alike (maps.entries live)
 
-pub copies_ordered : (live : FinMap nat_cmp Clause) (l : Literal) → copies_with (each_in_order live) l ≡ copies_with live l
-copies_ordered live l = sum_ordered (λ c. cond (has c l) 1 0) (λ c. cond (has c l) 1 0) (λ c. ap (λ b. cond b 1 0) (has-in_order c l)) live
-
 pub literals_ordered : (live : FinMap nat_cmp Clause) → literals_in (each_in_order live) ≡ literals_in live
 literals_ordered = sum_ordered size size size-in_order
 
 -- ---- Changes
-
-pub ordered_insert : (live : FinMap nat_cmp Clause) (s : ℕ) (c : Clause) → each_in_order (maps.insert live s c) ≡ maps.insert (each_in_order live) s (in_order c)
-ordered_insert live s c = same_maps _ _ (λ q.
-    get_ordered (maps.insert live s c) q ∙ ap (option_map in_order) (get_insert live s c q) ∙ by_test q (eqb q s)
-    ∙ ap (cond (eqb q s) (Some (in_order c))) (sym (get_ordered live q)) ∙ sym (get_insert (each_in_order live) s (in_order c) q))
-  where
-    by_test : (q : ℕ) (b : Bool) → option_map in_order (cond b (Some c) (maps.get live q)) ≡ cond b (Some (in_order c)) (option_map in_order (maps.get live q))
-    by_test q true = refl
-    by_test q false = refl
 
 pub ordered_remove : (live : FinMap nat_cmp Clause) (s : ℕ) → each_in_order (maps.remove live s) ≡ maps.remove (each_in_order live) s
 ordered_remove live s = same_maps _ _ (λ q.
@@ -185,9 +158,6 @@ alive_clause live s alive = by_clause (maps.get live s) refl alive
     by_clause : (o : Option Clause) → maps.get live s ≡ o → is_some o ≡ true → (c : Clause) × (maps.get live s ≡ Some c)
     by_clause None is h = absurd (true≢false (sym h))
     by_clause (Some c) is h = (c, is)
-
-pub has_at_seen : (live : FinMap nat_cmp Clause) (l : Literal) (s : ℕ) → HasAt (maps.get live) l s → HasAt (maps.get (each_in_order live)) l s
-has_at_seen live l s h = record { clause = in_order h.clause; at = seen_there live s h.clause h.at; member = has-in_order h.clause l ∙ h.member }
 
 pub seen_has_at : (live : FinMap nat_cmp Clause) (l : Literal) (s : ℕ) → HasAt (maps.get (each_in_order live)) l s → HasAt (maps.get live) l s
 seen_has_at live l s h = let w = there_seen live s h.clause h.at in record { clause = w.0; at = w.1; member = sym (w.2 l) ∙ h.member }

@@ -7,7 +7,7 @@ use Rattle.std.proofs.lemmas.Bool.{ne_eqb}
 use Rattle.std.proofs.lemmas.List.{get_or-map, length-map}
 use Rattle.std.proofs.lemmas.Map.Keys.{apart_from_distinct, IsDistinct-from_apart}
 use Rattle.cnf_base.specs.Literals.{Literal, complement, Clause, has, variable}
-use Rattle.cnf_base.proofs.LiteralLemmas.{complement-complement, complement-other}
+use Rattle.cnf_base.proofs.LiteralLemmas.{complement-other}
 use Rattle.trail.specs.Trail.{value_under, HasNoVariableTwice}
 use Rattle.trail.specs.declared.value.Value.{Value}
 use Rattle.trail.specs.declared.value.Value.TheVariants.{True, False, Open}
@@ -40,11 +40,6 @@ module _ (ls : List ℕ) (apart : HasNoVariableTwice ls) where
 
   pub consistent : (l : ℕ) → has ls l ≡ true → has ls (complement l) ≡ false
   consistent l h = false_from_ne_true (has ls (complement l)) (λ g. complement-other l (same_literal (complement l) l g h (variable-complement l)))
-
--- where a trail is read, what is false isn't true
-pub consistent_complement : (ls shown : List ℕ) → shown ≡ ls → HasNoVariableTwice shown → (l : ℕ) → has ls (complement l) ≡ true → has ls l ≡ false
-consistent_complement ls shown is apart l h =
-    ap (has ls) (sym (complement-complement l)) ∙ consistent ls (subst HasNoVariableTwice is apart) (complement l) h
 
 -- ---- Values
 

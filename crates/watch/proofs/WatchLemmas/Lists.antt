@@ -17,7 +17,7 @@ use Rattle.watch_lists.proofs.WatchListsLemmas.Lists.{unfit_absent}
 use Rattle.root_literals.specs.Watched.{AddsFitting, HasEntry, entries_for, is_short, is_unwatched}
 use Rattle.root_literals.specs.Watched.{watches}
 use Rattle.clause_db.specs.Store.{is_tautology}
-use Rattle.watch.specs.Code.State.{AreLists, HasAll, HasNone}
+use Rattle.watch.specs.Code.State.{AreLists, HasAll}
 use Rattle.watch.specs.Watched.{watched_clauses}
 use Rattle.propagation.proofs.PropagationLemmas.Gather.{below, below_all, below_next, below_none, below_same, gone}
 use Rattle.watch.proofs.WatchLemmas.Moves.{and_false, and_true}
@@ -58,9 +58,6 @@ short_weight c different = ap (λ b. cond b 0 1) (long_is c different) ∙ by_te
 pub lists_low : (loading : Bool) (live : FinMap nat_cmp Clause) (lists : WatchLists) → AreLists loading live lists → (s : ℕ) → IsSome (maps.get live s) → s < 2147483648
 lists_low true live lists was = was.low
 lists_low false live lists was = was.each.low
-
-pub loading_none : (loading : Bool) (live : FinMap nat_cmp Clause) (lists : WatchLists) → loading ≡ true → AreLists loading live lists → HasNone live lists
-loading_none loading live lists is = subst (λ b. AreLists b live lists) is
 
 pub loaded_all : (loading : Bool) (live : FinMap nat_cmp Clause) (lists : WatchLists) → loading ≡ false → AreLists loading live lists → HasAll live lists
 loaded_all loading live lists is = subst (λ b. AreLists b live lists) is
