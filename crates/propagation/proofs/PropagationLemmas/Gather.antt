@@ -1,6 +1,6 @@
 -- Clauses that are put into other slots one after the other are the same clauses.
-use Rattle.std.proofs.Common.{◌≡◌, ◌≢◌, ℕ, ◌+◌, ◌*◌, ◌<◌, true, cond, Option, Some, None}
-use Rattle.std.proofs.Common.{List, [], ◌∷◌, sum_by, is_some, IsSome, nat_lt, nat_le, ◌≤◌, refl, sym, ap, ◌∙◌, arith, inl, inr}
+use Rattle.std.proofs.Common.{◌≡◌, ◌≢◌, ℕ, ◌+◌, ◌*◌, ◌<◌, true, false, cond, Option, Some, None}
+use Rattle.std.proofs.Common.{List, [], ◌∷◌, sum_by, is_some, IsSome, nat_lt, nat_le, ◌≤◌, refl, sym, subst, ap, ◌∙◌, arith, inl, inr}
 use Rattle.std.specs.Ordering.{nat_cmp, is_eq}
 use Rattle.std.specs.FinMap as maps
 use Rattle.std.specs.FinMap.{FinMap}
@@ -13,6 +13,7 @@ use Rattle.cnf_base.proofs.SetLemmas.{both_pass, same_back, same_symm, same_ther
 use Rattle.cnf_base.proofs.SizeLemmas.{size_same}
 use Rattle.clause_db.specs.Store.{slots_for}
 use Rattle.propagation.proofs.PropagationLemmas.Counts.{tied}
+use Rattle.propagation.specs.Assumptions.{Propagation}
 use Rattle.propagation.specs.Slots.{most_slots, slots_needed}
 use Rattle.theory.specs.Drat.{SameLive}
 
@@ -124,3 +125,40 @@ all_within (c ∷ cs) =
 
 pub needed_within : (live : FinMap nat_cmp Clause) (count : ℕ) → count ≤ slots_needed live → count ≤ most_slots live
 needed_within live count few = let all = all_within (maps.values live) in omega (arith, few, all)
+
+-- ---- Both, where the slots below a number were passed
+
+pub record IsGathered (made : Propagation) (slots : ℕ) (live : FinMap nat_cmp Clause) (number : ℕ) : Type 0 where
+  pub copies : AreCopies made.live (below number live)
+  pub few_slots : slots ≤ slots_needed made.live
+  pub nothing_assumed : made.assumptions ≡ []
+  pub refused : made.has_refused ≡ false
+
+pub gathered_none : {made : Propagation} {slots : ℕ} (live : FinMap nat_cmp Clause) → made.live ≡ maps.empty → slots ≡ 0 → made.assumptions ≡ [] → made.has_refused ≡ false → IsGathered made slots live 0
+gathered_none {made} live empty no_slots nothing fresh = record {
+  copies = subst (λ m. AreCopies m (below 0 live)) (sym empty) (copied_none live);
+  few_slots = subst (λ n. n ≤ slots_needed made.live) (sym no_slots) (omega arith);
+  nothing_assumed = nothing;
+  refused = fresh;
+}
+
+pub gathered_next : {old new : Propagation} {before after : ℕ} {live : FinMap nat_cmp Clause} {slot n : ℕ} {c : Clause} → maps.get live n ≡ Some c → maps.get old.live slot ≡ None →
+    (d : Clause) × (maps.get new.live slot ≡ Some d) × (same_clause d c ≡ true) → ((s : ℕ) → s ≢ slot → maps.get new.live s ≡ maps.get old.live s) → new.assumptions ≡ [] → new.has_refused ≡ old.has_refused →
+    after ≤ before + slots_for (size c) → IsGathered old before live n → IsGathered new after live (n + 1)
+gathered_next {old} {new} {before} {after} {live} {slot} {n} {c} is free stored others nothing same more so_far = record {
+  copies = copied_next old.live new.live live slot n c stored.0 is free stored.1 stored.2 others so_far.copies;
+  few_slots = needs_more old.live new.live slot before after c stored.0 free stored.1 stored.2 others so_far.few_slots more;
+  nothing_assumed = nothing;
+  refused = same ∙ so_far.refused;
+}
+
+pub gathered_nothing : {made : Propagation} {slots : ℕ} {live : FinMap nat_cmp Clause} {n : ℕ} → maps.get live n ≡ None → IsGathered made slots live n → IsGathered made slots live (n + 1)
+gathered_nothing {made} {slots} {live} {n} none so_far = record {
+  copies = copied_nothing made.live live n none so_far.copies;
+  few_slots = so_far.few_slots;
+  nothing_assumed = so_far.nothing_assumed;
+  refused = so_far.refused;
+}
+
+pub gathered_all : {made : Propagation} {slots : ℕ} {live : FinMap nat_cmp Clause} {n : ℕ} → ((s : ℕ) → IsSome (maps.get live s) → s < n) → IsGathered made slots live n → SameLive (maps.values made.live) (maps.values live)
+gathered_all {made} {slots} {live} {n} low so_far = copied_all made.live live n low so_far.copies

@@ -62,13 +62,13 @@ history_noted live after history noted lits visited either is = record {
 
 -- ---- More literals
 
--- where the literals before the last visit are propagated among all
-pub history_longer : (live : Live) (history : History) (lits more : List Literal) (n : ℕ) → take (length lits) more ≡ lits → length lits ≤ length more → visits history ≤ n + 1 → IsWatched live (take n lits) lits → IsHistory live history lits → IsHistory live history more
-history_longer live history lits more n begins longer all watched is = record {
+-- where the literals before each visit are propagated among them
+history_on : (live : Live) (history : History) (lits more : List Literal) → take (length lits) more ≡ lits → length lits ≤ length more → ((d p : ℕ) → d < visits history → length lits < p → IsWatched live (take d more) (take p more)) → IsHistory live history lits → IsHistory live history more
+history_on live history lits more begins longer past is = record {
   inside = let low = is.inside in omega (arith, low, longer);
   began = is.began;
   before = λ d p low at_most above inside. elim (cases_lt (length lits) p) [
-    | inl past ↦ watched_part live (take n lits) (take d more) lits (take p more) (part d low) (λ l h. front_in_front more (length lits) p (omega (arith, past)) l (ap (λ ls. has ls l) begins ∙ h)) watched
+    | inl far ↦ past d p low far
     | inr within ↦
         subst (λ ls. IsWatched live ls (take p more)) (sym (front d (omega (arith, low, is.inside))))
         (subst (λ ls. IsWatched live (take d lits) ls) (sym (front p within)) (is.before d p low at_most above within))
@@ -78,26 +78,23 @@ history_longer live history lits more n begins longer all watched is = record {
     front : (k : ℕ) → k ≤ length lits → take k more ≡ take k lits
     front k low = sym (take-take k (length lits) more low) ∙ ap (take k) begins
 
+-- where the literals before the last visit are propagated among all
+pub history_longer : (live : Live) (history : History) (lits more : List Literal) (n : ℕ) → take (length lits) more ≡ lits → length lits ≤ length more → visits history ≤ n + 1 → IsWatched live (take n lits) lits → IsHistory live history lits → IsHistory live history more
+history_longer live history lits more n begins longer all watched is =
+    history_on live history lits more begins longer
+    (λ d p low past. watched_part live (take n lits) (take d more) lits (take p more) (part d low) (λ l h. front_in_front more (length lits) p (omega (arith, past)) l (ap (λ ls. has ls l) begins ∙ h)) watched) is
+  where
     part : (d : ℕ) → d < visits history → IsPart (take d more) (take n lits)
-    part d low l h = front_in_front lits d n (omega (arith, low, all)) l (ap (λ ls. has ls l) (sym (front d (omega (arith, low, is.inside)))) ∙ h)
+    part d low l h =
+        front_in_front lits d n (omega (arith, low, all)) l
+        (ap (λ ls. has ls l) (sym (sym (take-take d (length lits) more (omega (arith, low, is.inside))) ∙ ap (take d) begins)) ∙ h)
 
 -- one literal more, where those before the last visit are propagated with it
 pub history_one_more : (live : Live) (history : History) (lits more : List Literal) → length more ≡ length lits + 1 → take (length lits) more ≡ lits → IsWatched live (take (visits history) more) more → IsHistory live history lits → IsHistory live history more
-history_one_more live history lits more longer begins watched is = record {
-  inside = let low = is.inside in omega (arith, low, longer);
-  began = is.began;
-  before = λ d p low at_most above inside. elim (cases_lt (length lits) p) [
-    | inl past ↦
-        watched_part live (take (visits history) more) (take d more) more (take p more) (front_in_front more d (visits history) (omega (arith, low)))
-        (λ l h. ap (λ ls. has ls l) (take_all p more (omega (arith, past, longer))) ∙ h) watched
-    | inr within ↦
-        subst (λ ls. IsWatched live ls (take p more)) (sym (front d (omega (arith, low, is.inside))))
-        (subst (λ ls. IsWatched live (take d lits) ls) (sym (front p within)) (is.before d p low at_most above within))
-  ];
-}
-  where
-    front : (k : ℕ) → k ≤ length lits → take k more ≡ take k lits
-    front k low = sym (take-take k (length lits) more low) ∙ ap (take k) begins
+history_one_more live history lits more longer begins watched is =
+    history_on live history lits more begins (omega (arith, longer))
+    (λ d p low past. watched_part live (take (visits history) more) (take d more) more (take p more) (front_in_front more d (visits history) (omega (arith, low)))
+    (λ l h. ap (λ ls. has ls l) (take_all p more (omega (arith, past, longer))) ∙ h) watched) is
 
 -- the next visit begins, where those before are propagated among so many literals already, and among more
 pub history_begun : (live : Live) (history begun : History) (lits : List Literal) (trues : ℕ) → visits history < length lits → visits history < trues → begun.visited.items ≡ history.visited.items ++ trues ∷ [] → begun.floor ≡ history.floor →

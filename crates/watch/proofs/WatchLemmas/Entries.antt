@@ -33,11 +33,6 @@ module _ (first second : Literal) where
   pub one_each : first ≢ second → (slot l s : ℕ) → cond {A = ℕ} ((eqb first l || eqb second l) && eqb s slot) 1 0 ≡ cond (eqb l first && eqb s slot) 1 0 + cond (eqb l second && eqb s slot) 1 0
   one_each apart slot l s = grind (arith, nat_tests)
 
-pub two_long : (c : Clause) → 2 ≤ length c → is_short c ≡ false
-two_long [] long = absurd (omega (arith, long))
-two_long (a ∷ []) long = absurd (omega (arith, long))
-two_long (a ∷ b ∷ c) long = refl
-
 pub short_is : (c : Clause) → length c < 2 → is_short c ≡ true
 short_is [] h = refl
 short_is (a ∷ []) h = refl
@@ -61,6 +56,10 @@ kept_fits trues apart c l was other true fitting l_false member is_true =
     let differ : other ≢ l = λ e. true≢false (sym l_false ∙ ap (λ k. has trues (complement k)) (sym e) ∙ consistent trues apart other is_true) in
     and_from (has c other) _ member (and_from (eqb (length c) 2) _ two.0 (ap not (ne_eqb other l differ)))
 kept_fits trues apart c l was other false fitting l_false member is_true = and_from (has c other) _ member (and_parts (has c was) _ fitting).1
+
+-- that an entry of a binary clause is blocked by
+pub other_fits : (c : Clause) (l : Literal) {blocking other : Literal} {is_binary : Bool} → true ≡ is_binary → other ≡ blocking → fits c l blocking is_binary ≡ true → fits c l other true ≡ true
+other_fits c l {blocking} {other} {is_binary} binary same fitting = ap (fits c l other) binary ∙ ap (λ m. fits c l m is_binary) same ∙ fitting
 
 -- a binary clause has no third literal
 pub no_third : (c : Clause) (l other : Literal) → watches c l ≡ true → fits c l other true ≡ true → (k : Literal) → has c k ≡ true → k ≢ other → k ≡ l

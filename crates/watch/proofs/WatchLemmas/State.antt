@@ -20,7 +20,7 @@ use Rattle.root_literals.specs.History.{IsHistory, sure_of}
 use Rattle.root_literals.specs.Order.{each_in_order, in_order}
 use Rattle.root_literals.specs.Roots.{IsKept, IsKnown, IsStanding, is_up_to_date}
 use Rattle.propagation.specs.Code.Closure.{AreForced}
-use Rattle.watch.specs.Code.State.{AddsRoom, AreLists, HasAll, HaveReasons, IsWatch}
+use Rattle.watch.specs.Code.State.{AddsRoom, AreLists, HaveReasons, IsWatch}
 use Rattle.watch.specs.Code.Visits.{PropagatesTo}
 use Rattle.root_literals.specs.Watched.{IsPart, AreUnchanged, AreWatched, HasEntry, IsListed}
 use Rattle.root_literals.specs.Watched.{AddsFitting, IsShortList, IsTautologyList, IsWatched, is_short}
@@ -194,9 +194,9 @@ watch_noted loading live lists short roots after held kept_is history_is counted
 }
 
 -- more room for variables, and for the reasons of their literals
-pub watch_room : (loading : Bool) (live : FinMap nat_cmp Clause) (lists : WatchLists) (short : List ℕ) (roots roots2 : Roots) (held held2 : AssumptionsState) → AddsRoom held held2 roots roots2 →
+pub watch_room : {loading : Bool} {live : FinMap nat_cmp Clause} {lists : WatchLists} {short : List ℕ} {roots roots2 : Roots} {held held2 : AssumptionsState} → AddsRoom held held2 roots roots2 →
     HaveReasons held2.trail.reserved (at roots2.reasons) → IsWatch loading live lists short roots held → IsWatch loading live lists short roots2 held2
-watch_room loading live lists short roots roots2 held held2 more noted watch =
+watch_room {loading} {live} {lists} {short} {roots} {roots2} {held} {held2} more noted watch =
     watch_reserved loading live lists short roots2 held held2 more.lits more.assumptions more.starts more.reserved noted (watch_noted loading live lists short roots roots2 held more.kept more.history more.counted more.times more.reasons watch)
 
 pub watch_same : (loading : Bool) (live : FinMap nat_cmp Clause) (lists after : WatchLists) (short : List ℕ) (roots : Roots) (held : AssumptionsState) → ((l s : ℕ) → entries_of s (list_at after l) ≡ entries_of s (list_at lists l)) →
@@ -291,19 +291,6 @@ module _ (loading : Bool) (live after : FinMap nat_cmp Clause) (lists lists2 : W
       watch_alone loading after lists2 short2 roots2 held2 nothing room (lists_removed live after slot c there is different lists lists2 loading times fewer entries watch.listed)
       (record { listed = λ s. removed live after slot c there is short_for refl (is_short c) refl s (times_in s short2) (short_times s ∙ watch.rest.listed s) })
       (omega (arith, less_short, as_map_short, weight_short, was_short, shorter)) kept noted
-
--- the lists were made
-pub watch_loaded : (live : FinMap nat_cmp Clause) (lists after : WatchLists) (short : List ℕ) (roots : Roots) (held : AssumptionsState) → HasAll live after → IsWatch true live lists short roots held → IsWatch false live after short roots held
-watch_loaded live lists after short roots held listed watch = record {
-  scan = watch.scan;
-  listed = listed;
-  rest = watch.rest;
-  watched = watch.watched;
-  one_each = watch.one_each;
-  kept = watch.kept;
-  standing = watch.standing;
-  noted = watch.noted;
-}
 
 -- what is seen, field by field
 pub same_state : (live live2 : FinMap nat_cmp Clause) (assumptions assumptions2 : List Assumption) (stored stored2 : ℕ) (has_refused : Bool) → live ≡ live2 → assumptions ≡ assumptions2 → stored ≡ stored2 →

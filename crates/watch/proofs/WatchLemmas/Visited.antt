@@ -11,8 +11,9 @@ use Rattle.cnf_base.proofs.MemberLemmas.{has_place}
 use Rattle.propagation.specs.Assumptions.{AssumptionsState}
 use Rattle.root_literals.specs.Order.{in_order}
 use Rattle.watch.specs.Code.Visits.{CanFollow, CanSet, CanVisit, Followed, IsEntryOf, IsInHand}
-use Rattle.watch.specs.Code.Visits.{IsFoundNext, PropagatesTo, Visited}
+use Rattle.watch.specs.Code.Visits.{IsFound, IsFoundNext, PropagatesTo, Visited}
 use Rattle.watch.specs.declared.follow.Found.{Found}
+use Rattle.watch.specs.declared.follow.Found.TheVariants.{Unit}
 use Rattle.watch.specs.declared.follow.FoundAt.{FoundAt}
 use Rattle.watch_lists.specs.Cursor.{CursorState}
 use Rattle.watch_lists.specs.Lists.{list_at}
@@ -85,6 +86,13 @@ next_entry {live} {lists} {l} cursor entry is hand =
     let w = entry_alive (maps.get live) (list_at lists) l cursor.entries hand.listed cursor.visited entry e.0 e.1 in
     record { clause = w.0; at = w.1; watched = w.2; fitting = w.3 }
 
+-- what is found of its clause is found next
+pub found_at : {live : FinMap nat_cmp Clause} {lists : WatchLists} {l : Literal} {cursor : CursorState} {entry : Watcher} {trues : List Literal} {found : Found} → slice_get cursor.entries cursor.visited ≡ Some entry →
+    IsInHand live lists cursor.entries l → ((c : Clause) → maps.get live entry.slot ≡ Some c → IsFound trues c found) → IsFoundNext live cursor trues entry found
+found_at {cursor = cursor} {entry} is hand found =
+    let w = next_entry cursor entry is hand in
+    record { next = is; clause = w.clause; at = w.at; holds = found w.clause w.at }
+
 pub visited_none : {a : FinMap nat_cmp Clause} {lists : WatchLists} {list : List Watcher} {l : Literal} (x : AssumptionsState) (r : Literal → Option ℕ) → IsInHand a lists list l → Visited a a lists lists list list x x r r l
 visited_none {a} x r hand = record { hand = hand; entries = refl; propagates = propagates_none a x r }
 
@@ -110,3 +118,9 @@ pub found_next : {live : FinMap nat_cmp Clause} {cursor : CursorState} {seen tru
 found_next {live} {cursor} {seen} {trues} found_in {f} {found} is found_is same =
     let here = subst (λ p. IfSome p (λ f. IsFoundNext live cursor seen f.entry f.found)) is found_in in
     subst (λ ls. IsFoundNext live cursor ls f.entry found) same (subst (IsFoundNext live cursor seen f.entry) found_is here)
+
+-- there is room for a literal that is found to follow after visits
+pub room_found : {a b d : FinMap nat_cmp Clause} {lists lists_b lists_d : WatchLists} {list list_b list_d : List Watcher} {x y z : AssumptionsState} {r s t : Literal → Option ℕ} {l : Literal} → CanVisit a lists list x r l →
+    Visited a b lists lists_b list list_b x y r s l → Visited b d lists_b lists_d list_b list_d y z s t l → {cursor : CursorState} {trues : List Literal} {entry : Watcher} {m : Literal} → IsFoundNext d cursor trues entry (Unit m) →
+    (has z.trail.reserved (m / 2) ≡ true) × (is_some (t m) ≡ true)
+room_found can first second {m = m} f = room_for (can_visit_on (can_visit_on can first) second).can_set _ f.clause f.at m f.holds.0

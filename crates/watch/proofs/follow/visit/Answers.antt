@@ -14,7 +14,7 @@ use Rattle.watch.proofs.WatchLemmas.Follow.{front_apart}
 use Rattle.watch.proofs.WatchLemmas.PropagatesTo.{propagates_none}
 use Rattle.watch_lists.proofs.WatchListsLemmas.Lists.{entry_at, slot_is}
 use Rattle.watch.proofs.WatchLemmas.Moves.{listed_written}
-use Rattle.watch.proofs.WatchLemmas.Visited.{next_entry, visited_none}
+use Rattle.watch.proofs.WatchLemmas.Visited.{found_at, next_entry, visited_none}
 use Rattle.watch.proofs.follow.visit.Goals as goal
 
 pub look_at-requires-clause-entry : goal.look_at-requires-clause-entry
@@ -121,24 +121,14 @@ returns-in-Stays c =
       slots = refl;
     }
 
-pub returns-in-Unit : goal.returns-in-Unit
-returns-in-Unit c =
-    let w = next_entry c.args.cursor.now c.args.entry c.requires.next c.requires.hand in record {
-      visited = λ held reason_of _. visited_none held reason_of c.requires.hand;
-      met = c.requires.met;
-      found = record { next = c.requires.next; clause = w.clause; at = w.at; holds = c.in-Unit.ensures.visit w.clause w.at };
-      fewer = tt;
-      as_many = refl;
-      slots = refl;
-    }
+pub returns-in-Unit-clause-visited : goal.returns-in-Unit-clause-visited
+returns-in-Unit-clause-visited c held reason_of _ = visited_none held reason_of c.requires.hand
 
-pub returns-in-Clash : goal.returns-in-Clash
-returns-in-Clash c =
-    let w = next_entry c.args.cursor.now c.args.entry c.requires.next c.requires.hand in record {
-      visited = λ held reason_of _. visited_none held reason_of c.requires.hand;
-      met = c.requires.met;
-      found = record { next = c.requires.next; clause = w.clause; at = w.at; holds = c.in-Clash.ensures.visit w.clause w.at };
-      fewer = tt;
-      as_many = refl;
-      slots = refl;
-    }
+pub returns-in-Clash-clause-visited : goal.returns-in-Clash-clause-visited
+returns-in-Clash-clause-visited c held reason_of _ = visited_none held reason_of c.requires.hand
+
+pub returns-in-Unit-clause-found : goal.returns-in-Unit-clause-found
+returns-in-Unit-clause-found c = found_at c.requires.next c.requires.hand c.in-Unit.ensures.visit
+
+pub returns-in-Clash-clause-found : goal.returns-in-Clash-clause-found
+returns-in-Clash-clause-found c = found_at c.requires.next c.requires.hand c.in-Clash.ensures.visit

@@ -11,7 +11,7 @@ use Rattle.watch.specs.Code.Visits.{AreMet, IsInHand}
 use Rattle.watch.proofs.WatchLemmas.Cursor.{kept_fewer, kept_met, put_same}
 use Rattle.watch.proofs.WatchLemmas.Follow.{all_met, none_before}
 use Rattle.watch.proofs.WatchLemmas.PropagatesTo.{clashes, propagates_unit}
-use Rattle.watch.proofs.WatchLemmas.Visited.{can_visit_on, found_next, room_for, visited_none}
+use Rattle.watch.proofs.WatchLemmas.Visited.{can_visit_on, found_next, room_found, visited_none}
 use Rattle.watch.proofs.WatchLemmas.Visited.{visited_on}
 use Rattle.watch.proofs.WatchLemmas.Visits.{made_true}
 use Rattle.trail.proofs.TrailLemmas.Longer.{has_begun}
@@ -40,17 +40,13 @@ returns-in_err-at-clause-visited c = visited_on c.loop-at.invariant.visited (c.n
 
 pub set_by-requires-clause-reserved : goal.set_by-requires-clause-reserved
 set_by-requires-clause-reserved c =
-    let before = c.loop-at in
-    let visited = c.next_found.ensures.visited before.assumptions (at before.reasons) (sym c.trail.ensures) in
     let f = found_next c.in_ok-at.ensures.found c.in-Some.is c.in-Unit.is (ap (λ t. t.lits) c.trail.ensures) in
-    (room_for (can_visit_on (can_visit_on c.requires.can before.invariant.visited) visited).can_set _ f.clause f.at c.in-Unit.m f.holds.0).0
+    (room_found c.requires.can c.loop-at.invariant.visited (c.next_found.ensures.visited c.loop-at.assumptions (at c.loop-at.reasons) (sym c.trail.ensures)) f).0
 
 pub set_by-requires-clause-noted : goal.set_by-requires-clause-noted
 set_by-requires-clause-noted c =
-    let before = c.loop-at in
-    let visited = c.next_found.ensures.visited before.assumptions (at before.reasons) (sym c.trail.ensures) in
     let f = found_next c.in_ok-at.ensures.found c.in-Some.is c.in-Unit.is (ap (λ t. t.lits) c.trail.ensures) in
-    (room_for (can_visit_on (can_visit_on c.requires.can before.invariant.visited) visited).can_set _ f.clause f.at c.in-Unit.m f.holds.0).1
+    (room_found c.requires.can c.loop-at.invariant.visited (c.next_found.ensures.visited c.loop-at.assumptions (at c.loop-at.reasons) (sym c.trail.ensures)) f).1
 
 pub keep-requires : goal.keep-requires
 keep-requires c =

@@ -5,7 +5,7 @@ use Rattle.tables.specs.Filled.{at}
 use Rattle.root_literals.specs.History.{IsRewound}
 use Rattle.root_literals.specs.Order.{each_in_order}
 use Rattle.root_literals.specs.Roots.{AreNoted, IsKept}
-use Rattle.watch.specs.Code.State.{HaveReasons}
+use Rattle.watch.specs.Code.State.{AddsRoom, HaveReasons}
 use Rattle.root_literals.proofs.RootLemmas.History.{rewound_none}
 use Rattle.root_literals.proofs.RootLemmas.Kept.{kept_nothing}
 use Rattle.watch.proofs.WatchLemmas.CatchUp.{begun_from}
@@ -34,8 +34,7 @@ returns-in-Ok-clause-watch c =
     (sym c.is_up_to_date.ensures ∙ c.if-is_up_to_date.false))
     (λ v. p.extends.reserved v ∙ c.start.ensures.reserved v) p.same p.short e.listed e.entries
     c.in-Ok.ensures.kept (λ l h. p.noted l (c.start.ensures.noted l h)) in
-    watch_room false live lists c.args.short.now c.catch_up.new.roots c.make_room.new.self held held
-    (record {
+    let more : AddsRoom held held c.catch_up.new.roots c.make_room.new.self = record {
       reserved = λ v h. h;
       lits = refl;
       assumptions = refl;
@@ -45,7 +44,8 @@ returns-in-Ok-clause-watch c =
       history = room.history;
       counted = room.counted;
       times = room.times;
-    })
+    } in
+    watch_room more
     (subst (λ t. HaveReasons held.trail.reserved (at t)) (sym room.reasons) watch.noted) watch
 
 pub returns-in-Err-clause-watch : goal.returns-in-Err-clause-watch

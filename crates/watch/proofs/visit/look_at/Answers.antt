@@ -1,36 +1,30 @@
-use Rattle.std.proofs.Common.{sym, ap, ◌∙◌, subst}
+use Rattle.std.proofs.Common.{sym, ◌∙◌, subst}
 use Rattle.std.proofs.lemmas.Bool.{and_parts}
 use Rattle.std.proofs.lemmas.Option.{same_Some}
 use Rattle.cnf_base.specs.Literals.{has}
 use Rattle.trail.proofs.TrailLemmas.Truth.{false_from_value}
-use Rattle.watch_lists.specs.Lists.{fits}
 use Rattle.watch.specs.Code.Visits.{IsVisit}
 use Rattle.watch.specs.declared.visit.Visit.TheVariants.{Clash, Unit}
-use Rattle.watch.proofs.WatchLemmas.Entries.{binary_all, binary_others}
+use Rattle.watch.proofs.WatchLemmas.Entries.{binary_all, binary_others, other_fits}
 use Rattle.watch.proofs.WatchLemmas.Visits.{not_false}
 use Rattle.watch.proofs.visit.look_at.Goals as goal
 
 pub returns-in-False-clause-visit : goal.returns-in-False-clause-visit
 returns-in-False-clause-visit c clause there =
     let w = c.requires.entry in
-    let l = c.args.l in
-    let other = c.blocking-other.result in
     let trues = c.args.trail.now.lits in
-    let is_binary = sym c.if-not-is_binary.false ∙ c.is_binary.ensures in
-    let fitting = ap (fits w.clause l other) is_binary ∙ ap (λ m. fits w.clause l m c.args.entry.is_binary) c.blocking-other.ensures ∙ w.fitting in
-    subst (λ d. IsVisit trues d l Clash) (same_Some w.clause clause (sym w.at ∙ there))
-    (binary_all trues w.clause l other w.watched fitting c.requires.is_false (false_from_value trues other c.in-False.ensures.value))
+    subst (λ d. IsVisit trues d c.args.l Clash) (same_Some w.clause clause (sym w.at ∙ there))
+    (binary_all trues w.clause c.args.l _ w.watched (other_fits w.clause c.args.l (sym c.if-not-is_binary.false ∙ c.is_binary.ensures) c.blocking-other.ensures w.fitting)
+    c.requires.is_false (false_from_value trues _ c.in-False.ensures.value))
 
 pub returns-in_default-clause-visit : goal.returns-in_default-clause-visit
 returns-in_default-clause-visit c clause there =
     let w = c.requires.entry in
-    let l = c.args.l in
     let other = c.blocking-other.result in
     let trues = c.args.trail.now.lits in
-    let is_binary = sym c.if-not-is_binary.false ∙ c.is_binary.ensures in
-    let fitting = ap (fits w.clause l other) is_binary ∙ ap (λ m. fits w.clause l m c.args.entry.is_binary) c.blocking-other.ensures ∙ w.fitting in
-    subst (λ d. IsVisit trues d l (Unit other)) (same_Some w.clause clause (sym w.at ∙ there)) (
+    let fitting = other_fits w.clause c.args.l (sym c.if-not-is_binary.false ∙ c.is_binary.ensures) c.blocking-other.ensures w.fitting in
+    subst (λ d. IsVisit trues d c.args.l (Unit other)) (same_Some w.clause clause (sym w.at ∙ there)) (
       (and_parts (has w.clause other) _ fitting).0,
       not_false trues c.value_near.ensures.different other c.value_near.result c.value_near.ensures.value c.in_default.not-False,
-      binary_others trues w.clause l other w.watched fitting c.requires.is_false,
+      binary_others trues w.clause c.args.l other w.watched fitting c.requires.is_false,
     )

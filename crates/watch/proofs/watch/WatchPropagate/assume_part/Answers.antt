@@ -12,9 +12,8 @@ use Rattle.watch.proofs.watch.WatchPropagate.assume_part.Goals as goal
 
 pub invariant_of-self : goal.invariant_of-self
 invariant_of-self g c =
-    let i = c.self.inside in
     let r = c.reserve_given.ensures in (
-      watch_room i.is_loading i.store.live i.lists i.short i.roots c.reserve_given.new.roots i.assumptions c.reserve_given.new.assumptions r.more r.noted c.self.invariant.0,
+      watch_room r.more r.noted c.self.invariant.0,
       c.self.invariant.1,
       c.self.invariant.2,
       c.self.invariant.3,
@@ -26,7 +25,7 @@ assume_part-assumed-requires-clause-watch g c =
     let r = c.reserve_given.ensures in
     let loaded = ap (λ w. w.is_loading) c.self.view_is ∙ c.in_ok-prepare.ensures.loaded in
     subst (λ b. IsWatch b i.store.live i.lists i.short c.reserve_given.new.roots c.reserve_given.new.assumptions) loaded
-    (watch_room i.is_loading i.store.live i.lists i.short i.roots c.reserve_given.new.roots i.assumptions c.reserve_given.new.assumptions r.more r.noted c.self.invariant.0)
+    (watch_room r.more r.noted c.self.invariant.0)
 
 pub assume_part-assumed-requires-clause-alive : goal.assume_part-assumed-requires-clause-alive
 assume_part-assumed-requires-clause-alive g c =

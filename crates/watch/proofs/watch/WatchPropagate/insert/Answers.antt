@@ -52,7 +52,7 @@ enter-requires-clause-kept c =
     let i = c.self.inside in
     let live = i.store.live in
     let r = c.reserve_room.ensures in
-    let watch = watch_room i.is_loading live i.lists i.short i.roots c.reserve_room.new.roots i.assumptions c.reserve_room.new.assumptions r.more r.noted c.self.invariant.0 in
+    let watch = watch_room r.more r.noted c.self.invariant.0 in
     subst (λ m. IsKept m c.reserve_room.new.roots c.reserve_room.new.assumptions.trail.lits)
     (sym (removed_back live c.arrange-arranged.new.store.live c.in_ok-slot.slot c.in_ok-slot.ensures.free (λ s ne. c.arrange-arranged.ensures.others s ne ∙ c.in_ok-slot.ensures.others s ne)))
     (alone_kept i.is_loading live i.lists i.short c.reserve_room.new.roots c.reserve_room.new.assumptions watch (r.more.assumptions ∙ ap (λ w. w.propagation.assumptions) c.self.view_is ∙ c.requires))
@@ -84,7 +84,7 @@ invariant_of-self-in-Ok c =
     let held = c.reserve_room.new.assumptions in
     let now = c.enter.new.assumptions in
     let r = c.reserve_room.ensures in
-    let watch = watch_room i.is_loading live i.lists i.short i.roots c.reserve_room.new.roots i.assumptions c.reserve_room.new.assumptions r.more r.noted c.self.invariant.0 in
+    let watch = watch_room r.more r.noted c.self.invariant.0 in
     let d = c.in_ok-slot.ensures.stored in
     let w = c.arrange-arranged.ensures.arranged d.0 d.1 in
     let e = c.in-Ok.ensures in
@@ -114,11 +114,10 @@ invariant_of-self-in-Err c =
     let live = i.store.live in
     let held = c.reserve_room.new.assumptions in
     let roots = c.reserve_room.new.roots in
-    let r = c.reserve_room.ensures in
-    let watch = watch_room i.is_loading live i.lists i.short i.roots c.reserve_room.new.roots i.assumptions c.reserve_room.new.assumptions r.more r.noted c.self.invariant.0 in
+    let e = c.in-Err.ensures in
+    let watch = watch_room c.reserve_room.ensures.more c.reserve_room.ensures.noted c.self.invariant.0 in
     let d = c.in_ok-slot.ensures.stored in
     let w = c.arrange-arranged.ensures.arranged d.0 d.1 in
-    let e = c.in-Err.ensures in
     let fewer = λ (l s : ℕ) (x : Clause) (is : maps.get live s ≡ Some x). e.fitting w.0 w.1 l s x (λ same. absurd (none-some x (sym (ap (maps.get live) same ∙ c.in_ok-slot.ensures.free) ∙ is))) in
     let back = c.remove_clause.ensures.live ∙ removed_back live c.arrange-arranged.new.store.live c.in_ok-slot.slot c.in_ok-slot.ensures.free (λ s ne. c.arrange-arranged.ensures.others s ne ∙ c.in_ok-slot.ensures.others s ne) in (
       subst (λ m. IsWatch i.is_loading m c.add_entries.new.lists c.add_entries.new.short roots held) (sym back)
@@ -163,9 +162,8 @@ returns-in-Err-clause-err c =
 
 pub invariant_of-self : goal.invariant_of-self
 invariant_of-self c =
-    let i = c.self.inside in
     let r = c.reserve_room.ensures in (
-      watch_room i.is_loading i.store.live i.lists i.short i.roots c.reserve_room.new.roots i.assumptions c.reserve_room.new.assumptions r.more r.noted c.self.invariant.0,
+      watch_room r.more r.noted c.self.invariant.0,
       c.self.invariant.1,
       c.self.invariant.2,
       c.self.invariant.3,
@@ -175,7 +173,7 @@ pub invariant_of-self-in_err-slot : goal.invariant_of-self-in_err-slot
 invariant_of-self-in_err-slot c =
     let i = c.self.inside in
     let r = c.reserve_room.ensures in
-    let watch = watch_room i.is_loading i.store.live i.lists i.short i.roots c.reserve_room.new.roots i.assumptions c.reserve_room.new.assumptions r.more r.noted c.self.invariant.0 in
+    let watch = watch_room r.more r.noted c.self.invariant.0 in
     let same = sym c.in_err-slot.ensures.err_live in (
       subst (λ m. IsWatch i.is_loading m i.lists i.short c.reserve_room.new.roots c.reserve_room.new.assumptions) same watch,
       c.in_err-slot.ensures.err_stored ∙ c.self.invariant.1 ∙ ap (λ m. literals_in (each_in_order m)) same,
