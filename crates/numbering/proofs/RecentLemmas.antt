@@ -1,12 +1,9 @@
 -- Names that were looked up last, as further variables are met.
-use Rattle.std.proofs.Common.{◌≡◌, ◌≢◌, ℕ, cond, eqb, sym, ap, ◌∙◌, subst}
+use Rattle.std.proofs.Common.{◌≡◌, ◌≢◌, ℕ, cond, eqb, sym, ap, ◌∙◌}
 use Rattle.std.proofs.Common.{ne_eqb}
 use Rattle.numbering.specs.Code.Recents.{AreRecent, IsOf}
 use Rattle.numbering.specs.declared.recent.Entry.{Entry}
 use Rattle.numbering.specs.declared.recent.Recents.{Recents}
-
-pub recent_same : (f g : ℕ → ℕ) (r : Recents) → ((v : ℕ) → g v ≡ f v) → AreRecent f r → AreRecent g r
-recent_same f g r same are = subst (λ h. AreRecent h r) (λ i v. sym (same v) i) are
 
 -- an entry is of another variable than the one that wasn't met
 of_more : (f g : ℕ → ℕ) (w n : ℕ) → f w ≡ 0 → ((v : ℕ) → g v ≡ cond (eqb v w) n (f v)) → (e : Entry) → IsOf f e → IsOf g e

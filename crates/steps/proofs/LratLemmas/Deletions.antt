@@ -3,7 +3,7 @@ use Rattle.std.proofs.Common.{◌≡◌, ℕ, true, false, Option, Some, None, i
 use Rattle.std.proofs.Common.{refl, sym, ap, ◌∙◌}
 use Rattle.std.specs.Bool.{then_some}
 use Rattle.std.specs.Option.{option_or}
-use Rattle.std.proofs.lemmas.Bool.{false≢true, true≢false}
+use Rattle.std.proofs.lemmas.Bool.{true≢false}
 use Rattle.theory.specs.declared.refusal.Refusal.TheVariants.{UnknownId}
 use Rattle.cnf_base.specs.Literals.{Clause}
 use Rattle.theory.specs.Propagation.{Live}
@@ -13,16 +13,7 @@ some_not_none : (o : Option Clause) → true ≡ is_some o → is_none o ≡ fal
 some_not_none None h = absurd (true≢false h)
 some_not_none (Some c) h = refl
 
-none_is_none : (o : Option Clause) → false ≡ is_some o → is_none o ≡ true
-none_is_none None h = refl
-none_is_none (Some c) h = absurd (false≢true h)
-
 module _ (live : Live) (ids more : List ℕ) (id : ℕ) (ids_are : ids ≡ id ∷ more) where
-  pub deletion_stops : false ≡ is_some (live id) → deletion_refusal live ids ≡ Some (UnknownId id)
-  deletion_stops h =
-      ap (deletion_refusal live) ids_are
-      ∙ ap (λ t. option_or (then_some t (UnknownId id)) (deletion_refusal (without_id live id) more)) (none_is_none (live id) h)
-
   module _ (after : Live) (is : (k : ℕ) → after k ≡ without_id live id k) where
     after_is : after ≡ without_id live id
     after_is i k = is k i

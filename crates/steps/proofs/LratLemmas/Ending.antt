@@ -1,25 +1,22 @@
 -- The rule itself never answers that the session had ended.
-use Rattle.std.proofs.Common.{◌≡◌, ◌<◌, ℕ, Bool, true, false, not, nat_le, Option, Some, None}
-use Rattle.std.proofs.Common.{Ok, Err, List, [], ◌∷◌, sym, subst, arith, ℤ}
+use Rattle.std.proofs.Common.{◌≡◌, ℕ, Bool, true, false, not, Option, Some, None}
+use Rattle.std.proofs.Common.{Ok, Err, List, [], ◌∷◌, sym, subst}
 use Rattle.std.specs.Prelude.{⊤}
-use Rattle.std.specs.Bool.{then_some, MatchBool}
+use Rattle.std.specs.Bool.{then_some}
 use Rattle.std.specs.Option.{option_or}
-use Rattle.std.proofs.lemmas.Bool.Decides.{nat_tests}
 use Rattle.theory.specs.declared.accepted.Accepted.TheVariants.{Empty, Rup}
 use Rattle.theory.specs.declared.refusal.Refusal.{Refusal}
-use Rattle.theory.specs.declared.refusal.Refusal.TheVariants.{Ended, OutOfMemory, IdOutOfOrder}
+use Rattle.theory.specs.declared.refusal.Refusal.TheVariants.{Ended, OutOfMemory}
 use Rattle.theory.specs.declared.refusal.Refusal.TheVariants.{UnknownId, NotUnit, NotCandidate}
 use Rattle.theory.specs.declared.refusal.Refusal.TheVariants.{NamedTwice, GroupWithoutConflict}
 use Rattle.theory.specs.declared.refusal.Refusal.TheVariants.{NoConflict}
-use Rattle.proofs.specs.declared.step_buf.StepKind.TheVariants.{Add}
-use Rattle.proofs.specs.Steps.{Step}
-use Rattle.cnf_base.specs.Literals.{Literal, complement, Clause, has, complements}
+use Rattle.cnf_base.specs.Literals.{Literal, complement, Clause, has}
 use Rattle.theory.specs.Propagation.{Live}
 use Rattle.theory.specs.Answers.{StepAnswer, UnlessOutOfMemory}
 use Rattle.theory.specs.Lrat.{ChainEnd, conflict, open_with, unknown, not_unit, chain, Group}
-use Rattle.theory.specs.Lrat.{step_of, lrat_step, LratState, with_candidate}
-use Rattle.theory.specs.Lrat.{chain_refusal, group_refusal, groups_refusal, units_of, groups_of}
-use Rattle.theory.specs.Lrat.{AnswersGroups, AnswersChain, AnswersLrat}
+use Rattle.theory.specs.Lrat.{with_candidate}
+use Rattle.theory.specs.Lrat.{chain_refusal, group_refusal, groups_refusal}
+use Rattle.theory.specs.Lrat.{AnswersGroups, AnswersChain}
 
 -- a cause other than that
 abbrev IsRuled : Option Refusal → Type 0
@@ -77,29 +74,7 @@ chain_never live (pivot ∷ c) groups (open_with ls) a = groups_never live ls pi
 
 -- ---- Answers of the code
 
-pub unless_given : (answer : StepAnswer) (P : Type 0) → P → UnlessOutOfMemory answer P
-unless_given (Err OutOfMemory) P p = tt
-unless_given (Ok word) P p = p
-unless_given (Err _) P p = p
-
 pub unless_map : (answer : StepAnswer) {P Q : Type 0} → (P → Q) → UnlessOutOfMemory answer P → UnlessOutOfMemory answer Q
 unless_map (Err OutOfMemory) f p = tt
 unless_map (Ok word) f p = f p
 unless_map (Err _) f p = f p
-
--- an addition whose identifier is right
-pub answers_addition : (state : LratState) (live : Live) (step : Step) (id top : ℕ) (c : List Literal) (hints : List ℤ) (answer : StepAnswer) → step.kind ≡ Add → ((k : ℕ) → live k ≡ state.live k) →
-    id ≡ step.id → top ≡ state.top → top < id → c ≡ step.lits → hints ≡ step.hints →
-    AnswersChain live c (groups_of hints) (chain live (complements c) (units_of hints)) answer → AnswersLrat state (lrat_step step) answer
-answers_addition state live step id top c hints answer kind_is live_is id_is top_is above c_is hints_is a =
-    let live_same : live ≡ state.live = λ i k. live_is k i in
-    let late : nat_le step.id state.top ≡ false = not_le step.id state.top (subst (λ t. t < step.id) top_is (subst (λ j. top < j) id_is above)) in
-    let by_lits : (d : List Literal) → c ≡ d → AnswersChain live d (groups_of hints) (chain live (complements d) (units_of hints)) answer =
-    λ d e. subst (λ d. AnswersChain live d (groups_of hints) (chain live (complements d) (units_of hints)) answer) e a in
-    let by_hints = subst (λ hs. AnswersChain live step.lits (groups_of hs) (chain live (complements step.lits) (units_of hs)) answer) hints_is (by_lits step.lits c_is) in
-    let by_live = subst (λ (l : Live). AnswersChain l step.lits (groups_of step.hints) (chain l (complements step.lits) (units_of step.hints)) answer) live_same by_hints in
-    subst (λ kind. AnswersLrat state (step_of kind step.id step.lits step.hints) answer) (sym kind_is)
-    (subst (λ b. MatchBool b (answer ≡ Err IdOutOfOrder) (AnswersChain state.live step.lits (groups_of step.hints) (chain state.live (complements step.lits) (units_of step.hints)) answer)) (sym late) by_live)
-  where
-    not_le : (a b : ℕ) → b < a → nat_le a b ≡ false
-    not_le a b h = grind (arith, nat_tests)

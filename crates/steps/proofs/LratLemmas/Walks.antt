@@ -32,11 +32,6 @@ same_set_push ls m l =
       | inr g ↦ has_append_left ls (m ∷ []) l g
     ])
 
-pub same_set_old : (ls : List Literal) (m : Literal) → has ls m ≡ true → SameSet ls (m ∷ ls)
-same_set_old ls m member l =
-    both_pass (has ls l) (has (m ∷ ls) l) (has_tail m ls l)
-    (λ h. elim (has_cases m ls l h) [ inl e ↦ subst (λ x. has ls x ≡ true) e member | inr g ↦ g ])
-
 open_same : (first second : List Literal) (c : Clause) → SameSet first second → open_literals first c ≡ open_literals second c
 open_same first second c same = filter_agree (λ l. not (has first (complement l))) (λ l. not (has second (complement l))) (λ l. ap not (same (complement l))) c
 

@@ -245,10 +245,6 @@ pub on_ok : {X Y : Type 0} (r : Result X Y) (P Q : Type 0) → (P → Q) → OnO
 on_ok (Ok x) P Q f p = f p
 on_ok (Err y) P Q f p = tt
 
-pub both_ok : {X Y : Type 0} (r : Result X Y) (P Q S : Type 0) → (P → Q → S) → OnOk r P → OnOk r Q → OnOk r S
-both_ok (Ok x) P Q S f p q = f p q
-both_ok (Err y) P Q S f p q = tt
-
 -- a clause of the formula was put under numbers
 pub inputs : (names more : List ℕ) (lits numbered : List Literal) (old new : Held) (beside : ℕ) → AreAllAmong (IsGiven names) (state_of old) → more ≡ with_names names lits → numbered ≡ map (renamed (number_in more)) lits →
     Same (state_of new) (with_input (state_of old) numbered) →
