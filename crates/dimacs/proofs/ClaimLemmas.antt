@@ -1,12 +1,11 @@
 -- A solver's output, one token at a time.
-use Rattle.std.proofs.Common.{◌≡◌, eqb, refl, sym, ap, subst, ◌∙◌}
-use Rattle.std.specs.Prelude.{nat_le, ◌||◌, cond, Bool, true, false, List, [], ◌∷◌, Option, None}
+use Rattle.std.proofs.Common.{◌≡◌, eqb, refl, sym, ap, subst, ◌∙◌, rules}
+use Rattle.std.specs.Prelude.{◌||◌, cond, Bool, true, false, List, [], ◌∷◌, Option, None}
 use Rattle.std.specs.Prelude.{Some, Result, Ok, Err}
 use Rattle.std.proofs.lemmas.Bool.{true≢false, false≢true}
-use Rattle.cnf_base.specs.Literals.{Literal, complement, has}
+use Rattle.cnf_base.specs.Literals.{Literal, has}
 use Rattle.cnf_base.specs.Stream.{Stream, Along, tells_failure}
 use Rattle.cnf_base.specs.Text.{Listed, Listing, listing_at, Gives}
-use Rattle.cnf_base.specs.Words.{number_literal}
 use Rattle.cnf_base.specs.declared.input.Ending.{Ending}
 use Rattle.cnf_base.specs.declared.input.Ending.TheVariants.{End, Failed}
 use Rattle.cnf_base.specs.declared.input.ReadFailed.{ReadFailed as Cut}
@@ -16,7 +15,7 @@ use Rattle.cnf_base.specs.declared.word.Word.TheVariants as words
 use Rattle.cnf_base.specs.declared.token.Token as tokens
 use Rattle.cnf_base.specs.declared.token.Token.TheVariants as token
 use Rattle.cnf_base.specs.declared.fault.Fault.{Fault}
-use Rattle.cnf_base.specs.declared.fault.Fault.TheVariants.{Text, Binary, ReadFailed, OutOfMemory}
+use Rattle.cnf_base.specs.declared.fault.Fault.TheVariants.{Text, ReadFailed}
 use Rattle.cnf_base.specs.declared.fault.TextFault.TheVariants.{BadToken, BadLine, SecondStatus}
 use Rattle.cnf_base.specs.declared.fault.TextFault.TheVariants.{NotClaimed, AfterEnd, Complement}
 use Rattle.cnf_base.specs.declared.fault.TextFault.TheVariants.{LiteralTooLarge}
@@ -24,7 +23,7 @@ use Rattle.cnf_base.proofs.StreamLemmas.{Along-then, Along-map, Along-still}
 use Rattle.dimacs.specs.Formula.{and_then}
 use Rattle.dimacs.specs.Claim.{LinePosition, at_line_start, after_s, after_status, in_values, Said}
 use Rattle.dimacs.specs.Claim.{on_first, on_status, on_literal, on_value, claim_on_word}
-use Rattle.dimacs.specs.Claim.{on_line_end, claim_at_end, placed, claim_on_token, on_end}
+use Rattle.dimacs.specs.Claim.{on_line_end, placed, claim_on_token, on_end}
 use Rattle.dimacs.specs.Claim.{claim_among, claim_after, IsClaim}
 use Rattle.dimacs.specs.Code.Claiming.{with_listed, ComesTo, Takes}
 
@@ -63,7 +62,7 @@ module _ (place : Place) (xs ls : List Literal) (same : Same xs ls) where
 
   literal_alike : (p : LinePosition) (h e : Bool) (o : Option Literal) → Alike (placed place (on_literal (said p h e xs) o)) (placed place (on_literal (said p h e ls) o))
   literal_alike p h e None = both (said p h true xs) ls same
-  literal_alike p h e (Some l) = listed_alike p h e l (has xs (complement l)) (has ls (complement l)) (same (complement l))
+  literal_alike p h e (Some l) = search (rules, listed_alike)
 
   number_alike : (p : LinePosition) (h e fits ended : Bool) (o : Option Literal)
       → Alike (placed place (cond fits (cond ended (Err AfterEnd) (on_literal (said p h e xs) o)) (Err LiteralTooLarge)))
@@ -73,7 +72,7 @@ module _ (place : Place) (xs ls : List Literal) (same : Same xs ls) where
   number_alike p h e true false o = literal_alike p h e o
 
   value_alike : (p : LinePosition) (h e : Bool) (w : Word) → Alike (placed place (on_value (said p h e xs) w)) (placed place (on_value (said p h e ls) w))
-  value_alike p h e (words.Number n) = number_alike p h e (nat_le n.size 268435455) e (number_literal n)
+  value_alike p h e (words.Number n) = search (rules, number_alike)
   value_alike p h e _ = neither (Text BadToken place)
 
   word_alike : (p : LinePosition) (h e : Bool) (w : Word) → Alike (placed place (claim_on_word (said p h e xs) w)) (placed place (claim_on_word (said p h e ls) w))
@@ -104,40 +103,21 @@ module _ (next : Said → Result (List Literal) Fault) (carries : (s : Said) (ls
   then_alike _ _ (both s ls same) = carries s ls same
   then_alike _ _ (neither f) = λ r x. x
 
-claims_same : (xs ls : List Literal) → Same xs ls → Carries (Ok ls) (Ok xs)
-claims_same xs ls same (Ok model) x = λ l. x l ∙ same l
-claims_same xs ls same (Err OutOfMemory) x = tt
-claims_same xs ls same (Err ReadFailed) x = absurd (let bad : Ok xs ≡ Err ReadFailed = x in cc)
-claims_same xs ls same (Err (Text f p)) x = absurd (let bad : Ok xs ≡ Err (Text f p) = x in cc)
-claims_same xs ls same (Err (Binary f n)) x = absurd (let bad : Ok xs ≡ Err (Binary f n) = x in cc)
-
-concluded_alike : (place : Place) (p : LinePosition) (h e : Bool) (xs ls : List Literal) → Same xs ls
-    → Carries (placed place (claim_at_end (said p h e ls))) (placed place (claim_at_end (said p h e xs)))
-concluded_alike place p true true xs ls same = claims_same xs ls same
-concluded_alike place p true false xs ls same = λ r x. x
-concluded_alike place p false e xs ls same = λ r x. x
-
 claim_alike : (ts : List Listed) (place : Place) (ending : Ending) (s : Said) (ls : List Literal) → Same s.listed ls
     → Carries (claim_among (with_listed ls s) ts place ending) (claim_among s ts place ending)
 claim_alike [] place Failed s ls same = λ r x. x
-claim_alike [] place End s ls same =
-    then_alike (λ s. placed place (claim_at_end s)) (λ s ls same. concluded_alike place s.position s.has_status s.is_ended s.listed ls same)
-    _ _ (line_alike place s.listed ls same s.position s.has_status s.is_ended)
+claim_alike [] place End s ls same = search rules
 claim_alike (t ∷ ts) place ending s ls same =
     then_alike (λ s. claim_among s ts place ending) (claim_alike ts place ending) _ _ (token_alike s ls t.0 same)
 
 -- the code has come to where the output goes on
 comes_to : (now : Said) (after : Result Said Fault) → ComesTo now after → (l : Listing) → Carries (and_then after (λ s. claim_after s l)) (claim_after now l)
-comes_to now after comes l = λ r x.
-    subst (λ a. IsClaim r (and_then a (λ s. claim_after s l))) (sym comes.is) (claim_alike l.tokens l.end l.ending now comes.listed comes.same r x)
+comes_to now after comes l = search (rules, claim_alike)
 
 -- a token is at fault, and so is the output
 fault_claimed : (f : Fault) (now : Said) (after : Result Said Fault) (next : Said → Result (List Literal) Fault) → Takes (Err f) now after
     → IsClaim (Err f) (and_then after next)
-fault_claimed OutOfMemory now after next takes = tt
-fault_claimed ReadFailed now after next takes = ap (λ a. and_then a next) takes
-fault_claimed (Text f p) now after next takes = ap (λ a. and_then a next) takes
-fault_claimed (Binary f n) now after next takes = ap (λ a. and_then a next) takes
+fault_claimed f now after next h = search rules
 
 -- ---- From token to token
 

@@ -1,7 +1,7 @@
 -- A formula's text, as its grammar has it.
 use Rattle.std.proofs.Common.{◌≡◌, ℕ, ◌+◌, ◌≤◌, nat_le, cond, Bool, true, false, List, [], ◌∷◌}
 use Rattle.std.proofs.Common.{◌++◌, length, map, Option, None, Some, Result, Ok, Err, refl, sym, ap}
-use Rattle.std.proofs.Common.{ap₂, subst, ◌∙◌, append_assoc, arith}
+use Rattle.std.proofs.Common.{ap₂, subst, ◌∙◌, append_assoc, arith, rules}
 use Rattle.std.specs.Prelude.{◌&&◌, if◌then◌else◌, codes}
 use Rattle.std.specs.Fmt.{decimal}
 use Rattle.std.specs.List.{flat_map, list_all}
@@ -14,33 +14,28 @@ use Rattle.cnf_base.specs.Grammar.{word_lines}
 use Rattle.cnf_base.specs.Text.{Listed, Listing, listing_of}
 use Rattle.cnf_base.specs.Words.{number, number_literal, word_of}
 use Rattle.cnf_base.specs.declared.input.Ending.{Ending}
-use Rattle.cnf_base.specs.declared.input.Ending.TheVariants.{End, Failed}
+use Rattle.cnf_base.specs.declared.input.Ending.TheVariants.{End}
 use Rattle.cnf_base.specs.declared.place.Place.{Place}
 use Rattle.cnf_base.specs.declared.word.Word.{Word}
 use Rattle.cnf_base.specs.declared.word.Word.TheVariants as words
 use Rattle.cnf_base.specs.declared.token.Token as tokens
 use Rattle.cnf_base.specs.declared.token.Token.TheVariants as token
 use Rattle.cnf_base.specs.declared.fault.Fault.{Fault}
-use Rattle.cnf_base.specs.declared.fault.Fault.TheVariants.{Text}
 use Rattle.cnf_base.specs.declared.fault.TextFault.{TextFault}
-use Rattle.cnf_base.specs.declared.fault.TextFault.TheVariants.{BadHeader, NumberTooLarge, BadToken}
+use Rattle.cnf_base.specs.declared.fault.TextFault.TheVariants.{NumberTooLarge, BadToken}
 use Rattle.cnf_base.specs.declared.fault.TextFault.TheVariants.{LiteralOutOfRange, TooManyClauses}
-use Rattle.cnf_base.specs.declared.fault.TextFault.TheVariants.{TooFewClauses}
 use Rattle.cnf_base.proofs.GrammarLemmas.{listing_says, number_spelled, p_spelled, cnf_spelled}
-use Rattle.cnf_base.proofs.LineLemmas.{append_nil}
 use Rattle.cnf_base.proofs.PrintLemmas.{both, count_word}
-use Rattle.dimacs.specs.Formula.{and_then, next_word, is_p, is_cnf, fixed, count_of}
+use Rattle.dimacs.specs.Formula.{is_p, is_cnf, fixed}
 use Rattle.dimacs.specs.Formula.{count, line_end}
-use Rattle.dimacs.specs.Code.Reading.{first_end}
 use Rattle.dimacs.specs.Formula.{part, header_of}
-use Rattle.dimacs.specs.Code.Reading.{and_then_at}
-use Rattle.dimacs.specs.Formula.{judged, Body, faulty_body, whole, with_first_clause, body_at_end}
-use Rattle.dimacs.specs.Formula.{body_on_word, body_among, body_of, Formula}
+use Rattle.dimacs.specs.Formula.{judged, Body, body_at_end}
+use Rattle.dimacs.specs.Formula.{body_among, body_of, Formula}
 use Rattle.dimacs.specs.Formula.{formula_with, formula_of}
 use Rattle.dimacs.specs.Grammar.{filled_lines, all_words, FormulaText, FormulaIsGrammar}
 use Rattle.dimacs.specs.Printing.{header_words, IsFormula}
 use Rattle.dimacs.specs.declared.header.Header.{Header}
-use Rattle.dimacs.proofs.FormulaPrinting.{judged_literal, judged_zero}
+use Rattle.dimacs.proofs.FormulaPrinting.{judged_literal}
 use Rattle.dimacs.proofs.HeaderLemmas.{after_p}
 use Rattle.dimacs.proofs.GrammarWords.{Lines, and_so, went_on, some_parts, line_then, said_by}
 use Rattle.dimacs.proofs.GrammarWords.{IsSaid, AreSaid, text_lines, filled_words, literal_spelled}
@@ -81,47 +76,20 @@ clauses_in h complete literals (w ∷ ws) =
 
 at_end : (h : Header) (k : ℕ) (acc : List Literal) (p : Place) → clean (body_at_end h k acc p End)
     ≡ words_at_end h k acc
-at_end h k (l ∷ ls) p = refl
-at_end h k [] p = by (nat_le h.clauses k)
-  where
-    by : (v : Bool) → clean (cond v whole (faulty_body (Text TooFewClauses p)))
-        ≡ cond v (Some []) None
-    by true = refl
-    by false = refl
-
-with_first : (c : Clause) (b : Body) → clean (with_first_clause c b) ≡ first_clause c (clean b)
-with_first c b = by b.fault
-  where
-    by : (f : Option Fault) → faultless f (c ∷ b.clauses) ≡ first_clause c (faultless f b.clauses)
-    by None = refl
-    by (Some f) = refl
+at_end h k acc p = search rules
 
 module _ (h : Header) (k : ℕ) (acc : List Literal) (ts : List Listed) (end : Place) (offset : ℕ)
     (g : ℕ → List Literal → Option (List Clause))
     (same : (k : ℕ) (acc : List Literal) → clean (body_among h k acc ts end End) ≡ g k acc) where
   on_word : (t : tokens.Token) (v : Word) → IsSaid t (Some v)
       → clean (body_among h k acc ((t, offset) ∷ ts) end End) ≡ on_judged k acc (judged h k v) g
-  on_word (token.Word p w) v is =
-      ap (λ x. clean (body_on_word k acc p (judged h k x) (λ k acc. body_among h k acc ts end End)))
-      is
-      ∙ by p (judged h k v)
-    where
-      by : (p : Place) (r : Result (Option Literal) TextFault)
-          → clean (body_on_word k acc p r (λ k acc. body_among h k acc ts end End))
-          ≡ on_judged k acc r g
-      by p (Ok (Some l)) = same k (acc ++ l ∷ [])
-      by p (Ok None) =
-          with_first acc (body_among h (k + 1) [] ts end End)
-          ∙ ap (first_clause acc) (same (k + 1) [])
-      by p (Err e) = refl
+  on_word (token.Word p w) v is = search rules
   on_word (token.LineEnd p) v is = absurd is
   on_word (token.End p) v is = absurd is
 
   on_line_end : (t : tokens.Token) → IsSaid t None
       → clean (body_among h k acc ((t, offset) ∷ ts) end End) ≡ g k acc
-  on_line_end (token.Word p w) is = absurd is
-  on_line_end (token.LineEnd p) is = same k acc
-  on_line_end (token.End p) is = absurd is
+  on_line_end t h = search rules
 
 module _ (h : Header) (p : Place) where
   nothing_said : (k : ℕ) (acc : List Literal) (ts : List Listed) → AreSaid ts []
@@ -138,13 +106,9 @@ module _ (h : Header) (p : Place) where
   line_clauses [] [] ([] ∷ lines) k acc s = absurd s
   line_clauses [] [] ((w ∷ ws) ∷ lines) k acc s = absurd s
   line_clauses [] (w ∷ ws) lines k acc s = absurd s
-  line_clauses (t ∷ ts) [] [] k acc s =
-      on_line_end h k acc ts p t.1 (λ k acc. words_at_end h k acc)
-      (λ k acc. nothing_said k acc ts s.1) t.0 s.0
+  line_clauses (t ∷ ts) [] [] k acc s = search (rules, on_line_end, nothing_said)
   line_clauses (t ∷ ts) [] (line ∷ lines) k acc s =
-      on_line_end h k acc ts p t.1
-      (λ k acc. clauses_in h k acc (line ++ all_words lines))
-      (λ k acc. line_clauses ts line lines k acc s.1) t.0 s.0
+      search (rules, on_line_end, (line_clauses ts line lines k acc s.1))
   line_clauses (t ∷ ts) (w ∷ ws) lines k acc s =
       on_word h k acc ts p t.1
       (λ k acc. clauses_in h k acc (ws ++ all_words lines))
@@ -199,29 +163,12 @@ Agree R (Err f) None = Unit {0}
 Agree R (Ok a) None = ⊥
 Agree R (Err f) (Some b) = ⊥
 
-agree_then : {A B C D : Type 0} (R : A → B → Type 0) (S : C → D → Type 0) (x : Result A Fault)
-    (y : Option B)
-    (f : A → Result C Fault) (g : B → Option D)
-    → Agree R x y → ((a : A) (b : B) → R a b → Agree S (f a) (g b))
-    → Agree S (and_then x f) (and_so y g)
-agree_then R S (Ok a) (Some b) f g r next = next a b r
-agree_then R S (Err e) None f g r next = tt
-agree_then R S (Ok a) None f g r next = absurd r
-agree_then R S (Err e) (Some b) f g r next = absurd r
-
 agree_part : {A B C D : Type 0} (R : A → B → Type 0) (S : C → D → Type 0)
     (test : Listing → Result A Fault) (l : Listing) (y : Option B)
     (f : A → Result C (Fault × List ℕ)) (g : B → Option D)
     → Agree R (test l) y → ((a : A) (b : B) → R a b → Agree S (f a) (g b))
     → Agree S (part test l f) (and_so y g)
-agree_part {A = A} {B = B} R S test l y f g r next = by (test l) y r
-  where
-    by : (x : Result A Fault) (y : Option B) → Agree R x y
-        → Agree S (and_then_at (first_end l.tokens) x f) (and_so y g)
-    by (Ok a) (Some b) r = next a b r
-    by (Err e) None r = tt
-    by (Ok a) None r = absurd r
-    by (Err e) (Some b) r = absurd r
+agree_part R S test l y f g h h2 = search rules
 
 -- a text in the midst of a line, and after one
 record IsIn (lines : Lines) (l : Listing) (line : List (List ℕ)) : Type 0 where
@@ -235,96 +182,19 @@ record IsAfter (lines : Lines) (l : Listing) : Type 0 where
 abbrev listing : List Listed → Place → Ending → Listing
 listing ts p e = record { tokens = ts; end = p; ending = e }
 
-abbrev IsWord : Lines → Place × Word × Listing → Word × List (List ℕ) → Type 0
-IsWord lines x y = (x.1 ≡ y.0) × IsIn lines x.2 y.1
-
-next_agrees : (lines : Lines) (ts : List Listed) (p : Place) (e : Ending) (line : List (List ℕ))
-    → e ≡ End
-    → AreSaid ts (line_then line (said_by lines))
-    → Agree (IsWord lines) (next_word (listing ts p e)) (word_in line)
-next_agrees lines [] p End [] is s = tt
-next_agrees lines [] p Failed [] is s = tt
-next_agrees lines [] p e (w ∷ ws) is s = absurd s
-next_agrees lines (t ∷ ts) p e [] is s = by t.0 s.0
-  where
-    by : (u : tokens.Token) → IsSaid u None
-        → Agree (IsWord lines) (next_word (listing ((u, t.1) ∷ ts) p e)) None
-    by (token.Word q v) s = absurd s
-    by (token.LineEnd q) s = tt
-    by (token.End q) s = tt
-next_agrees lines (t ∷ ts) p e (w ∷ ws) is s = by t.0 s.0 (record { said = s.1; ending = is })
-  where
-    by : (u : tokens.Token) → IsSaid u (Some (word_of w)) → IsIn lines (listing ts p e) ws
-        → Agree (IsWord lines) (next_word (listing ((u, t.1) ∷ ts) p e)) (Some (word_of w, ws))
-    by (token.Word q v) s i = (s, i)
-    by (token.LineEnd q) s i = absurd s
-    by (token.End q) s i = absurd s
-
 module _ (lines : Lines) (l : Listing) (line : List (List ℕ)) (is : IsIn lines l line) where
-  word_agrees : Agree (IsWord lines) (next_word l) (word_in line)
-  word_agrees = next_agrees lines l.tokens l.end l.ending line is.ending is.said
-
   fixed_agrees : (test : Word → Bool) → Agree (IsIn lines) (fixed test l) (fixed_in test line)
-  fixed_agrees test =
-      agree_then (IsWord lines) (IsIn lines) (next_word l) (word_in line) _ _ word_agrees
-      (λ x y r. by x.0 x.2 y.1 (test x.1) (test y.0) (ap test r.0) r.1)
-    where
-      by : (p : Place) (m : Listing) (ws : List (List ℕ)) (a b : Bool) → a ≡ b → IsIn lines m ws
-          → Agree (IsIn lines) (cond a (Ok m) (Err (Text BadHeader p))) (cond b (Some ws) None)
-      by p m ws true true e i = i
-      by p m ws false false e i = tt
-      by p m ws true false e i = absurd (let bad : true ≡ false = e in cc)
-      by p m ws false true e i = absurd (let bad : false ≡ true = e in cc)
+  fixed_agrees test = search rules
 
   count_agrees : (limit : ℕ)
       → Agree (λ x y. (x.0 ≡ y.0) × IsIn lines x.1 y.1) (count limit l) (count_in limit line)
-  count_agrees limit =
-      agree_then (IsWord lines) _ (next_word l) (word_in line) _ _ word_agrees
-      (λ x y r. agree_then (λ n m. n ≡ m) _ (count_of limit x.0 x.1) (number_in limit y.0) _ _
-      (subst (λ v. Agree (λ n m. n ≡ m) (count_of limit x.0 x.1) (number_in limit v)) r.0
-      (number x.0 x.1))
-      (λ n m same. (same, r.1)))
-    where
-      by : (p : Place) (n : ℕ) (a b : Bool) → Agree (λ n m. n ≡ m)
-          (cond a (Err (Text BadHeader p)) (cond b (Ok n) (Err (Text NumberTooLarge p))))
-          (cond a None (cond b (Some n) None))
-      by p n true b = tt
-      by p n false true = refl
-      by p n false false = tt
-
-      number : (p : Place) (v : Word)
-          → Agree (λ n m. n ≡ m) (count_of limit p v) (number_in limit v)
-      number p (words.Number n) = by p n.size n.is_negative (nat_le n.size limit)
-      number p _ = tt
+  count_agrees limit = search rules
 
 end_agrees : (lines : Lines) (ts : List Listed) (p : Place) (e : Ending) (line : List (List ℕ))
     → e ≡ End
     → AreSaid ts (line_then line (said_by lines))
     → Agree (λ m u. IsAfter lines m) (line_end (listing ts p e)) (end_in line)
-end_agrees [] [] p e [] is s = by e is
-  where
-    by : (e : Ending) → e ≡ End
-        → Agree (λ m (u : Unit {0}). IsAfter [] m) (line_end (listing [] p e)) (Some tt)
-    by End is = record { said = tt; ending = is }
-    by Failed is = absurd (let bad : Failed ≡ End = is in cc)
-end_agrees ([] ∷ lines) [] p e [] is s = absurd s
-end_agrees ((w ∷ ws) ∷ lines) [] p e [] is s = absurd s
-end_agrees lines [] p e (w ∷ ws) is s = absurd s
-end_agrees lines (t ∷ ts) p e [] is s = by t.0 s.0 (record { said = s.1; ending = is })
-  where
-    by : (u : tokens.Token) → IsSaid u None → IsAfter lines (listing ts p e)
-        → Agree (λ m (u : Unit {0}). IsAfter lines m) (line_end (listing ((u, t.1) ∷ ts) p e))
-        (Some tt)
-    by (token.Word q v) s i = absurd s
-    by (token.LineEnd q) s i = i
-    by (token.End q) s i = absurd s
-end_agrees lines (t ∷ ts) p e (w ∷ ws) is s = by t.0 s.0
-  where
-    by : (u : tokens.Token) → IsSaid u (Some (word_of w))
-        → Agree (λ m (u : Unit {0}). IsAfter lines m) (line_end (listing ((u, t.1) ∷ ts) p e)) None
-    by (token.Word q v) s = tt
-    by (token.LineEnd q) s = absurd s
-    by (token.End q) s = absurd s
+end_agrees lines ts p e line h h2 = search rules
 
 -- the header, and the text after it
 abbrev IsHead : Header × Listing → Header × Lines → Type 0
@@ -356,14 +226,7 @@ header_agrees ([] ∷ lines) [] p s = no_more lines s
     no_more [] s = tt
     no_more ([] ∷ lines) s = absurd s
     no_more ((w ∷ ws) ∷ lines) s = absurd s
-header_agrees ([] ∷ lines) (t ∷ ts) p s = by t.0 s.0 (header_agrees lines ts p s.1)
-  where
-    by : (u : tokens.Token) → IsSaid u None
-        → Agree IsHead (header_of (listing ts p End)) (lines_header lines)
-        → Agree IsHead (header_of (listing ((u, t.1) ∷ ts) p End)) (lines_header lines)
-    by (token.Word q v) s a = absurd s
-    by (token.LineEnd q) s a = a
-    by (token.End q) s a = absurd s
+header_agrees ([] ∷ lines) (t ∷ ts) p s = search (rules, (header_agrees lines ts p s.1))
 header_agrees ((w ∷ ws) ∷ lines) [] p s = absurd s
 header_agrees ((w ∷ ws) ∷ lines) (t ∷ ts) p s =
     by t.0 s.0
@@ -382,34 +245,17 @@ header_agrees ((w ∷ ws) ∷ lines) (t ∷ ts) p s =
 fixed_spelled : (test : Word → Bool) (line rest : List (List ℕ)) → fixed_in test line ≡ Some rest
     → (w : List ℕ) × (line ≡ w ∷ rest) × (test (word_of w) ≡ true)
 fixed_spelled test [] rest e = absurd (let bad : None ≡ Some rest = e in cc)
-fixed_spelled test (w ∷ ws) rest e = by (test (word_of w)) refl e
-  where
-    by : (v : Bool) → test (word_of w) ≡ v → cond v (Some ws) None ≡ Some rest
-        → (u : List ℕ) × (w ∷ ws ≡ u ∷ rest) × (test (word_of u) ≡ true)
-    by true t e = (w, (cc), t)
-    by false t e = absurd (let bad : None ≡ Some rest = e in cc)
+fixed_spelled test (w ∷ ws) rest e = search rules
 
 p_tested : (v : Word) → is_p v ≡ true → v ≡ words.P
-p_tested words.P e = refl
-p_tested _ e = absurd (let bad : false ≡ true = e in cc)
+p_tested v h = search rules
 
 cnf_tested : (v : Word) → is_cnf v ≡ true → v ≡ words.Cnf
-cnf_tested words.Cnf e = refl
-cnf_tested _ e = absurd (let bad : false ≡ true = e in cc)
+cnf_tested v h = search rules
 
 number_tested : (limit : ℕ) (v : Word) (n : ℕ) → number_in limit v ≡ Some n
     → (v ≡ words.Number (number false n)) × (n ≤ limit)
-number_tested limit (words.Number m) n e = by m.is_negative m.size (nat_le m.size limit) refl e
-  where
-    by : (s : Bool) (k : ℕ) (b : Bool) → nat_le k limit ≡ b → cond s None (cond b (Some k) None)
-        ≡ Some n
-        → (words.Number (number s k) ≡ words.Number (number false n)) × (n ≤ limit)
-    by true k b t e = absurd (let bad : None ≡ Some n = e in cc)
-    by false k true t e =
-        let same : k ≡ n = cc in
-        (ap (λ j. words.Number (number false j)) same, grind (arith, nat_tests))
-    by false k false t e = absurd (let bad : None ≡ Some n = e in cc)
-number_tested limit _ n e = absurd (let bad : None ≡ Some n = e in cc)
+number_tested limit v n h = search rules
 
 count_spelled : (limit : ℕ) (line : List (List ℕ)) (n : ℕ) (rest : List (List ℕ))
     → limit ≤ 9223372036854775807
@@ -427,8 +273,7 @@ count_spelled limit (w ∷ ws) n rest small e =
     )
 
 end_spelled : (line : List (List ℕ)) (u : Unit {0}) → end_in line ≡ Some u → line ≡ []
-end_spelled [] u e = refl
-end_spelled (w ∷ ws) u e = absurd (let bad : None ≡ Some u = e in cc)
+end_spelled line u h = search rules
 
 -- within the limits
 record IsHeader (h : Header) : Type 0 where
@@ -480,32 +325,18 @@ header_spelled ((w ∷ ws) ∷ lines) h rest e =
 -- and the other way round
 count_taken : (limit n : ℕ) (rest : List (List ℕ)) → n ≤ limit → limit ≤ 9223372036854775807
     → count_in limit (decimal n ∷ rest) ≡ Some (n, rest)
-count_taken limit n rest low small =
-    let is = count_word n (omega arith) in
-    let within : nat_le n limit ≡ true = grind (arith, nat_tests) in
-    ap (λ v. and_so (number_in limit v) (λ n. Some (n, rest))) is
-    ∙ ap (λ b. and_so (cond b (Some n) None) (λ n. Some (n, rest))) within
+count_taken limit n rest low small = search (rules, count_word, nat_le, and_so)
 
 line_taken : (lines : Lines) (h : Header) → IsHeader h → line_header lines (header_words h)
     ≡ Some (h, lines)
-line_taken lines h is =
-    ap (λ o. and_so o (λ vars. and_so (count_in 4294967295 vars.1)
-    (λ clauses. and_so (end_in clauses.1)
-    (λ u. Some (record { vars = vars.0; clauses = clauses.0 }, lines)))))
-    (count_taken 268435455 h.vars (decimal h.clauses ∷ []) is.vars (omega arith))
-    ∙ ap (λ o. and_so o (λ clauses. and_so (end_in clauses.1)
-    (λ u. Some (record { vars = h.vars; clauses = clauses.0 }, lines))))
-    (count_taken 4294967295 h.clauses [] is.clauses (omega arith))
+line_taken lines h is = search (rules, and_so, count_taken)
 
 header_taken : (lines : Lines) (h : Header) (body : Lines)
     → filled_lines lines ≡ header_words h ∷ body → IsHeader h
     → (rest : Lines) × (lines_header lines ≡ Some (h, rest)) × (filled_lines rest ≡ body)
 header_taken [] h body e is = absurd (let bad : [] ≡ header_words h ∷ body = e in cc)
 header_taken ([] ∷ lines) h body e is = header_taken lines h body e is
-header_taken ((w ∷ ws) ∷ lines) h body e is =
-    let line : w ∷ ws ≡ header_words h = cc in
-    let later : filled_lines lines ≡ body = cc in
-    (lines, ap (line_header lines) line ∙ line_taken lines h is, later)
+header_taken ((w ∷ ws) ∷ lines) h body e is = search (rules, line_taken)
 
 -- ---- The clauses' spelling
 
@@ -519,10 +350,7 @@ module _ (h : Header) (small : h.vars ≤ 268435455) where
   conditions : {A : Type 0} (a b c : Bool) (x y : A) (f0 f1 f2 : TextFault)
       → cond a (cond b (Err f0) (cond c (Ok x) (Err f1))) (Err f2) ≡ Ok y
       → (a ≡ true) × (b ≡ false) × (c ≡ true) × (x ≡ y)
-  conditions true false true x y f0 f1 f2 e = (refl, refl, refl, (cc))
-  conditions true false false x y f0 f1 f2 e = absurd (let bad : Err f1 ≡ Ok y = e in cc)
-  conditions true true c x y f0 f1 f2 e = absurd (let bad : Err f0 ≡ Ok y = e in cc)
-  conditions false b c x y f0 f1 f2 e = absurd (let bad : Err f2 ≡ Ok y = e in cc)
+  conditions a b c x y f0 f1 f2 h = search rules
 
   literal_judged : (k : ℕ) (w : List ℕ) (l : Literal) → judged h k (word_of w) ≡ Ok (Some l)
       → IsJudged k w (literal_text l) (is_literal h.vars l ≡ true)
@@ -573,15 +401,7 @@ module _ (h : Header) (small : h.vars ≤ 268435455) where
       → clauses_in h k acc ws ≡ Some cs → k ≤ h.clauses → list_all (is_literal h.vars) acc ≡ true
       → AreClauses k acc ws cs
   clauses_spelled [] k (l ∷ ls) cs e low are = absurd (let bad : None ≡ Some cs = e in cc)
-  clauses_spelled [] k [] cs e low are = by (nat_le h.clauses k) refl e
-    where
-      by : (v : Bool) → nat_le h.clauses k ≡ v → cond v (Some []) None ≡ Some cs
-          → AreClauses k [] [] cs
-      by true t e =
-          let same : [] ≡ cs = cc in
-          let all : h.clauses ≡ k + 0 = grind (arith, nat_tests) in
-          subst (AreClauses k [] []) same (record { words = refl; count = all; literals = refl })
-      by false t e = absurd (let bad : None ≡ Some cs = e in cc)
+  clauses_spelled [] k [] cs e low are = search rules
   clauses_spelled (w ∷ ws) k acc cs e low are =
       by (judged h k (word_of w)) refl e (λ l. clauses_spelled ws k (acc ++ l ∷ []) cs)
       (clauses_spelled ws (k + 1) [])
@@ -639,10 +459,7 @@ module _ (h : Header) (small : h.vars ≤ 268435455) where
       → nat_le h.clauses k ≡ false → list_all (is_literal h.vars) ls ≡ true
       → clauses_in h (k + 1) [] ws ≡ Some cs
       → clauses_in h k acc (literal_words ls ++ ws) ≡ Some ((acc ++ ls) ∷ cs)
-  clause_taken [] acc k ws cs missing are later =
-      ap (λ r. on_judged k acc r (λ k acc. clauses_in h k acc ws)) (judged_zero h small k missing)
-      ∙ ap (first_clause acc) later
-      ∙ ap (λ c. Some (c ∷ cs)) (sym (append_nil acc))
+  clause_taken [] acc k ws cs missing are later = search rules
   clause_taken (l ∷ ls) acc k ws cs missing are later =
       let r = both (is_literal h.vars l) (list_all (is_literal h.vars) ls) are in
       ap (λ r. on_judged k acc r (λ k acc. clauses_in h k acc (literal_words ls ++ ws)))
@@ -653,9 +470,7 @@ module _ (h : Header) (small : h.vars ≤ 268435455) where
   clauses_taken : (cs : List Clause) (k : ℕ) → h.clauses ≡ k + length cs
       → list_all (list_all (is_literal h.vars)) cs ≡ true
       → clauses_in h k [] (flat_map literal_words cs) ≡ Some cs
-  clauses_taken [] k count are =
-      let all : nat_le h.clauses k ≡ true = grind (arith, nat_tests) in
-      ap (λ v. cond v (Some []) None) all
+  clauses_taken [] k count are = search rules
   clauses_taken (c ∷ cs) k count are =
       let r = both (list_all (is_literal h.vars) c) (list_all (list_all (is_literal h.vars)) cs)
       are in
@@ -670,16 +485,13 @@ faultless_formula h clauses = record { header = Some h; clauses = clauses; fault
 
 text_clauses : (h : Header) (l : Listing) (lines : Lines) → IsAfter lines l
     → clean (body_of h 0 [] l) ≡ clauses_in h 0 [] (all_words lines)
-text_clauses h l lines is =
-    ap (λ e. clean (body_among h 0 [] l.tokens l.end e)) is.ending
-    ∙ lines_clauses h l.end l.tokens lines is.said
+text_clauses h l lines is = search (rules, lines_clauses)
 
 formula_words : (h : Header) (clauses : List Clause) (r : Result (Header × Listing) (Fault × List ℕ))
     (o : Option (Header × Lines))
     → Agree IsHead r o → formula_with r ≡ faultless_formula h clauses
     → (rest : Lines) × (o ≡ Some (h, rest)) × (clauses_in h 0 [] (all_words rest) ≡ Some clauses)
-formula_words h clauses (Err f) None a e =
-    absurd (let bad : None ≡ Some h = ap (λ f. f.header) e in cc)
+formula_words h clauses (Err f) None a e = search rules
 formula_words h clauses (Err f) (Some y) a e = absurd a
 formula_words h clauses (Ok x) None a e = absurd a
 formula_words h clauses (Ok x) (Some y) a e =

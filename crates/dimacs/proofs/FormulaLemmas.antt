@@ -1,7 +1,7 @@
 -- A formula's tokens, one at a time.
 use Rattle.std.proofs.Common.{◌≡◌, ℕ, ◌<◌, ◌≤◌, List, [], ◌∷◌, ◌++◌, Option, None, Some}
-use Rattle.std.proofs.Common.{refl, sym, ap, ◌∙◌, subst, arith}
-use Rattle.std.specs.Prelude.{Bool, true, false, Result, Ok, Err}
+use Rattle.std.proofs.Common.{refl, sym, ap, ◌∙◌, subst, arith, rules}
+use Rattle.std.specs.Prelude.{Bool, true, Result, Ok, Err}
 use Rattle.cnf_base.specs.Literals.{Literal}
 use Rattle.cnf_base.specs.Stream.{Suffix, Stream, Along, most_to_come, tells_failure}
 use Rattle.cnf_base.specs.Text.{Listing, listing_at, Gives}
@@ -12,7 +12,7 @@ use Rattle.cnf_base.specs.declared.word.Word.{Word}
 use Rattle.cnf_base.specs.declared.token.Token.{Token}
 use Rattle.cnf_base.specs.declared.token.Token.TheVariants as token
 use Rattle.cnf_base.specs.declared.fault.Fault.{Fault}
-use Rattle.cnf_base.specs.declared.fault.Fault.TheVariants.{Text, Binary, ReadFailed, OutOfMemory}
+use Rattle.cnf_base.specs.declared.fault.Fault.TheVariants.{Text, ReadFailed, OutOfMemory}
 use Rattle.cnf_base.specs.declared.fault.TextFault.{TextFault}
 use Rattle.cnf_base.proofs.ListingLemmas.{Gives-from, listing_at-from}
 use Rattle.cnf_base.proofs.StreamLemmas.{Along-then, Along-map, Along-none}
@@ -26,20 +26,12 @@ use Rattle.dimacs.proofs.OffsetLemmas.{from-none, on_word-from, ends_among-from,
 
 -- a fault is what comes, and it stays
 pub gives_fault : (f : Fault) (c : List Literal) (b : Body) → b ≡ faulty_body f → GivesClause (Err f) c b (faulty_body f)
-gives_fault (Text k p) c b e = (e, e)
-gives_fault (Binary k n) c b e = (e, e)
-gives_fault ReadFailed c b e = (e, e)
-gives_fault OutOfMemory c b e = refl
+gives_fault f c b h = search rules
 
 -- an answer that is kept is what comes, and it stays
 kept_gives : (answer : Result Bool Fault) (c : List Literal) (before after : Body) → (answer ≡ Ok true → ⊥)
     → before ≡ body_unless_ended (Some answer) whole → after ≡ body_unless_ended (Some answer) whole → GivesClause answer c before after
-kept_gives (Ok true) c before after none b a = absurd (none refl)
-kept_gives (Ok false) c before after none b a = (b ∙ sym a, b)
-kept_gives (Err (Text k p)) c before after none b a = (b ∙ sym a, b)
-kept_gives (Err (Binary k n)) c before after none b a = (b ∙ sym a, b)
-kept_gives (Err ReadFailed) c before after none b a = (b ∙ sym a, b)
-kept_gives (Err OutOfMemory) c before after none b a = a
+kept_gives answer c before after h h2 h3 = search rules
 
 pub Kept-clause : (r : FormulaReading) (answer : Result Bool Fault) (c : List Literal) → r.kept ≡ Some answer → (r.kept ≡ Some (Ok true) → ⊥)
     → Along r.stream r.stream (λ i j. GivesClause answer c (clauses_to_come r i) (clauses_to_come r j) × GivesEnd answer (ends_to_come r i) (ends_to_come r j) j)
@@ -63,15 +55,11 @@ Kept-clause r answer c is none =
 ends_so : (h : Header) (complete : ℕ) (p : Place) (result : Result Bool Fault) (ls : List Literal) (before : Body) (l : Listing)
     → EndsBody result (body_at_end h complete ls p End) → before ≡ body_at_end h complete ls p End
     → GivesClause result ls before (body_left result h complete l)
-ends_so h complete p (Ok true) ls before l ends e = absurd ends
-ends_so h complete p (Ok false) ls before l ends e = (e ∙ ends, e ∙ ends)
-ends_so h complete p (Err f) ls before l ends e = gives_fault f ls before (e ∙ ends)
+ends_so h complete p result ls before l h2 h3 = search rules
 
 -- no clause is given at the end
 ends_no_clause : (result : Result Bool Fault) (b : Body) → EndsBody result b → result ≡ Ok true → ⊥
-ends_no_clause (Ok true) b ends is = ends
-ends_no_clause (Ok false) b ends is = cc
-ends_no_clause (Err f) b ends is = cc
+ends_no_clause result b h h2 = search rules
 
 -- from one moment to another literals of one clause were read
 pub record Between (h : Header) (complete : ℕ) (old now : Stream) (before at_hand : List Literal) : Type 0 where
@@ -118,23 +106,17 @@ module _ (h : Header) (complete : ℕ) (old now new : Stream) (before at_hand : 
 
     -- whatever the word is, no end that was to come was passed
     ends-from : (i j : Suffix) → ends_after h complete (listing_at old.place i) ≡ ends j (judged h complete w) → PassesNoEnd (ends_after h complete (listing_at old.place i)) j
-    ends-from i j is = passes _ (ends j (judged h complete w)) j is
-        (on_word-from h j.offset complete j.offset (judged h complete w) (λ c. ends_after h c (listing_at new.place j)) (omega arith)
-        (λ c. ends_among-from h j.offset c _ (listing_at-from new.place j)))
+    ends-from i j is = search (rules, passes, on_word-from, ends_among-from, listing_at-from)
 
     pub Between-literal : (l : Literal) → Ok (Some l) ≡ judged h complete w → most_to_come new < most_to_come now → tells_failure new.reader ≡ tells_failure now.reader
         → Between h complete old new before (at_hand ++ l ∷ [])
-    Between-literal l is fewer mark = record {
-      text = Along-map old new _ _ word_text (λ i j m q. (q.0 ∙ ap (follows j) (sym is), q.1 ∙ ap (ends j) (sym is)));
-      fewer = omega (arith, so_far.fewer, fewer);
-      mark = mark ∙ so_far.mark;
-    }
+    Between-literal l is fewer mark = search (rules, word_text)
 
     pub Between-clause : Ok None ≡ judged h complete w → Gave (Ok true) at_hand
     Between-clause is = Along-map old new _ _ word_text (λ i j m q. (q.0 ∙ ap (follows j) (sym is), (q.1 ∙ ap (ends j) (sym is), ends-from i j q.1)))
 
     pub Between-fault : (f : TextFault) → Err f ≡ judged h complete w → Gave (Err (Text f p)) at_hand
-    Between-fault f is = Along-map old new _ _ word_text (λ i j m q. (gives_fault (Text f p) at_hand _ (q.0 ∙ ap (follows j) (sym is)), ends-from i j q.1))
+    Between-fault f is = search (rules, word_text, gives_fault, ends-from)
 
     pub Between-refused : (c : List Literal) → Gave (Err OutOfMemory) c
     Between-refused c = Along-map old new _ _ word_text (λ i j m q. (refl, ends-from i j q.1))

@@ -1,7 +1,7 @@
 -- A formula that was printed, as it is read.
 use Rattle.std.proofs.Common.{◌≡◌, ℕ, suc, ◌+◌, ◌<◌, ◌≤◌, nat_le, cond, true, false, List, [], ◌∷◌}
 use Rattle.std.proofs.Common.{◌++◌, length, Option, None, Some, Ok, Err, refl, sym, ap, ◌∙◌}
-use Rattle.std.proofs.Common.{append_assoc, arith}
+use Rattle.std.proofs.Common.{append_assoc, arith, rules}
 use Rattle.std.specs.Prelude.{codes}
 use Rattle.std.specs.Fmt.{decimal}
 use Rattle.std.specs.List.{flat_map, list_all}
@@ -15,20 +15,18 @@ use Rattle.cnf_base.specs.Code.Text.{line_after}
 use Rattle.cnf_base.specs.Words.{number, number_literal, word_of}
 use Rattle.cnf_base.specs.declared.input.Ending.TheVariants.{End}
 use Rattle.cnf_base.specs.declared.place.Place.{Place}
-use Rattle.cnf_base.specs.declared.fault.Fault.TheVariants.{Text}
 use Rattle.cnf_base.specs.declared.fault.TextFault.TheVariants.{NumberTooLarge, LiteralOutOfRange}
-use Rattle.cnf_base.specs.declared.fault.TextFault.TheVariants.{TooManyClauses, TooFewClauses}
+use Rattle.cnf_base.specs.declared.fault.TextFault.TheVariants.{TooManyClauses}
 use Rattle.cnf_base.specs.declared.word.Word.{Word}
 use Rattle.cnf_base.specs.declared.word.Word.TheVariants as words
 use Rattle.cnf_base.specs.declared.token.Token.TheVariants as token
-use Rattle.cnf_base.proofs.TextLemmas.{listing_at-end}
 use Rattle.cnf_base.proofs.LineLemmas.{append_nil}
 use Rattle.cnf_base.proofs.PrintLemmas.{line_from, along_from_one, past, past_from_one, Begins}
 use Rattle.cnf_base.proofs.PrintLemmas.{next_word, next_line, first_word, both, fixed_plain}
 use Rattle.cnf_base.proofs.PrintLemmas.{decimal_plain, count_word, zero_plain, literal_number}
 use Rattle.cnf_base.proofs.PrintLemmas.{literal_range, literal_word, literal_plain}
 use Rattle.cnf_base.proofs.PrintLemmas.{literal_no_comment, literal_taken}
-use Rattle.dimacs.specs.Formula.{header_of, judged, Body, with_first_clause, whole, faulty_body}
+use Rattle.dimacs.specs.Formula.{header_of, judged, Body, with_first_clause}
 use Rattle.dimacs.specs.Formula.{body_of, formula_with, formula_of}
 use Rattle.dimacs.specs.Printing.{header_line, clause_line, formula_text, IsFormula}
 use Rattle.dimacs.specs.declared.header.Header.{Header}
@@ -44,7 +42,7 @@ header_tokens : {l0 l1 l2 l3 l4 l5 : Listing} {p0 p1 p2 p3 p4 : Place} {n0 n1 n2
     → first ≡ words.Number (number false vars) → second ≡ words.Number (number false clauses)
     → nat_le vars 268435455 ≡ true → nat_le clauses 4294967295 ≡ true
     → header_of l0 ≡ Ok (record { vars = vars; clauses = clauses }, l5)
-header_tokens vars clauses b0 b1 b2 b3 b4 f s v c = rw (b0.is, b1.is, b2.is, b3.is, b4.is, f, s, v, c) refl
+header_tokens vars clauses b0 b1 b2 b3 b4 f s v c = cc
 
 -- a printed header is read, and then the text
 header_read : (h : Header) (rest : List ℕ) (p : Place) (n : ℕ) → 0 < p.col → h.vars ≤ 268435455 → h.clauses ≤ 4294967295
@@ -98,7 +96,7 @@ module _ (h : Header) (small : h.vars ≤ 268435455) where
 
   -- the `0` that ends a clause
   pub judged_zero : (k : ℕ) → nat_le h.clauses k ≡ false → judged h k (words.Number (number false 0)) ≡ Ok None
-  judged_zero k missing = let w : nat_le 0 h.vars ≡ true = grind (arith, nat_tests) in rw (missing, w) refl
+  judged_zero k missing = search rules
 
   -- a literal, and a `0` at a line's end
   takes_literal : {l m : Listing} {p : Place} {w : Word} {n : ℕ} (k : ℕ) (acc : List Literal) (x : Literal)
@@ -152,9 +150,7 @@ module _ (h : Header) (small : h.vars ≤ 268435455) where
       → list_all (list_all (is_literal h.vars)) clauses ≡ true
       → body_of h k [] (listing_at p (suffix n (flat_map clause_line clauses) End))
       ≡ record { clauses = clauses; fault = None }
-  clauses_read k [] p n from_one count are =
-      let all : nat_le h.clauses k ≡ true = grind (arith, nat_tests) in
-      ap (body_of h k []) (listing_at-end p n End) ∙ ap (λ v. cond v whole (faulty_body (Text TooFewClauses p))) all
+  clauses_read k [] p n from_one count are = search rules
   clauses_read k (c ∷ cs) p n from_one count are =
       let r = both (list_all (is_literal h.vars) c) (list_all (list_all (is_literal h.vars)) cs) are in
       let missing : nat_le h.clauses k ≡ false = grind (arith, nat_tests) in

@@ -1,7 +1,7 @@
 -- Tokens as the words of lines, where places don't matter, and how words are spelled.
 use Rattle.std.proofs.Common.{◌≡◌, ◌⊎◌, inl, inr, ℕ, ◌+◌, ◌*◌, ◌/◌, ◌%◌, ◌==◌, ◌≤◌, nat_le, cond}
 use Rattle.std.proofs.Common.{Bool, true, false, List, [], ◌∷◌, ◌++◌, Option, None, Some, refl, sym}
-use Rattle.std.proofs.Common.{ap, subst, ◌∙◌, arith}
+use Rattle.std.proofs.Common.{ap, subst, ◌∙◌, arith, rules}
 use Rattle.std.specs.Prelude.{◌&&◌, codes}
 use Rattle.std.specs.Bool.{then_some}
 use Rattle.std.specs.Fmt.{decimal}
@@ -34,8 +34,7 @@ and_so (Some x) next = next x
 
 pub went_on : {A B : Type 0} (o : Option A) (next : A → Option B) (y : B) → and_so o next ≡ Some y
     → (x : A) × (o ≡ Some x) × (next x ≡ Some y)
-went_on None next y e = absurd (let bad : None ≡ Some y = e in cc)
-went_on (Some x) next y e = (x, refl, e)
+went_on o next y h = search rules
 
 pub some_parts : {A B : Type 0} (x y : A × B) → Some x ≡ Some y → (x.0 ≡ y.0) × (x.1 ≡ y.1)
 some_parts x y e = let same : x ≡ y = cc in (ap (λ p. p.0) same, ap (λ p. p.1) same)
@@ -65,9 +64,7 @@ AreSaid (t ∷ ts) [] = ⊥
 AreSaid (t ∷ ts) (s ∷ ss) = IsSaid t.0 s × AreSaid ts ss
 
 token_said : (t : tokens.Token) → is_inside t ≡ true → IsSaid t (said t)
-token_said (token.Word p w) h = refl
-token_said (token.LineEnd p) h = tt
-token_said (token.End p) h = absurd (let bad : false ≡ true = h in cc)
+token_said t h = search rules
 
 module _ (later : List (Option Word)) (ended : AreSaid [] later) where
   tokens_said : (ts : List Listed) → list_all (λ t. is_inside t.0) ts ≡ true
@@ -84,8 +81,7 @@ line_then_is (w ∷ ws) later = ap (λ t. Some (word_of w) ∷ t) (line_then_is 
 
 said_by_is : (lines : Lines) → flat_map line_said lines ≡ said_by lines
 said_by_is [] = refl
-said_by_is (line ∷ lines) = ap (λ t. line_said line ++ t) (said_by_is lines)
-    ∙ line_then_is line (said_by lines)
+said_by_is (line ∷ lines) = search (rules, line_said, line_then_is, (said_by_is lines))
 
 -- the tokens of a text are the words of its lines
 pub text_lines : (bytes : List ℕ)
@@ -120,19 +116,10 @@ pub record IsLiteralNumber (w : List ℕ) (n : Number) (l : Literal) : Type 0 wh
   pub some : 1 ≤ n.size
   pub within : n.size ≤ 268435455
 
-some_within : (n : ℕ) (a b : Bool) (x l : ℕ) → then_some (a && b) x ≡ Some l
-    → (a ≡ true) × (b ≡ true) × (x ≡ l)
-some_within n true true x l e = (refl, refl, cc)
-some_within n true false x l e = absurd (let bad : None ≡ Some l = e in cc)
-some_within n false b x l e = absurd (let bad : None ≡ Some l = e in cc)
-
 -- what is known of a number within the limits of a literal's
 limited : (n x l : ℕ) → then_some (nat_le 1 n && nat_le n 268435455) x ≡ Some l
     → (1 ≤ n) × (n ≤ 268435455) × (x ≡ l)
-limited n x l e =
-    let r = some_within n (nat_le 1 n) (nat_le n 268435455) x l e in
-    let low : 1 ≤ n = let a = r.0 in grind (arith, nat_tests) in
-    let high : n ≤ 268435455 = let a = r.1 in grind (arith, nat_tests) in (low, high, r.2)
+limited n x l e = search rules
 
 pub literal_spelled : (w : List ℕ) (n : Number) (l : Literal) → word_of w ≡ words.Number n
     → number_literal n ≡ Some l

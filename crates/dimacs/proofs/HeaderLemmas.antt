@@ -1,6 +1,6 @@
 -- A header's parts, one after another.
-use Rattle.std.proofs.Common.{◌≡◌, ℕ, cond, Bool, true, false, List, [], ◌∷◌, refl, sym, ap, subst}
-use Rattle.std.proofs.Common.{◌∙◌}
+use Rattle.std.proofs.Common.{◌≡◌, ℕ, cond, Bool, List, [], ◌∷◌, refl, sym, ap, subst}
+use Rattle.std.proofs.Common.{◌∙◌, rules}
 use Rattle.std.specs.Prelude.{if◌then◌else◌, Result, Ok, Err}
 use Rattle.cnf_base.specs.Stream.{Suffix, Stream, Along}
 use Rattle.cnf_base.specs.Text.{Listed, Listing, listing_at, Gives}
@@ -21,7 +21,7 @@ use Rattle.dimacs.specs.Formula.{header_of, formula_with, formula_at, ends_with,
 use Rattle.dimacs.specs.Reading.{PassesNoEnd, unopened}
 use Rattle.dimacs.specs.Code.Reading.{GivesHeader, GivesPart}
 use Rattle.dimacs.specs.declared.header.Header.{Header}
-use Rattle.dimacs.proofs.OffsetLemmas.{AreFrom, from-none, from-clause}
+use Rattle.dimacs.proofs.OffsetLemmas.{AreFrom}
 
 -- ---- No token's end was passed
 
@@ -32,8 +32,7 @@ drop_line_ends-from n ((token.Word p w, offset) ∷ ts) ends = ends
 drop_line_ends-from n ((token.End p, offset) ∷ ts) ends = ends
 
 first_end-from : (n : ℕ) (ts : List Listed) → EndFrom n ts → AreFrom n (first_end ts)
-first_end-from n [] ends = from-none n
-first_end-from n (t ∷ ts) ends = from-clause n t.1 [] ends.0 (from-none n)
+first_end-from n ts h = search rules
 
 -- where a token was given, the first one after blank lines isn't passed
 blank_passed : (result : Result Token Cut) (before : Listing) (p : Place) (rest : Suffix) → Gives result before (listing_at p rest) rest
@@ -55,7 +54,7 @@ before_count l = l
 -- the word, or the fault, makes the part
 pub Part-map : {A B : Type 0} (old new : Stream) (start : Listing → Listing) (test result : Listing → Result A Fault) (next : A → Result B Fault) (answer : Listing → Result B Fault)
     → Part old new start test result → ((l : Listing) → and_then (result l) next ≡ answer l) → Part old new start (λ l. and_then (test l) next) answer
-Part-map old new start test result next answer run is = Along-map old new _ _ run (λ i j m p. (ap (λ r. and_then r next) p.0 ∙ is (listing_at new.place j), p.1))
+Part-map old new start test result next answer run is = search rules
 
 -- what a word means where another has to stand, or a number
 abbrev pub fixed_word : (Word → Bool) → Place × Word × Listing → Result Listing Fault
@@ -66,8 +65,7 @@ counted_word limit w = and_then (count_of limit w.0 w.1) (λ n. Ok (n, w.2))
 
 pub fixed_told : (b : Bool) (p : Place) (l : Listing)
     → cond b (Ok l) (Err (Text BadHeader p)) ≡ and_then (cond b (Ok tt) (Err (Text BadHeader p))) (λ (u : Unit {0}). Ok l)
-fixed_told true p l = refl
-fixed_told false p l = refl
+fixed_told b p l = search rules
 
 -- ---- The parts in turn
 

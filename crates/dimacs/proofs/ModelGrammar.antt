@@ -1,13 +1,14 @@
 -- A solver's output, as the grammar of a claimed model has it.
 use Rattle.std.proofs.Common.{◌≡◌, ℕ, ◌≤◌, ◌==◌, nat_le, cond, Bool, true, false, List, [], ◌∷◌}
 use Rattle.std.proofs.Common.{◌++◌, map, reverse, Option, None, Some, Result, Ok, Err, refl, sym}
-use Rattle.std.proofs.Common.{ap, ap₂, subst, ◌∙◌, append_assoc, arith, inl, inr, ◌⊎◌}
+use Rattle.std.proofs.Common.{ap, ap₂, subst, ◌∙◌, append_assoc, arith, inl, inr, ◌⊎◌, rules}
 use Rattle.std.specs.Prelude.{◌&&◌, if◌then◌else◌, codes}
 use Rattle.std.specs.List.{list_all}
 use Rattle.std.proofs.lemmas.Bool.{true≢false}
 use Rattle.std.proofs.lemmas.Bool.Decides.{nat_tests}
 use Rattle.std.proofs.lemmas.List.{reverse-append, reverse-reverse}
 use Rattle.std.proofs.lemmas.List.Sorted.{IsPermutation-reverse, list_any-IsPermutation}
+use Rattle.std.proofs.lemmas.Grind.{common_steps}
 use Rattle.cnf_base.specs.Grammar.{word_lines}
 use Rattle.cnf_base.specs.Literals.{Literal, complement, has, variable}
 use Rattle.cnf_base.specs.Printing.{input_of, is_literal, literal_words}
@@ -15,8 +16,6 @@ use Rattle.cnf_base.specs.Text.{Listed, Listing, listing_of}
 use Rattle.cnf_base.specs.Words.{number_literal, word_of}
 use Rattle.cnf_base.specs.declared.fault.Fault.{Fault}
 use Rattle.cnf_base.specs.declared.fault.TextFault.{TextFault}
-use Rattle.cnf_base.specs.declared.fault.TextFault.TheVariants.{AfterEnd, Complement}
-use Rattle.cnf_base.specs.declared.fault.TextFault.TheVariants.{LiteralTooLarge}
 use Rattle.cnf_base.specs.declared.input.Ending.TheVariants.{End}
 use Rattle.cnf_base.specs.declared.place.Place.{Place}
 use Rattle.cnf_base.specs.declared.word.Word.{Word}
@@ -29,7 +28,7 @@ use Rattle.cnf_base.proofs.PrintLemmas.{both, literal_word, literal_taken}
 use Rattle.cnf_base.proofs.SetLemmas.{has_tail}
 use Rattle.dimacs.specs.Formula.{and_then}
 use Rattle.dimacs.specs.Claim.{LinePosition, at_line_start, after_s, after_status, in_values, Said}
-use Rattle.dimacs.specs.Claim.{on_first, on_status, on_literal, on_value, claim_on_word}
+use Rattle.dimacs.specs.Claim.{on_status, on_value, claim_on_word}
 use Rattle.dimacs.specs.Claim.{on_line_end, claim_at_end, placed, claim_on_token, on_end}
 use Rattle.dimacs.specs.Claim.{claim_among, claim_of, IsConsistent}
 use Rattle.dimacs.specs.Grammar.{filled_lines, all_words, ModelText, ModelIsGrammar}
@@ -59,34 +58,17 @@ at position has_status is_ended ls =
 placed_then : {A : Type 0} (q : Place) (r : Result Said TextFault) (f : Said → Result A Fault)
     (g : Said → Option A)
     → ((s : Said) → known (f s) ≡ g s) → known (and_then (placed q r) f) ≡ and_so (known r) g
-placed_then q (Ok s) f g same = same s
-placed_then q (Err e) f g same = refl
-
-placed_known : {A : Type 0} (q : Place) (r : Result A TextFault) → known (placed q r) ≡ known r
-placed_known q (Ok x) = refl
-placed_known q (Err e) = refl
+placed_then q r f g h = search rules
 
 module _ (p : Place) where
   end_said : (s : Said) → known (on_end s p End) ≡ and_so (known (on_line_end s))
       (λ s. known (claim_at_end s))
-  end_said s =
-      placed_then p (on_line_end s) (λ s. placed p (claim_at_end s)) (λ s. known (claim_at_end s))
-      (λ s. placed_known p (claim_at_end s))
-
-  -- a line that is ended may be ended again
-  ends_again : (q : LinePosition) (h e : Bool) (ls : List Literal)
-      → and_so (known (on_line_end (at q h e ls))) (λ s. known (claim_at_end s))
-      ≡ claim_says (at q h e ls) (None ∷ [])
-  ends_again at_line_start h e ls = refl
-  ends_again after_s h e ls = refl
-  ends_again after_status h e ls = refl
-  ends_again in_values h e ls = refl
+  end_said s = search rules
 
   among_said : (ts : List Listed) (ss : List (Option Word)) (s : Said) → AreSaid ts ss
       → known (claim_among s ts p End) ≡ claim_says s ss
   among_said [] [] s is = end_said s
-  among_said [] (None ∷ []) s is = end_said s
-      ∙ ends_again s.position s.has_status s.is_ended s.listed
+  among_said [] (None ∷ []) s is = search rules
   among_said [] (None ∷ x ∷ ss) s is = absurd is
   among_said [] (Some w ∷ ss) s is = absurd is
   among_said (t ∷ ts) [] s is = absurd is
@@ -162,23 +144,7 @@ module _ (h : Bool) where
   value_said : {A : Type 0} (e : Bool) (ls : List Literal) (w : Word) (f : Said → Option A)
       → and_so (known (on_value (at in_values h e ls) w)) f
       ≡ and_so (value_in e ls w) (λ x. f (at in_values h x.0 x.1))
-  value_said {A} e ls (words.Number n) f = by (nat_le n.size 268435455) e (number_literal n)
-    where
-      listed : (l : Literal) (v : Bool)
-          → and_so (known (cond v (Err Complement) (Ok (at in_values h false (l ∷ ls))))) f
-          ≡ and_so (more_listed v ls l) (λ x. f (at in_values h x.0 x.1))
-      listed l true = refl
-      listed l false = refl
-
-      by : (v e : Bool) (o : Option Literal)
-          → and_so (known (cond v (cond e (Err AfterEnd) (on_literal (at in_values h e ls) o))
-          (Err LiteralTooLarge))) f
-          ≡ and_so (cond v (cond e None (literal_in ls o)) None) (λ x. f (at in_values h x.0 x.1))
-      by false e o = refl
-      by true true o = refl
-      by true false None = refl
-      by true false (Some l) = listed l (has ls (complement l))
-  value_said e ls _ f = refl
+  value_said e ls w f = search rules
 
   values_said : (ws : List (List ℕ)) (e : Bool) (ls : List Literal) (later : List (Option Word))
       → claim_says (at in_values h e ls) (line_then ws later)
@@ -217,31 +183,13 @@ line_read : (h e : Bool) (ls : List Literal) (w : List ℕ) (ws : List (List ℕ
     (r : List Literal)
     → claim_says (at at_line_start h e ls) (said_by ((w ∷ ws) ∷ lines)) ≡ Some r
     → IsValueLine h e ls w ws lines r ⊎ IsStatusLine h e ls w ws lines r
-line_read h e ls w ws lines r is = by (word_of w) refl is
-  where
-    status : (h : Bool) → word_of w ≡ words.S
-        → and_so (known (on_first (at at_line_start h e ls) words.S))
-        (λ s. claim_says s (line_then ws (said_by lines))) ≡ Some r
-        → IsStatusLine h e ls w ws lines r
-    status true v is = absurd (let bad : None ≡ Some r = is in cc)
-    status false v is = record { none_yet = refl; first = s_spelled w v; later = is }
-
-    by : (v : Word) → word_of w ≡ v
-        → and_so (known (on_first (at at_line_start h e ls) v))
-        (λ s. claim_says s (line_then ws (said_by lines))) ≡ Some r
-        → IsValueLine h e ls w ws lines r ⊎ IsStatusLine h e ls w ws lines r
-    by words.V v is =
-        let x = went_on (values_in e ls ws) (λ x. claim_says (at at_line_start h x.0 x.1) (said_by lines)) r
-        (sym (values_said h ws e ls (said_by lines)) ∙ is) in
-        inl (record { first = v_spelled w v; ended = x.0.0; listed = x.0.1; line = x.1; later = x.2 })
-    by words.S v is = inr (status h v is)
-    by _ v is = absurd (let bad : None ≡ Some r = is in cc)
+line_read h e ls w ws lines r is =
+    search (rules, and_so, line_then, said_by, s_spelled, went_on, values_said, v_spelled)
 
 values_before : (e : Bool) (ls : List Literal) (ws us : List (List ℕ)) (x : HeardSo) (r : HeardSo)
     → values_in e ls ws ≡ Some x → values_in x.0 x.1 us ≡ Some r
     → values_in e ls (ws ++ us) ≡ Some r
-values_before e ls ws us x r first second =
-    values_append ws us e ls ∙ ap (λ o. and_so o (λ x. values_in x.0 x.1 us)) first ∙ second
+values_before e ls ws us x r first second = search (rules, values_append, and_so)
 
 -- ---- Lines after the status line
 
@@ -252,13 +200,9 @@ record IsRest (lines : Lines) (e : Bool) (ls r : List Literal) : Type 0 where
 
 rest_read : (lines : Lines) (e : Bool) (ls r : List Literal)
     → claim_says (at at_line_start true e ls) (said_by lines) ≡ Some r → IsRest lines e ls r
-rest_read [] true ls r is =
-    let same : ls ≡ r = cc in
-    record { after = []; lines_are = refl; values = ap (λ r. Some (true, r)) same }
+rest_read [] true ls r is = search rules
 rest_read [] false ls r is = absurd (let bad : None ≡ Some r = is in cc)
-rest_read ([] ∷ lines) e ls r is =
-    let x = rest_read lines e ls r is in
-    record { after = x.after; lines_are = x.lines_are; values = x.values }
+rest_read ([] ∷ lines) e ls r is = search (rules, (rest_read lines e ls r is))
 rest_read ((w ∷ ws) ∷ lines) e ls r is = elim (line_read true e ls w ws lines r is) [
   | inl x ↦
       let y = rest_read lines x.ended x.listed r x.later in
@@ -273,14 +217,10 @@ rest_read ((w ∷ ws) ∷ lines) e ls r is = elim (line_read true e ls w ws line
 rest_taken : (lines after : Lines) (e : Bool) (ls r : List Literal)
     → filled_lines lines ≡ map value_words after → values_in e ls (all_words after) ≡ Some (true, r)
     → claim_says (at at_line_start true e ls) (said_by lines) ≡ Some r
-rest_taken [] [] e ls r is values =
-    let given = some_parts (e, ls) (true, r) values in
-    ap₂ (λ e ls. claim_says (at at_line_start true e ls) []) given.0 given.1
-rest_taken [] (a ∷ after) e ls r is values =
-    absurd (let bad : [] ≡ value_words a ∷ map value_words after = is in cc)
+rest_taken [] [] e ls r is values = search rules
+rest_taken [] (a ∷ after) e ls r is values = cc
 rest_taken ([] ∷ lines) after e ls r is values = rest_taken lines after e ls r is values
-rest_taken ((w ∷ ws) ∷ lines) [] e ls r is values =
-    absurd (let bad : (w ∷ ws) ∷ filled_lines lines ≡ [] = is in cc)
+rest_taken ((w ∷ ws) ∷ lines) [] e ls r is values = cc
 rest_taken ((w ∷ ws) ∷ lines) (a ∷ after) e ls r is values =
     let first : w ∷ ws ≡ value_words a = cc in
     let later : filled_lines lines ≡ map value_words after = cc in
@@ -331,9 +271,7 @@ record IsOutput (lines : Lines) (e : Bool) (ls r : List Literal) : Type 0 where
 lines_read : (lines : Lines) (e : Bool) (ls r : List Literal)
     → claim_says (at at_line_start false e ls) (said_by lines) ≡ Some r → IsOutput lines e ls r
 lines_read [] e ls r is = absurd (let bad : None ≡ Some r = is in cc)
-lines_read ([] ∷ lines) e ls r is =
-    let x = lines_read lines e ls r is in
-    record { before = x.before; after = x.after; lines_are = x.lines_are; values = x.values }
+lines_read ([] ∷ lines) e ls r is = search (rules, (lines_read lines e ls r is))
 lines_read ((w ∷ ws) ∷ lines) e ls r is = elim (line_read false e ls w ws lines r is) [
   | inl x ↦
       let y = lines_read lines x.ended x.listed r x.later in
@@ -359,19 +297,12 @@ lines_taken : (lines before after : Lines) (e : Bool) (ls r : List Literal)
     → filled_lines lines ≡ map value_words before ++ status_words ∷ map value_words after
     → values_in e ls (all_words (before ++ after)) ≡ Some (true, r)
     → claim_says (at at_line_start false e ls) (said_by lines) ≡ Some r
-lines_taken [] [] after e ls r is values =
-    absurd (let bad : [] ≡ status_words ∷ map value_words after = is in cc)
-lines_taken [] (b ∷ before) after e ls r is values =
-    absurd (let bad : []
-    ≡ value_words b ∷ (map value_words before ++ status_words ∷ map value_words after) =
-    is in cc)
+lines_taken [] [] after e ls r is values = cc
+lines_taken [] (b ∷ before) after e ls r is values = cc
 lines_taken ([] ∷ lines) before after e ls r is values =
     lines_taken lines before after e ls r is values
 lines_taken ((w ∷ ws) ∷ lines) [] after e ls r is values =
-    let first : w ∷ ws ≡ status_words = cc in
-    let later : filled_lines lines ≡ map value_words after = cc in
-    ap (λ line. claim_says (at at_line_start false e ls) (line_then line (said_by lines))) first
-    ∙ rest_taken lines after e ls r later values
+    search (rules, line_then, said_by, rest_taken)
 lines_taken ((w ∷ ws) ∷ lines) (b ∷ before) after e ls r is values =
     let first : w ∷ ws ≡ value_words b = cc in
     let later : filled_lines lines ≡ map value_words before ++ status_words ∷ map value_words
@@ -393,16 +324,7 @@ none_given x e = cc
 ended_values : (ws : List (List ℕ)) (ls r : List Literal) → values_in true ls ws ≡ Some (true, r)
     → (ws ≡ []) × (ls ≡ r)
 ended_values [] ls r is = (refl, (some_parts (true, ls) (true, r) is).1)
-ended_values (w ∷ ws) ls r is = absurd (by (word_of w) is)
-  where
-    by : (v : Word) → and_so (value_in true ls v) (λ x. values_in x.0 x.1 ws) ≡ Some (true, r) → ⊥
-    by (words.Number n) is = number (nat_le n.size 268435455) is
-      where
-        number : (b : Bool) → and_so {A = HeardSo} (cond b None None) (λ x. values_in x.0 x.1 ws)
-            ≡ Some (true, r) → ⊥
-        number true is = none_given (true, r) is
-        number false is = none_given (true, r) is
-    by _ is = none_given (true, r) is
+ended_values (w ∷ ws) ls r is = search rules
 
 record AreLiterals (acc : List Literal) (ws : List (List ℕ)) (r : List Literal) : Type 0 where
   pub literals : List Literal
@@ -413,13 +335,11 @@ record AreLiterals (acc : List Literal) (ws : List (List ℕ)) (r : List Literal
 
 reverse_cons : (l : Literal) (ls acc : List Literal)
     → reverse ls ++ l ∷ acc ≡ reverse (l ∷ ls) ++ acc
-reverse_cons l ls acc =
-    sym (ap (λ t. t ++ acc) (reverse-append (l ∷ []) ls) ∙ append_assoc (reverse ls) (l ∷ []) acc)
+reverse_cons l ls acc = grind (arith, common_steps, nat_tests, reverse-append, append_assoc)
 
 values_spelled : (ws : List (List ℕ)) (acc r : List Literal) → IsConsistent acc
     → values_in false acc ws ≡ Some (true, r) → AreLiterals acc ws r
-values_spelled [] acc r ok is =
-    absurd (let bad : false ≡ true = (some_parts (false, acc) (true, r) is).0 in cc)
+values_spelled [] acc r ok is = search rules
 values_spelled (w ∷ ws) acc r ok is = by (word_of w) refl is (λ l. values_spelled ws (l ∷ acc) r)
   where
     by : (v : Word) → word_of w ≡ v → and_so (value_in false acc v) (λ x. values_in x.0 x.1 ws)
@@ -491,12 +411,10 @@ has_reverse ls l =
     sym (list_any-IsPermutation (λ k. k == l) ls (reverse ls) (IsPermutation-reverse ls))
 
 consistent_reverse : (ls : List Literal) → IsConsistent (reverse ls) → IsConsistent ls
-consistent_reverse ls ok l h =
-    sym (has_reverse ls (complement l)) ∙ ok l (has_reverse ls l ∙ h)
+consistent_reverse ls ok l h = search (rules, has_reverse)
 
 known_is : {A E : Type 0} (r : Result A E) (x : A) → known r ≡ Some x → r ≡ Ok x
-known_is (Ok y) x e = let same : y ≡ x = cc in ap Ok same
-known_is (Err f) x e = absurd (let bad : None ≡ Some x = e in cc)
+known_is r x h = search rules
 
 model_is_written : (bytes : List ℕ) (literals : List Literal)
     → claim_of (input_of bytes) ≡ Ok (reverse literals)

@@ -1,7 +1,7 @@
 -- A model that was printed, as it is read.
-use Rattle.std.proofs.Common.{◌≡◌, ℕ, suc, ◌+◌, ◌<◌, ◌==◌, ◌||◌, cond, Bool, true, false, List, []}
+use Rattle.std.proofs.Common.{◌≡◌, ℕ, suc, ◌+◌, ◌<◌, cond, true, false, List, []}
 use Rattle.std.proofs.Common.{◌∷◌, ◌++◌, length, reverse, map, Result, Ok, Err, refl, sym, ap, ◌∙◌}
-use Rattle.std.proofs.Common.{append_assoc, arith}
+use Rattle.std.proofs.Common.{append_assoc, arith, rules}
 use Rattle.std.specs.Prelude.{codes}
 use Rattle.std.specs.List.{concat, flat_map, list_all}
 use Rattle.std.proofs.lemmas.List.{append-nil, reverse-append}
@@ -21,7 +21,7 @@ use Rattle.cnf_base.specs.declared.word.Word.{Word}
 use Rattle.cnf_base.specs.declared.word.Word.TheVariants as words
 use Rattle.cnf_base.specs.declared.token.Token.TheVariants as token
 use Rattle.cnf_base.proofs.LineLemmas.{append_nil}
-use Rattle.cnf_base.proofs.SetLemmas.{has_head, has_tail, has_append_left, has_append_right}
+use Rattle.cnf_base.proofs.SetLemmas.{has_tail, has_append_left, has_append_right}
 use Rattle.cnf_base.proofs.TextLemmas.{listing_at-end}
 use Rattle.cnf_base.proofs.PrintLemmas.{line_from, along_from_one, past, past_from_one, Begins}
 use Rattle.cnf_base.proofs.PrintLemmas.{next_word, next_line, first_word, both, fixed_plain}
@@ -86,23 +86,12 @@ module _ (whole : List Literal) (consistent : IsConsistent whole) where
   -- the first of these literals doesn't contradict others of the list
   pub no_complement : (acc ls : List Literal) (l : Literal) → AreAmong acc whole → AreAmong (l ∷ ls) whole
       → has acc (complement l) ≡ false
-  no_complement acc ls l before after =
-      by (has acc (complement l)) refl (before (complement l)) (consistent l (after l (has_head l ls)))
-    where
-      by : (v : Bool) → has acc (complement l) ≡ v → (has acc (complement l) ≡ true → has whole (complement l) ≡ true)
-          → has whole (complement l) ≡ false → has acc (complement l) ≡ false
-      by true e bad none = absurd (let clash : true ≡ false = sym (bad e) ∙ none in cc)
-      by false e bad none = e
+  no_complement acc ls l before after = search rules
 
   -- one more literal
   pub among_more : (acc ls : List Literal) (l : Literal) → AreAmong acc whole → AreAmong (l ∷ ls) whole
       → AreAmong (l ∷ acc) whole
-  among_more acc ls l before after k h = by (l == k) refl (before k) (after k)
-    where
-      by : (v : Bool) → (l == k) ≡ v → (has acc k ≡ true → has whole k ≡ true)
-          → (has (l ∷ ls) k ≡ true → has whole k ≡ true) → has whole k ≡ true
-      by true e b a = a (ap (λ v. v || has ls k) e)
-      by false e b a = b (sym (ap (λ v. v || has acc k) e) ∙ h)
+  among_more acc ls l before after k h = search rules
 
   -- literals of a line, after those that were listed, and what follows them
   values_read : (ls acc : List Literal) (ws : List (List ℕ)) (rest : List ℕ) (result : Result (List Literal) Fault)
@@ -111,7 +100,7 @@ module _ (whole : List Literal) (consistent : IsConsistent whole) where
       → ((now : List Literal) → now ≡ reverse ls ++ acc → AreAmong now whole → (q : Place) (m : ℕ) → 0 < q.col
       → claim_after (said_in_line now) (line_from q m ws rest) ≡ result)
       → claim_after (said_in_line acc) (line_from p n (map literal_text ls ++ ws) rest) ≡ result
-  values_read [] acc ws rest result p n from_one are before after later = later acc refl before p n from_one
+  values_read [] acc ws rest result p n from_one are before after later = search rules
   values_read (l ∷ ls) acc ws rest result p n from_one are before after later =
       let r = both (is_literal 268435455 l) (list_all (is_literal 268435455) ls) are in
       takes_value acc l (next_word p n (literal_text l) (map literal_text ls ++ ws) rest from_one
