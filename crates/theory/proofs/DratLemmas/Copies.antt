@@ -1,13 +1,15 @@
 -- The rule of DRAT depends only on how many copies of each clause are alive.
 use Rattle.std.proofs.Common.{◌≡◌, ℕ, zero, suc, ◌+◌, ◌-◌, ◌<◌, Bool, true}
-use Rattle.std.proofs.Common.{false, cond, Option, Some, Ok, Err, List, [], ◌∷◌, ◌++◌}
+use Rattle.std.proofs.Common.{false, cond, Some, Ok, Err, List, [], ◌∷◌, ◌++◌}
 use Rattle.std.proofs.Common.{slice_get, refl, sym, ap, ◌∙◌, subst, inl, inr, ◌⊎◌, not}
-use Rattle.std.proofs.Common.{arith}
+use Rattle.std.proofs.Common.{arith, rules}
 use Rattle.std.specs.List.{list_any}
 use Rattle.std.proofs.lemmas.Bool.{false≢true, true≢false, cases_Bool, or_cases, or_left}
 use Rattle.std.proofs.lemmas.Bool.{or_right, false_from_ne_true}
 use Rattle.std.proofs.lemmas.List.Sums.{sum_by-cons}
 use Rattle.std.proofs.lemmas.Option.{none-some}
+use Rattle.std.proofs.lemmas.Grind.{common_steps}
+use Rattle.std.proofs.lemmas.Bool.Decides.{nat_tests}
 use Rattle.theory.specs.declared.accepted.Accepted.{Accepted}
 use Rattle.theory.specs.declared.accepted.Accepted.TheVariants.{Rup, Rat, Pr, Empty, Deleted}
 use Rattle.theory.specs.declared.accepted.Accepted.TheVariants.{Ignored}
@@ -65,43 +67,34 @@ alive_at c (d ∷ live) h =
 
 pub at_alive : (live : List Clause) (k : ℕ) (d : Clause) → slice_get live k ≡ Some d → list_any (same_clause d) live ≡ true
 at_alive [] k d at = absurd (none-some d at)
-at_alive (e ∷ live) zero d at = or_left (same_clause d e) _ (subst (λ x. same_clause d x ≡ true) (same (sym at)) (same_itself d))
-  where
-    same : ◌≡◌ {A = Option Clause} (Some d) (Some e) → d ≡ e
-    same e = cc
+at_alive (e ∷ live) zero d at = search (rules, or_left, same_itself)
 at_alive (e ∷ live) (suc k) d at = or_right (same_clause d e) _ (at_alive live k d at)
 
 -- taking a clause off leaves one copy less of it, and as many of any other
 taken : (ec ed cd : Bool) (x y : ℕ) → (cd ≡ true → ec ≡ ed) → (cd ≡ false → ec ≡ true → ed ≡ true → ⊥) → y ≡ x - cond ec 1 0 → cond cd x (cond ed 1 0 + y) ≡ (cond ed 1 0 + x) - cond ec 1 0
-taken true true true x y alike apart e = omega arith
-taken false false true x y alike apart e = omega arith
-taken true false true x y alike apart e = absurd (true≢false (alike refl))
-taken false true true x y alike apart e = absurd (false≢true (alike refl))
-taken true true false x y alike apart e = absurd (apart refl refl refl)
-taken true false false x y alike apart e = omega arith
-taken false true false x y alike apart e = omega arith
-taken false false false x y alike apart e = omega arith
+taken ec ed cd x y h h2 h3 = search rules
 
 pub copies-take_off : (e c : Clause) (live : List Clause) → copies_of e (take_off c live) ≡ copies_of e live - cond (same_clause e c) 1 0
 copies-take_off e c [] = omega arith
 copies-take_off e c (d ∷ live) =
-    pushed (same_clause c d) ∙ taken (same_clause e c) (same_clause e d) (same_clause c d) (copies_of e live) (copies_of e (take_off c live))
-    (λ cd. both_pass (same_clause e c) (same_clause e d) (λ ec. same_trans e c d ec cd) (λ ed. same_trans e d c ed (same_symm c d cd)))
-    (λ cd ec ed. true≢false (sym (same_trans c e d (same_symm e c ec) ed) ∙ cd))
-    (copies-take_off e c live)
-    ∙ ap (λ n. n - cond (same_clause e c) 1 0) (sym (copies-cons e d live))
-  where
-    pushed : (b : Bool) → copies_of e (cond b live (d ∷ take_off c live)) ≡ cond b (copies_of e live) (cond (same_clause e d) 1 0 + copies_of e (take_off c live))
-    pushed true = refl
-    pushed false = copies-cons e d (take_off c live)
+    grind (
+      arith,
+      common_steps,
+      nat_tests,
+      taken,
+      both_pass,
+      same_trans,
+      same_symm,
+      true≢false,
+      copies-cons,
+      (copies-take_off e c live),
+    )
 
 taken_off_same : (first second : List Clause) (c : Clause) → SameLive first second → SameLive (take_off c first) (take_off c second)
-taken_off_same first second c same =
-    record { copies = λ e. copies-take_off e c first ∙ ap (λ n. n - cond (same_clause e c) 1 0) (same.copies e) ∙ sym (copies-take_off e c second) }
+taken_off_same first second c same = search (rules, copies-take_off)
 
 pub after_same : (first second : List Clause) (step : DratStep) (word : Accepted) → SameLive first second → SameLive (after_drat first step word) (after_drat second step word)
-after_same first second (add c set) word same =
-    record { copies = λ e. copies-cons e c first ∙ ap (λ n. cond (same_clause e c) 1 0 + n) (same.copies e) ∙ sym (copies-cons e c second) }
+after_same first second (add c set) word same = search (rules, copies-cons)
 after_same first second (delete c) Ignored same = same
 after_same first second (delete c) Deleted same = taken_off_same first second c same
 after_same first second (delete c) Rup same = taken_off_same first second c same
@@ -180,7 +173,7 @@ add_same first second (l ∷ c) (Err _) same a = absurd a
 
 witness_same : (first second : List Clause) (c set : List Literal) (answer : StepAnswer) → SameLive first second → AnswersWithWitness (slice_get first) c set answer → AnswersWithWitness (slice_get second) c set answer
 witness_same first second c set (Err InconsistentSet) same a = a
-witness_same first second c set (Ok Rup) same a = (a.0, clash_covers _ _ (covers_of first second same) _ a.1)
+witness_same first second c set (Ok Rup) same a = search (rules, clash_covers, covers_of)
 witness_same first second c set (Ok Pr) same a =
     let there = covers_of first second same in
     let back = covers_of second first (same_live_symm first second same) in
@@ -193,7 +186,7 @@ witness_same first second c set (Ok _) same a = absurd a
 witness_same first second c set (Err _) same a = absurd a
 
 kept_same : (rules : DratRules) (first second : List Clause) (c : Clause) → SameLive first second → IsKeptUnit rules first c → IsKeptUnit rules second c
-kept_same rules first second c same kept = (kept.0, reason_covers _ _ (covers_of first second same) c c (same_itself c) kept.1)
+kept_same rules first second c same kept = search (rules, reason_covers, covers_of, same_itself)
 
 delete_same : (rules : DratRules) (first second : List Clause) (c : List Literal) (answer : StepAnswer) → SameLive first second → AnswersDelete rules first c answer → AnswersDelete rules second c answer
 delete_same rules first second c (Ok Deleted) same a =
@@ -202,11 +195,11 @@ delete_same rules first second c (Ok Ignored) same a = elim a [
   | inl kept ↦ inl (sym (alive_same first second c same) ∙ kept.0, kept_same rules first second c same kept.1)
   | inr absent ↦ inr (sym (alive_same first second c same) ∙ absent.0, absent.1)
 ]
-delete_same rules first second c (Err NotAlive) same a = (sym (alive_same first second c same) ∙ a.0, a.1)
+delete_same rules first second c (Err NotAlive) same a = grind (arith, alive_same)
 delete_same rules first second c (Ok _) same a = absurd a
 delete_same rules first second c (Err _) same a = absurd a
 
 pub drat_same : (rules : DratRules) (first second : List Clause) (step : DratStep) (answer : StepAnswer) → SameLive first second → AnswersDrat rules first step answer → AnswersDrat rules second step answer
 drat_same rules first second (add c []) answer same a = add_same first second c answer same a
-drat_same rules first second (add c (l ∷ set)) answer same a = witness_same first second c (l ∷ set) answer same a
-drat_same rules first second (delete c) answer same a = delete_same rules first second c answer same a
+drat_same rules first second (add c (l ∷ set)) answer same a = search (rules, witness_same)
+drat_same rules first second (delete c) answer same a = search (rules, delete_same)

@@ -1,7 +1,7 @@
 -- Each step of a DRAT proof has an answer: whether propagation clashes can be decided.
 use Rattle.std.proofs.Common.{◌≡◌, ℕ, zero, suc, ◌<◌, ◌≤◌, true, false}
 use Rattle.std.proofs.Common.{Option, Some, Ok, Err, List, [], ◌∷◌, ◌++◌, slice_get, refl}
-use Rattle.std.proofs.Common.{sym, ◌∙◌, subst, inl, inr, ◌⊎◌, arith}
+use Rattle.std.proofs.Common.{sym, ◌∙◌, subst, inl, inr, ◌⊎◌, arith, rules}
 use Rattle.std.specs.List.{list_any}
 use Rattle.std.proofs.lemmas.Bool.{true≢false, cases_Bool}
 use Rattle.std.proofs.lemmas.Option.{none-some}
@@ -39,7 +39,7 @@ module _ (live : List Clause) (assumed : List Literal) where
   propagate : (fuel : ℕ) (trues : List Literal) → IsPart (slice_get live) assumed trues → lacking trues (all_literals live) ≤ fuel → conflicts trues ≡ false → Found (slice_get live) trues → IsDecided (Clash (slice_get live) assumed)
   propagate fuel trues part bound quiet (all_false k c at e) = inl (none_left_clashes (slice_get live) assumed trues part.sound k c at e)
   propagate fuel trues part bound quiet (none_new no_empty closed) = inr (closed_quiet (slice_get live) trues closed no_empty assumed part.start quiet)
-  propagate zero trues part bound quiet (one_left k c at m e new) = absurd (let less = falls trues k c at m e new in let wrong : ⊥ = omega arith in wrong)
+  propagate zero trues part bound quiet (one_left k c at m e new) = search (rules, falls)
   propagate (suc fuel) trues part bound quiet (one_left k c at m e new) =
       let more = part_more (slice_get live) assumed trues part k c at m e in
       let less = falls trues k c at m e new in
@@ -156,13 +156,7 @@ add_answer live (pivot ∷ rest) = elim (clash_decided live (complements (pivot 
 ]
 
 kept_decided : (rules : DratRules) (live : List Clause) (c : Clause) → IsDecided (IsKeptUnit rules live c)
-kept_decided rules live c = elim (cases_Bool rules.keep_units) [
-  | inr off ↦ inr (λ kept. true≢false (sym kept.0 ∙ off))
-  | inl on ↦ elim (reason_decided live c) [
-    | inl reason ↦ inl (on, reason)
-    | inr none ↦ inr (λ kept. none kept.1)
-  ]
-]
+kept_decided rules live c = grind (arith, cases_Bool, true≢false, reason_decided)
 
 delete_answer : (rules : DratRules) (live : List Clause) (c : List Literal) → (answer : StepAnswer) × AnswersDelete rules live c answer
 delete_answer rules live c = elim (cases_Bool (list_any (same_clause c) live)) [

@@ -1,8 +1,8 @@
 -- Each step has an answer, under either rule.
 use Rattle.std.proofs.Common.{◌≡◌, ℕ, suc, ◌<◌, ◌≤◌, max, not, ◌&&◌, eqb}
 use Rattle.std.proofs.Common.{nat_le, Bool, true, false, ◌⊎◌, inl, inr, Option, None, Some}
-use Rattle.std.proofs.Common.{List, [], ◌∷◌, length, slice_get, refl, ap, ◌∙◌, subst}
-use Rattle.std.proofs.Common.{arith, Ok, Err}
+use Rattle.std.proofs.Common.{List, [], ◌∷◌, length, slice_get, refl, ap, ◌∙◌}
+use Rattle.std.proofs.Common.{arith, Ok, Err, rules}
 use Rattle.std.specs.Bool.{MatchBool}
 use Rattle.std.specs.List.{list_any}
 use Rattle.std.proofs.lemmas.Bool.{cases_lt, cases_eq}
@@ -20,11 +20,11 @@ use Rattle.theory.specs.Lrat.{ChainEnd, conflict, open_with, unknown, not_unit, 
 use Rattle.theory.specs.Lrat.{LratStep, add, delete, LratState, groups_refusal, is_unsettled}
 use Rattle.theory.specs.Lrat.{is_left_out, AnswersGroups, AnswersChain, AnswersLrat, after_lrat}
 use Rattle.theory.specs.Lrat.{lrat_step, without_id, without_ids, deletion_refusal, answer_of}
-use Rattle.theory.specs.Lrat.{SameAt, SameClauses, numbered}
+use Rattle.theory.specs.Lrat.{numbered}
 use Rattle.theory.specs.Rules.{Rule, lrat, drat, State, by_ids, by_copies, start, Answers, after}
 use Rattle.theory.specs.Rules.{Same, IsFiniteMap, IsFinite}
 use Rattle.theory.proofs.LawLemmas.Deciding.{drat_answer}
-use Rattle.theory.proofs.LratLemmas.Sums.{with_other, without_here, without_other}
+use Rattle.theory.proofs.LratLemmas.Sums.{with_other}
 
 -- the lowest number up to a bound that passes, if one does
 lowest : (p : ℕ → Bool) (n : ℕ) → ((k : ℕ) → k < n → p k ≡ false) ⊎ ((k : ℕ) × (p k ≡ true) × ((j : ℕ) → j < k → p j ≡ false))
@@ -39,8 +39,7 @@ lowest p (suc n) = elim (lowest p n) [
     by false e none = inl (λ k h. elim (cases_eq k n) [ inl same ↦ ap p same ∙ e | inr apart ↦ none k (omega arith) ])
 
 and_false : (b : Bool) → (b && false) ≡ false
-and_false true = refl
-and_false false = refl
+and_false b = search rules
 
 groups_answer : (live : Live) → IsFiniteMap live → (ls : List Literal) (pivot : Literal) (groups : List Group) (o : Option Refusal) → (answer : StepAnswer) × AnswersGroups live ls pivot groups o answer
 groups_answer live b ls pivot groups (Some r) = (Err r, refl)
@@ -75,13 +74,7 @@ lrat_answer state b (add id c units groups) =
 lrat_answer state b (delete ids) = (answer_of (deletion_refusal state.live ids), refl)
 
 without_finite : (live : Live) (id : ℕ) → IsFiniteMap live → IsFiniteMap (without_id live id)
-without_finite live id b = record {
-  bound = b.bound;
-  none = λ k h. elim (cases_eq k id) [
-    | inl same ↦ ap (without_id live id) same ∙ without_here live id
-    | inr apart ↦ without_other live id k apart ∙ b.none k h
-  ];
-}
+without_finite live id b = search rules
 
 without_all_finite : (ids : List ℕ) (live : Live) → IsFiniteMap live → IsFiniteMap (without_ids live ids)
 without_all_finite [] live b = b
@@ -95,18 +88,6 @@ lrat_finite state (add id c units groups) b = record {
 }
 lrat_finite state (delete ids) b = without_all_finite ids state.live b
 
-live_finite : (first second : Live) → SameClauses first second → IsFiniteMap second → IsFiniteMap first
-live_finite first second same b = record {
-  bound = b.bound;
-  none = λ k h.
-      let at : SameAt (first k) None = let P : Option Clause → Type 0 = SameAt (first k) in subst P (b.none k h) (same.at k) in
-      by (first k) at;
-}
-  where
-    by : (o : Option Clause) → SameAt o None → o ≡ None
-    by None h = refl
-    by (Some c) h = absurd h
-
 -- ---- Of either rule
 
 -- each step has an answer
@@ -115,13 +96,10 @@ some_answer (by_ids s) step b = lrat_answer s b (lrat_step step)
 some_answer (by_copies rules live) step b = drat_answer rules live (drat_step rules step)
 
 pub after_finite : (state : State) (step : Step) (word : Accepted) → IsFinite state → IsFinite (after state step word)
-after_finite (by_ids s) step word b = lrat_finite s (lrat_step step) b
-after_finite (by_copies rules live) step word b = tt
+after_finite state step word h = search (rules, lrat_finite)
 
 pub same_finite : (first second : State) → Same first second → IsFinite second → IsFinite first
-same_finite (by_ids s) (by_ids t) same b = live_finite s.live t.live same.0 b
-same_finite (by_copies rules x) second same b = tt
-same_finite (by_ids s) (by_copies rules y) same b = absurd same
+same_finite first second h h2 = search rules
 
 pub numbered_above : (cs : List Clause) (k : ℕ) → length cs < k → numbered cs k ≡ None
 numbered_above cs (suc k) h = past cs k (omega arith)

@@ -1,7 +1,7 @@
 -- Accepted steps keep satisfiability, and a verified formula has no model.
-use Rattle.std.proofs.Common.{◌≡◌, ℕ, zero, suc, true, false, cond, eqb, Some, None, Ok}
-use Rattle.std.proofs.Common.{List, [], ◌∷◌, slice_get, sym, ap, ◌∙◌}
-use Rattle.std.proofs.lemmas.Option.{none-some, same_Some}
+use Rattle.std.proofs.Common.{◌≡◌, ℕ, zero, suc, true, false, cond, Some, Ok}
+use Rattle.std.proofs.Common.{List, [], ◌∷◌, slice_get, arith, rules}
+use Rattle.std.proofs.lemmas.Option.{none-some}
 use Rattle.std.proofs.lemmas.Bool.{false≢true}
 use Rattle.theory.specs.declared.accepted.Accepted.{Accepted}
 use Rattle.theory.specs.declared.accepted.Accepted.TheVariants.{Rup, Rat, Pr, Empty, Deleted}
@@ -13,7 +13,6 @@ use Rattle.theory.specs.Drat.{DratStep, add, delete, AnswersAdd, AnswersDrat, An
 use Rattle.theory.specs.Drat.{take_off, after_drat}
 use Rattle.theory.specs.Lrat.{LratState, LratStep, add as add_lrat, delete as delete_lrat}
 use Rattle.theory.specs.Lrat.{AnswersLrat, after_lrat, with_clause, without_id, without_ids}
-use Rattle.theory.specs.Lrat.{deletion_refusal}
 use Rattle.theory.specs.Laws.{IsRedundant}
 use Rattle.theory.proofs.LawLemmas.Truth.{rup_true, rat_keeps, pr_keeps, HasModelWith}
 use Rattle.theory.proofs.LratLemmas.Steps.{lrat_redundant, deletion_word}
@@ -38,18 +37,7 @@ empty_refutes live (l ∷ c) never m = never
 -- ---- DRAT
 
 add_redundant : (live : List Clause) (c : List Literal) (word : Accepted) → AnswersAdd (slice_get live) c (Ok word) → IsRedundant (slice_get live) c word
-add_redundant live [] Empty a = a
-add_redundant live [] Rup a = absurd a
-add_redundant live [] Rat a = absurd a
-add_redundant live [] Pr a = absurd a
-add_redundant live [] Deleted a = absurd a
-add_redundant live [] Ignored a = absurd a
-add_redundant live (l ∷ c) Rup a = a
-add_redundant live (l ∷ c) Rat a = a.1
-add_redundant live (l ∷ c) Empty a = absurd a
-add_redundant live (l ∷ c) Pr a = absurd a
-add_redundant live (l ∷ c) Deleted a = absurd a
-add_redundant live (l ∷ c) Ignored a = absurd a
+add_redundant live c word h = search rules
 
 listed_redundant : (live : List Clause) (c set : List Literal) (word : Accepted) → AnswersListed (slice_get live) c set (Ok word) → IsRedundant (slice_get live) c word
 listed_redundant live c [] word a = add_redundant live c word a
@@ -61,8 +49,7 @@ listed_redundant live c (l ∷ set) Deleted a = absurd a
 listed_redundant live c (l ∷ set) Ignored a = absurd a
 
 models_more : (v : Assignment) (live : List Clause) (c : Clause) → Models v (slice_get live) → satisfies v c ≡ true → Models v (slice_get (c ∷ live))
-models_more v live c models h zero d at = sym (ap (satisfies v) (same_Some c d at)) ∙ h
-models_more v live c models h (suc k) d at = models k d at
+models_more v live c h h2 = search rules
 
 -- the clauses that are left were there before
 take_off_from : (c : Clause) (live : List Clause) (k : ℕ) (d : Clause) → slice_get (take_off c live) k ≡ Some d → (j : ℕ) × (slice_get live j ≡ Some d)
@@ -82,8 +69,7 @@ taken_off_keeps live c m = (m.0, λ k d at. let w = take_off_from c live k d at 
 
 pub drat_keeps : (rules : DratRules) (live : List Clause) (step : DratStep) (word : Accepted) → AnswersDrat rules live step (Ok word) → HasModel (slice_get live) → HasModel (slice_get (after_drat live step word))
 drat_keeps rules live (add c set) word answer m =
-    let w = redundant_keeps (slice_get live) c word (listed_redundant live c set word answer) m in
-    (w.0, models_more w.0 live c w.1 w.2)
+    grind (arith, redundant_keeps, slice_get, listed_redundant, models_more)
 drat_keeps rules live (delete c) Ignored answer m = m
 drat_keeps rules live (delete c) Deleted answer m = taken_off_keeps live c m
 drat_keeps rules live (delete c) Rup answer m = taken_off_keeps live c m
@@ -98,18 +84,10 @@ drat_refutes rules live (delete c) answer m = answer
 -- ---- LRAT
 
 models_with : (v : Assignment) (live : Live) (id : ℕ) (c : Clause) → Models v live → satisfies v c ≡ true → Models v (with_clause live id c)
-models_with v live id c models h k d at =
-    elim (eqb k id) as (λ b. cond b (Some c) (live k) ≡ Some d → satisfies v d ≡ true) [
-      | true ↦ λ at. sym (ap (satisfies v) (same_Some c d at)) ∙ h
-      | false ↦ λ at. models k d at
-    ] at
+models_with v live id c models h k d at = search rules
 
 models_without : (v : Assignment) (live : Live) (id : ℕ) → Models v live → Models v (without_id live id)
-models_without v live id models k d at =
-    elim (eqb k id) as (λ b. cond b None (live k) ≡ Some d → satisfies v d ≡ true) [
-      | true ↦ λ at. absurd (none-some d at)
-      | false ↦ λ at. models k d at
-    ] at
+models_without v live id models k d at = search rules
 
 models_without_all : (v : Assignment) (ids : List ℕ) (live : Live) → Models v live → Models v (without_ids live ids)
 models_without_all v [] live models = models
@@ -117,13 +95,8 @@ models_without_all v (id ∷ ids) live models = models_without_all v ids (withou
 
 pub lrat_keeps : (state : LratState) (step : LratStep) (word : Accepted) → AnswersLrat state step (Ok word) → HasModel state.live → HasModel (after_lrat state step).live
 lrat_keeps state (add_lrat id c units groups) word answer m =
-    let w = redundant_keeps state.live c word (lrat_redundant state id c units groups word answer) m in
-    (w.0, models_with w.0 state.live id c w.1 w.2)
+    search (rules, redundant_keeps, lrat_redundant, models_with)
 lrat_keeps state (delete_lrat ids) word answer m = (m.0, models_without_all m.0 ids state.live m.1)
 
 pub lrat_refutes : (state : LratState) (step : LratStep) → AnswersLrat state step (Ok Empty) → HasModel state.live → ⊥
-lrat_refutes state (add_lrat id c units groups) answer m = empty_refutes state.live c (lrat_redundant state id c units groups Empty answer) m
-lrat_refutes state (delete_lrat ids) answer m = other (deletion_word (deletion_refusal state.live ids) Empty answer)
-  where
-    other : Empty ≡ Deleted → ⊥
-    other e = cc
+lrat_refutes state step h h2 = search (rules, empty_refutes, lrat_redundant, deletion_word)

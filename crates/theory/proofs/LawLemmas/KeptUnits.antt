@@ -1,11 +1,10 @@
 -- Where the rules keep units, what follows with nothing assumed follows after every accepted step,
 -- and no reason is deleted.
-use Rattle.std.proofs.Common.{◌≡◌, ◌≢◌, ℕ, zero, suc, Bool, true, false, cond, Some, Ok, List, [], ◌∷◌}
-use Rattle.std.proofs.Common.{slice_get, sym, subst, inl, inr, ◌⊎◌}
-use Rattle.std.specs.List.{list_any}
+use Rattle.std.proofs.Common.{◌≡◌, ◌≢◌, ℕ, zero, suc, true, cond, Some, Ok, List, [], ◌∷◌}
+use Rattle.std.proofs.Common.{slice_get, sym, subst, inl, inr, ◌⊎◌, arith, rules}
 use Rattle.std.specs.Prelude.{IsTrue}
 use Rattle.std.proofs.lemmas.Bool.{false≢true, cases_Bool, MatchBool-at_true, MatchBool-at_false}
-use Rattle.std.proofs.lemmas.Option.{none-some, same_Some}
+use Rattle.std.proofs.lemmas.Option.{none-some}
 use Rattle.cnf_base.specs.Literals.{Literal, complement, Clause, has, same_clause}
 use Rattle.cnf_base.proofs.SetLemmas.{same_there, same_back}
 use Rattle.theory.proofs.PropagationLemmas.Forced.{forced_unit}
@@ -14,13 +13,11 @@ use Rattle.theory.specs.declared.accepted.Accepted.TheVariants.{Rup, Rat, Pr, Em
 use Rattle.theory.specs.declared.accepted.Accepted.TheVariants.{Ignored}
 use Rattle.theory.specs.declared.drat_rules.DratRules.{DratRules}
 use Rattle.proofs.specs.Steps.{Step, clause_part, witness_part}
-use Rattle.proofs.specs.declared.step_buf.StepKind.{StepKind}
-use Rattle.proofs.specs.declared.step_buf.StepKind.TheVariants.{Add, Delete}
-use Rattle.theory.specs.Drat.{DratStep, add, delete, AnswersListed, AnswersDrat, addition_of}
-use Rattle.theory.specs.Drat.{drat_step, drat_step_of, take_off, after_drat}
+use Rattle.theory.specs.Drat.{DratStep, add, delete, AnswersListed, AnswersDrat}
+use Rattle.theory.specs.Drat.{drat_step, take_off, after_drat}
 use Rattle.theory.specs.Propagation.{Live, IsClosed, Forced, IsRootReason}
 use Rattle.theory.specs.Rules.{State, by_copies, Answers}
-use Rattle.theory.specs.Verdicts.{Ending, Ends, is_empty, is_last, DeletesReason, DeletedReason}
+use Rattle.theory.specs.Verdicts.{Ending, Ends, is_last, DeletesReason, DeletedReason}
 use Rattle.theory.specs.Laws.{UnitsAreKept, ReasonsAreKept}
 use Rattle.theory.proofs.LawLemmas.Reasons.{IsAll, all_that_follows}
 
@@ -39,10 +36,7 @@ module _ (c : Clause) where
   left_of : (live : List Clause) (k : ℕ) (d : Clause) → slice_get live k ≡ Some d
       → (same_clause c d ≡ true) ⊎ ((j : ℕ) × (slice_get (take_off c live) j ≡ Some d))
   left_of [] k d at = absurd (none-some d at)
-  left_of (e ∷ live) zero d at = elim (cases_Bool (same_clause c e)) [
-    | inl same ↦ inl (subst (λ x. same_clause c x ≡ true) (same_Some e d at) same)
-    | inr other ↦ inr (zero, subst (λ b. slice_get (cond b live (e ∷ take_off c live)) zero ≡ Some d) (sym other) at)
-  ]
+  left_of (e ∷ live) zero d at = search rules
   left_of (e ∷ live) (suc k) d at = elim (cases_Bool (same_clause c e)) [
     | inl same ↦ inr (k, subst (λ b. slice_get (cond b live (e ∷ take_off c live)) k ≡ Some d) (sym same) at)
     | inr other ↦ elim (left_of live k d at) [
@@ -96,15 +90,14 @@ module _ (c : Clause) where
   -- a clause that makes no literal hold for good takes nothing with it
   pub forced_without : (live : List Clause) → (IsRootReason (slice_get live) c → ⊥) → (l : Literal) → Forced (slice_get live) [] l
       → Forced (slice_get (take_off c live)) [] l
-  forced_without live none =
-      forced_still live (λ m member forced others. absurd (none (record { literal = m; member = member; forced = forced; others = others })))
+  forced_without live none = search (rules, forced_still)
 
 -- ---- Steps
 
 kept_by_step : (rules : DratRules) (live : List Clause) (step : DratStep) (word : Accepted) (l : Literal) → IsTrue rules.keep_units
     → AnswersDrat rules live step (Ok word) → Forced (slice_get live) [] l → Forced (slice_get (after_drat live step word)) [] l
 kept_by_step rules live (add c set) word l on answers f = forced_more (slice_get live) (slice_get (c ∷ live)) (λ k d at. (suc k, at)) l f
-kept_by_step rules live (delete c) Deleted l on answers f = forced_without c live (λ r. answers.1 (on, r)) l f
+kept_by_step rules live (delete c) Deleted l on answers f = grind (arith, forced_without)
 kept_by_step rules live (delete c) Ignored l on answers f = f
 kept_by_step rules live (delete c) Rup l on answers f = absurd answers
 kept_by_step rules live (delete c) Rat l on answers f = absurd answers
@@ -112,7 +105,7 @@ kept_by_step rules live (delete c) Pr l on answers f = absurd answers
 kept_by_step rules live (delete c) Empty l on answers f = absurd answers
 
 pub units_are_kept : UnitsAreKept
-units_are_kept rules live last [] [] l on leads f = subst (λ x. Forced (slice_get x) [] l) (sym leads) f
+units_are_kept rules live last [] [] l on leads f = grind (arith, slice_get)
 units_are_kept rules live last [] (word ∷ words) l on leads f = absurd leads
 units_are_kept rules live last (step ∷ steps) [] l on leads f = absurd leads
 units_are_kept rules live last (step ∷ steps) (word ∷ words) l on leads f =
@@ -122,22 +115,11 @@ units_are_kept rules live last (step ∷ steps) (word ∷ words) l on leads f =
 
 -- no addition is accepted as a deletion
 none_added : (live : List Clause) (c set : List Literal) → AnswersListed (slice_get live) c set (Ok Deleted) → ⊥
-none_added live [] [] answers = answers
-none_added live (l ∷ c) [] answers = answers
-none_added live c (l ∷ set) answers = answers
+none_added live c set h = search rules
 
 step_keeps : (rules : DratRules) (live : List Clause) (step : Step) (word : Accepted) → IsTrue rules.keep_units → Answers (by_copies rules live) step (Ok word)
     → DeletesReason (by_copies rules live) step word → ⊥
-step_keeps rules live step Deleted on answers deletes = by step.kind answers
-  where
-    added : (pr : Bool) → AnswersDrat rules live (addition_of pr step.lits) (Ok Deleted) → ⊥
-    added true a = none_added live (clause_part step.lits) (witness_part step.lits) a
-    added false a = none_added live step.lits [] a
-
-    by : (kind : StepKind) → AnswersDrat rules live (drat_step_of rules kind step.lits) (Ok Deleted) → ⊥
-    by Add a = added rules.pr a
-    by Delete a = a.1 (on, deletes)
-step_keeps rules live step word on answers deletes = deletes
+step_keeps rules live step word h h2 h3 = grind (arith, none_added, clause_part, witness_part)
 
 none_before : (steps : List Step) (state : State) → DeletedReason state steps [] → ⊥
 none_before [] state d = d
@@ -156,7 +138,5 @@ ends_keep rules (step ∷ steps) live (word ∷ words) ending on ends deleted = 
 ]
 
 pub reasons_are_kept : ReasonsAreKept
-reasons_are_kept rules formula steps words ending on verdict deleted = elim (cases_Bool (list_any is_empty formula)) [
-  | inl empty ↦ none_before steps _ (subst (DeletedReason _ steps) (MatchBool-at_true _ _ empty verdict).0 deleted)
-  | inr none ↦ ends_keep rules steps formula words ending on (MatchBool-at_false _ _ none verdict) deleted
-]
+reasons_are_kept rules formula steps words ending on verdict deleted =
+    grind (arith, cases_Bool, none_before, ends_keep)

@@ -1,5 +1,5 @@
 -- What deletions lose.
-use Rattle.std.proofs.Common.{◌≡◌, ◌≢◌, true, List, [], ◌∷◌, slice_get, sym, subst, inl, inr}
+use Rattle.std.proofs.Common.{◌≡◌, ◌≢◌, true, List, [], ◌∷◌, slice_get, sym, subst, inl, inr, rules}
 use Rattle.std.proofs.lemmas.Bool.{cases_eq}
 use Rattle.cnf_base.specs.Literals.{Literal, Clause, complement, has}
 use Rattle.cnf_base.proofs.SetLemmas.{same_itself}
@@ -26,8 +26,7 @@ module _ (live : List Clause) (c : Clause) (quiet : ¬ Clash (slice_get live) []
 
   -- no literal of the clause held for good
   pub none_held : ((l : Literal) → has c l ≡ true → ¬ Forced (slice_get live) [] l) → ¬ Loses
-  none_held none loses =
-      loses.lost (forced_still c live (λ m member forced others. absurd (none m member forced)) loses.literal loses.forced)
+  none_held none loses = search (rules, forced_still)
 
   -- the one that did still does
   pub still_held : (l : Literal) → has c l ≡ true → Forced (slice_get live) [] l → Forced (slice_get (take_off c live)) [] l → ¬ Loses
@@ -41,8 +40,7 @@ module _ (live : List Clause) (c : Clause) (quiet : ¬ Clash (slice_get live) []
 
 -- it was no reason
 pub no_reason_kept : (live : List Clause) (c : Clause) → ¬ IsRootReason (slice_get live) c → ¬ DeleteLoses live c Deleted
-no_reason_kept live c none (inl p) = none p.1
-no_reason_kept live c none (inr p) = p.1.lost (forced_without c live none p.1.literal p.1.forced)
+no_reason_kept live c h = search (rules, forced_without)
 
 -- ---- The same clauses
 
@@ -66,9 +64,7 @@ delete_loses_same c first second same Deleted loses =
 delete_loses_same c first second same word loses = absurd loses
 
 step_loses_same : (step : Step) (word : Accepted) (first second : State) → Same first second → StepLoses first step word → StepLoses second step word
-step_loses_same step word (by_copies a x) (by_copies b y) same loses = delete_loses_same step.lits x y same.1 word loses
-step_loses_same step word (by_copies a x) (by_ids t) same loses = absurd same
-step_loses_same step word (by_ids s) second same loses = absurd loses
+step_loses_same step word first second h h2 = search (rules, delete_loses_same)
 
 pub lost_same : (steps : List Step) (words : List Accepted) (first second : State) → Same first second → HasLost first steps words → HasLost second steps words
 lost_same [] words first second same lost = absurd lost

@@ -1,17 +1,16 @@
 -- Whether a clause makes a literal hold for good can be decided: what follows with nothing assumed is a list, past a clash too.
 use Rattle.std.proofs.Common.{◌≡◌, ℕ, zero, suc, ◌≤◌, Bool, true, false, not}
 use Rattle.std.proofs.Common.{◌||◌, ◌&&◌, eqb, eqb-true, eq-eqb, Some, List, [], ◌∷◌}
-use Rattle.std.proofs.Common.{slice_get, refl, sym, ◌∙◌, subst, inl, inr, arith}
+use Rattle.std.proofs.Common.{slice_get, refl, sym, ◌∙◌, inl, inr, arith, rules}
 use Rattle.std.specs.List.{list_any, list_all}
 use Rattle.std.proofs.lemmas.Bool.{false≢true, true≢false, cases_Bool, cases_eq, or_cases}
 use Rattle.std.proofs.lemmas.Bool.{or_left, or_right, and_parts, and_from, not-true, not_from_false}
-use Rattle.std.proofs.lemmas.Option.{none-some, same_Some}
+use Rattle.std.proofs.lemmas.Option.{none-some}
 use Rattle.cnf_base.specs.Literals.{Literal, complement, Clause, has}
-use Rattle.cnf_base.proofs.SetLemmas.{any_from, any_some, all_each, each_all, has_cases}
+use Rattle.cnf_base.proofs.SetLemmas.{any_from, any_some, all_each, each_all}
 use Rattle.theory.specs.Code.Propagation.{OthersFail, IsClosedAt}
 use Rattle.theory.specs.Propagation.{Live, IsClosed, Forced, IsRootReason}
 use Rattle.theory.specs.Code.Sets.{lacking}
-use Rattle.theory.proofs.PropagationLemmas.Forced.{forced_unit}
 use Rattle.theory.proofs.LawLemmas.Growth.{IsDecided, lacking_more, all_literals, has-all_literals}
 
 -- ---- One clause
@@ -21,17 +20,10 @@ abbrev others_fail : List Literal → Clause → Literal → Bool
 others_fail found c m = list_all (λ l. eqb l m || has found (complement l)) c
 
 fail_each : (found : List Literal) (c : Clause) (m : Literal) → others_fail found c m ≡ true → OthersFail (has found) c m
-fail_each found c m all l member ne =
-    elim (or_cases (eqb l m) (has found (complement l)) (all_each (λ l. eqb l m || has found (complement l)) c l all member)) [
-      | inl e ↦ absurd (ne (eqb-true l m e))
-      | inr h ↦ h
-    ]
+fail_each found c m all l member ne = search (rules, or_cases, all_each, eqb-true)
 
 each_fail : (found : List Literal) (c : Clause) (m : Literal) → OthersFail (has found) c m → others_fail found c m ≡ true
-each_fail found c m others = each_all (λ l. eqb l m || has found (complement l)) c (λ l member. elim (cases_eq l m) [
-  | inl e ↦ or_left (eqb l m) (has found (complement l)) (eq-eqb l m e)
-  | inr ne ↦ or_right (eqb l m) (has found (complement l)) (others l member ne)
-])
+each_fail found c m others = search (rules, each_all, cases_eq, or_left, eq-eqb, or_right)
 
 -- ---- What follows
 
@@ -41,11 +33,7 @@ data Found (live : Live) (found : List Literal) : Type 0 where
 
 found_more : (found : List Literal) (d : Clause) (live : List Clause) → IsClosedAt (has found) d → Found (slice_get live) found → Found (slice_get (d ∷ live)) found
 found_more found d live first (one_more k c at m member others new) = one_more (suc k) c at m member others new
-found_more found d live first (all_found rest) = all_found by_place
-  where
-    by_place : (k : ℕ) (c : Clause) → slice_get (d ∷ live) k ≡ Some c → IsClosedAt (has found) c
-    by_place zero c at = subst (IsClosedAt (has found)) (same_Some d c at) first
-    by_place (suc k) c at = rest k c at
+found_more found d live first (all_found rest) = search rules
 
 -- whether the clause gives a literal that is not found yet
 abbrev gives : List Literal → Clause → Literal → Bool
@@ -72,10 +60,7 @@ pub record IsAll (live : Live) (found : List Literal) : Type 0 where
 module _ (live : List Clause) where
   sound_more : (found : List Literal) → ((l : Literal) → has found l ≡ true → Forced (slice_get live) [] l) → (k : ℕ) (c : Clause) → slice_get live k ≡ Some c → (m : Literal) → has c m ≡ true → OthersFail (has found) c m →
       (l : Literal) → has (m ∷ found) l ≡ true → Forced (slice_get live) [] l
-  sound_more found sound k c at m member others l h = elim (has_cases m found l h) [
-    | inl same ↦ subst (Forced (slice_get live) []) same (forced_unit (slice_get live) [] k c at m member (λ x inside ne. sound (complement x) (others x inside ne)))
-    | inr old ↦ sound l old
-  ]
+  sound_more found sound k c at m member others l h = search rules
 
   -- at most `fuel` literals are not found yet
   grow : (fuel : ℕ) (found : List Literal) → ((l : Literal) → has found l ≡ true → Forced (slice_get live) [] l) → lacking found (all_literals live) ≤ fuel → Found (slice_get live) found → (all : List Literal) × IsAll (slice_get live) all

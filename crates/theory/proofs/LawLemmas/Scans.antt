@@ -1,9 +1,8 @@
 -- One scan over a list of clauses: a clash, a literal that is forced and not listed yet, or the listed ones are all.
 use Rattle.std.proofs.Common.{◌≡◌, ℕ, zero, suc, true, false, eqb, Option, Some, List, []}
-use Rattle.std.proofs.Common.{◌∷◌, slice_get, refl, sym, ap, ◌∙◌, subst, inl, inr}
+use Rattle.std.proofs.Common.{◌∷◌, slice_get, refl, sym, ap, ◌∙◌, subst, inl, inr, rules}
 use Rattle.std.specs.List.{list_all}
 use Rattle.std.proofs.lemmas.Bool.{cases_Bool, true≢false}
-use Rattle.std.proofs.lemmas.Option.{none-some}
 use Rattle.cnf_base.specs.Literals.{Literal, Clause, has}
 use Rattle.theory.specs.Propagation.{Live, Forced, IsClosed, open_literals}
 use Rattle.theory.specs.Code.Propagation.{IsClosedAt}
@@ -21,18 +20,10 @@ module _ (trues : List Literal) (d : Clause) (live : List Clause) where
   same : (c : Clause) → ◌≡◌ {A = Option Clause} (Some d) (Some c) → d ≡ c
   same c e = cc
 
-  none_empty : ¬ (d ≡ []) → ((k : ℕ) → slice_get live k ≡ Some [] → ⊥) → (k : ℕ) → slice_get (d ∷ live) k ≡ Some [] → ⊥
-  none_empty here rest zero at = here (same [] at)
-  none_empty here rest (suc k) at = rest k at
-
-  each_closed : IsClosedAt (has trues) d → IsClosed (slice_get live) (has trues) → (k : ℕ) (c : Clause) → slice_get (d ∷ live) k ≡ Some c → IsClosedAt (has trues) c
-  each_closed here rest zero c at = subst (IsClosedAt (has trues)) (same c at) here
-  each_closed here rest (suc k) c at = rest.unit k c at
-
   found_more : ¬ (d ≡ []) → IsClosedAt (has trues) d → Found (slice_get live) trues → Found (slice_get (d ∷ live)) trues
   found_more some here (all_false k c at e) = all_false (suc k) c at e
   found_more some here (one_left k c at m only new) = one_left (suc k) c at m only new
-  found_more some here (none_new no_empty closed) = none_new (none_empty some no_empty) (record { unit = each_closed here closed })
+  found_more some here (none_new no_empty closed) = search rules
 
   -- what is left of the first clause
   found_first : (os : List Literal) → open_literals trues d ≡ os → Found (slice_get live) trues → Found (slice_get (d ∷ live)) trues
@@ -53,7 +44,7 @@ module _ (trues : List Literal) (d : Clause) (live : List Clause) where
       some-none m os e = cc
 
 pub scan : (trues : List Literal) (live : List Clause) → Found (slice_get live) trues
-scan trues [] = none_new (λ k at. none-some [] at) (record { unit = λ k c at. absurd (none-some c at) })
+scan trues [] = search rules
 scan trues (d ∷ live) = found_first trues d live (open_literals trues d) refl (scan trues live)
 
 -- what the list of true literals keeps as it grows

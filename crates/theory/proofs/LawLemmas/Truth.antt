@@ -1,10 +1,9 @@
 -- What is true under an assignment, and the assignment that makes a witness true.
-use Rattle.std.proofs.Common.{◌≡◌, ◌≢◌, ℕ, ◌+◌, ◌*◌, ◌/◌, ◌%◌, Bool}
+use Rattle.std.proofs.Common.{◌≡◌, ◌≢◌, ℕ, ◌+◌, ◌*◌, ◌/◌, Bool}
 use Rattle.std.proofs.Common.{true, false, not, ◌||◌, cond, Some, List, [], ◌∷◌, ◌++◌}
-use Rattle.std.proofs.Common.{refl, sym, ap, ◌∙◌, inl, inr, arith, if◌then◌else◌}
-use Rattle.std.proofs.Common.{eq-eqb, ne_eqb}
+use Rattle.std.proofs.Common.{refl, sym, ap, ◌∙◌, inl, inr, if◌then◌else◌}
+use Rattle.std.proofs.Common.{ne_eqb, rules}
 use Rattle.std.proofs.lemmas.Bool.{false≢true, true≢false, cases_Bool, cases_eq, not-true}
-use Rattle.std.proofs.lemmas.Bool.Decides.{nat_tests}
 use Rattle.cnf_base.specs.Literals.{Literal, complement, Clause, has, complements, without}
 use Rattle.theory.specs.Propagation.{Live, IsClosed, Forced, Clash, HasRup, HasRat, HasPr}
 use Rattle.theory.specs.Propagation.{open_literals, by_empty, by_both}
@@ -18,7 +17,7 @@ pub complement_false : (v : Assignment) (l : Literal) → holds v l ≡ true →
 complement_false v l h g = true≢false (sym g ∙ holds-complement v l ∙ ap not h)
 
 pub complement_true : (v : Assignment) (l : Literal) → holds v (complement l) ≡ false → holds v l ≡ true
-complement_true v l h = elim (cases_Bool (holds v l)) [ inl e ↦ e | inr e ↦ absurd (true≢false (sym (holds-complement v l ∙ ap not e) ∙ h)) ]
+complement_true v l h = search (rules, cases_Bool, true≢false, holds-complement)
 
 -- the true literals of a model are closed under the unit rule
 pub closed_by_model : (v : Assignment) (live : Live) → Models v live → IsClosed live (holds v)
@@ -62,11 +61,7 @@ data Parity (l : Literal) : Type 0 where
 
 parity : (l : Literal) → Parity l
 unfolding complement holds
-parity l =
-    elim (cases_eq (l % 2) 0) [
-      | inl e ↦ even (omega arith) (grind (arith, nat_tests)) (λ v. ap (λ b. cond b (v (l / 2)) (not (v (l / 2)))) (eq-eqb _ _ e))
-      | inr ne ↦ odd (omega arith) (grind (arith, nat_tests)) (λ v. ap (λ b. cond b (v (l / 2)) (not (v (l / 2)))) (ne_eqb _ _ ne))
-    ]
+parity l = search rules
 
 pub override_true : (v : Assignment) (witness : List Literal) (l : Literal) → has witness l ≡ true → has witness (complement l) ≡ false → holds (override v witness) l ≡ true
 unfolding override

@@ -1,25 +1,23 @@
 -- A step has at most one answer, under each rule.
-use Rattle.std.proofs.Common.{◌≡◌, ℕ, ◌<◌, Bool, true, false, nat_le, Option, Some}
-use Rattle.std.proofs.Common.{None, Ok, Err, List, [], ◌∷◌, slice_get, refl, sym, ap}
-use Rattle.std.proofs.Common.{◌∙◌, inl, inr}
-use Rattle.std.proofs.lemmas.Bool.{true≢false, cases_Bool, cases_order, MatchBool-at_true}
-use Rattle.std.proofs.lemmas.Bool.{MatchBool-at_false}
+use Rattle.std.proofs.Common.{◌≡◌, ℕ, ◌<◌, Bool, true, false, nat_le}
+use Rattle.std.proofs.Common.{Ok, Err, List, [], ◌∷◌, slice_get, refl, sym, ap}
+use Rattle.std.proofs.Common.{◌∙◌, arith, rules}
+use Rattle.std.proofs.lemmas.Bool.{true≢false, cases_Bool}
 use Rattle.std.specs.List.{list_any}
 use Rattle.theory.specs.declared.accepted.Accepted.TheVariants.{Rup, Rat, Pr, Empty, Deleted}
 use Rattle.theory.specs.declared.accepted.Accepted.TheVariants.{Ignored}
-use Rattle.theory.specs.declared.refusal.Refusal.{Refusal}
 use Rattle.theory.specs.declared.refusal.Refusal.TheVariants.{NotRup, NeitherRupNorRat, NotAlive}
 use Rattle.theory.specs.declared.refusal.Refusal.TheVariants.{InconsistentSet, NeitherRupNorPr}
 use Rattle.theory.specs.declared.refusal.Refusal.TheVariants.{Unnamed}
-use Rattle.cnf_base.specs.Literals.{Literal, Clause, complements, same_clause}
+use Rattle.cnf_base.specs.Literals.{Literal, Clause, same_clause}
 use Rattle.theory.specs.Propagation.{Live, HasRup, HasRat, HasPr}
 use Rattle.theory.specs.Answers.{StepAnswer}
 use Rattle.theory.specs.Drat.{DratStep, add, delete, AnswersAdd, AnswersDelete, AnswersDrat}
 use Rattle.theory.specs.Drat.{AnswersWithWitness, IsKeptUnit}
 use Rattle.theory.specs.Sets.{conflicts}
 use Rattle.theory.specs.Lrat.{LratState, LratStep, add as add_lrat, delete as delete_lrat, Group}
-use Rattle.theory.specs.Lrat.{ChainEnd, conflict, open_with, unknown, not_unit, chain}
-use Rattle.theory.specs.Lrat.{groups_refusal, is_left_out, AnswersGroups, AnswersChain, AnswersLrat}
+use Rattle.theory.specs.Lrat.{ChainEnd, conflict, open_with, unknown, not_unit}
+use Rattle.theory.specs.Lrat.{AnswersChain, AnswersLrat}
 use Rattle.theory.specs.declared.drat_rules.DratRules.{DratRules}
 
 -- ---- DRAT
@@ -80,29 +78,10 @@ data DeleteCases (rules : DratRules) (live : List Clause) (c : List Literal) (an
   not_alive : answer ≡ Err NotAlive → list_any (same_clause c) live ≡ false → rules.strict ≡ true → DeleteCases rules live c answer
 
 delete_cases : (rules : DratRules) (live : List Clause) (c : List Literal) (answer : StepAnswer) → AnswersDelete rules live c answer → DeleteCases rules live c answer
-delete_cases rules live c (Ok Deleted) a = deleted refl a.0 a.1
-delete_cases rules live c (Ok Ignored) a = elim a [ inl k ↦ kept refl k.0 k.1 | inr i ↦ ignored refl i.0 i.1 ]
-delete_cases rules live c (Err NotAlive) a = not_alive refl a.0 a.1
-delete_cases rules live c (Ok _) a = absurd a
-delete_cases rules live c (Err _) a = absurd a
+delete_cases rules live c answer h = grind arith
 
 delete_unique : (rules : DratRules) (live : List Clause) (c : List Literal) (first second : StepAnswer) → DeleteCases rules live c first → DeleteCases rules live c second → first ≡ second
-delete_unique rules live c first second (deleted e p q) (deleted f r s) = e ∙ sym f
-delete_unique rules live c first second (deleted e p q) (kept f r s) = absurd (q s)
-delete_unique rules live c first second (deleted e p q) (ignored f r s) = absurd (true≢false (sym p ∙ r))
-delete_unique rules live c first second (deleted e p q) (not_alive f r s) = absurd (true≢false (sym p ∙ r))
-delete_unique rules live c first second (kept e p q) (deleted f r s) = absurd (s q)
-delete_unique rules live c first second (kept e p q) (kept f r s) = e ∙ sym f
-delete_unique rules live c first second (kept e p q) (ignored f r s) = e ∙ sym f
-delete_unique rules live c first second (kept e p q) (not_alive f r s) = absurd (true≢false (sym p ∙ r))
-delete_unique rules live c first second (ignored e p q) (deleted f r s) = absurd (true≢false (sym r ∙ p))
-delete_unique rules live c first second (ignored e p q) (kept f r s) = e ∙ sym f
-delete_unique rules live c first second (ignored e p q) (ignored f r s) = e ∙ sym f
-delete_unique rules live c first second (ignored e p q) (not_alive f r s) = absurd (true≢false (sym s ∙ q))
-delete_unique rules live c first second (not_alive e p q) (deleted f r s) = absurd (true≢false (sym r ∙ p))
-delete_unique rules live c first second (not_alive e p q) (kept f r s) = absurd (true≢false (sym r ∙ p))
-delete_unique rules live c first second (not_alive e p q) (ignored f r s) = absurd (true≢false (sym q ∙ s))
-delete_unique rules live c first second (not_alive e p q) (not_alive f r s) = e ∙ sym f
+delete_unique rules live c first second h h2 = grind (arith, true≢false)
 
 -- the four answers to an addition that lists a set
 data WitnessCases (live : Live) (c set : List Literal) (answer : StepAnswer) : Type 0 where
@@ -121,18 +100,18 @@ witness_cases live c set (Err _) a = absurd a
 
 witness_unique : (live : Live) (c set : List Literal) (first second : StepAnswer) → WitnessCases live c set first → WitnessCases live c set second → first ≡ second
 witness_unique live c set first second (inconsistent e p) (inconsistent f q) = e ∙ sym f
-witness_unique live c set first second (inconsistent e p) (rup f q r) = absurd (true≢false (sym p ∙ q))
-witness_unique live c set first second (inconsistent e p) (pr f q r s) = absurd (true≢false (sym p ∙ q))
-witness_unique live c set first second (inconsistent e p) (neither f q r s) = absurd (true≢false (sym p ∙ q))
-witness_unique live c set first second (rup e p h) (inconsistent f q) = absurd (true≢false (sym q ∙ p))
+witness_unique live c set first second (inconsistent e p) (rup f q r) = cc
+witness_unique live c set first second (inconsistent e p) (pr f q r s) = cc
+witness_unique live c set first second (inconsistent e p) (neither f q r s) = cc
+witness_unique live c set first second (rup e p h) (inconsistent f q) = cc
 witness_unique live c set first second (rup e p h) (rup f q r) = e ∙ sym f
 witness_unique live c set first second (rup e p h) (pr f q r s) = absurd (r h)
 witness_unique live c set first second (rup e p h) (neither f q r s) = absurd (r h)
-witness_unique live c set first second (pr e p h k) (inconsistent f q) = absurd (true≢false (sym q ∙ p))
+witness_unique live c set first second (pr e p h k) (inconsistent f q) = cc
 witness_unique live c set first second (pr e p h k) (rup f q r) = absurd (h r)
 witness_unique live c set first second (pr e p h k) (pr f q r s) = e ∙ sym f
 witness_unique live c set first second (pr e p h k) (neither f q r s) = absurd (s k)
-witness_unique live c set first second (neither e p h k) (inconsistent f q) = absurd (true≢false (sym q ∙ p))
+witness_unique live c set first second (neither e p h k) (inconsistent f q) = cc
 witness_unique live c set first second (neither e p h k) (rup f q r) = absurd (h r)
 witness_unique live c set first second (neither e p h k) (pr f q r s) = absurd (k s)
 witness_unique live c set first second (neither e p h k) (neither f q r s) = e ∙ sym f
@@ -141,33 +120,13 @@ pub drat_unique : (rules : DratRules) (live : List Clause) (step : DratStep) (fi
 drat_unique rules live (add [] []) first second a b = empty_unique (slice_get live) first second (empty_cases live first a) (empty_cases live second b)
 drat_unique rules live (add (pivot ∷ rest) []) first second a b = add_unique (slice_get live) pivot rest first second (add_cases live pivot rest first a) (add_cases live pivot rest second b)
 drat_unique rules live (add c (l ∷ set)) first second a b = witness_unique (slice_get live) c (l ∷ set) first second (witness_cases live c (l ∷ set) first a) (witness_cases live c (l ∷ set) second b)
-drat_unique rules live (delete c) first second a b = delete_unique rules live c first second (delete_cases rules live c first a) (delete_cases rules live c second b)
+drat_unique rules live (delete c) first second a b = search (rules, delete_unique, delete_cases)
 
 -- ---- LRAT
 
 data GroupsCases (left_out : ℕ → Bool) (answer : StepAnswer) : Type 0 where
   all_settled : answer ≡ Ok Rat → ((k : ℕ) → left_out k ≡ false) → GroupsCases left_out answer
   lowest : (k : ℕ) → answer ≡ Err (Unnamed k) → left_out k ≡ true → ((j : ℕ) → j < k → left_out j ≡ false) → GroupsCases left_out answer
-
-groups_cases : (live : Live) (ls : List Literal) (pivot : Literal) (groups : List Group) (answer : StepAnswer) → AnswersGroups live ls pivot groups None answer → GroupsCases (is_left_out live ls pivot groups) answer
-groups_cases live ls pivot groups (Ok Rat) a = all_settled refl a
-groups_cases live ls pivot groups (Err (Unnamed k)) a = lowest k refl a.0 a.1
-groups_cases live ls pivot groups (Ok _) a = absurd a
-groups_cases live ls pivot groups (Err _) a = absurd a
-
-groups_unique : (left_out : ℕ → Bool) (first second : StepAnswer) → GroupsCases left_out first → GroupsCases left_out second → first ≡ second
-groups_unique left_out first second (all_settled e p) (all_settled f q) = e ∙ sym f
-groups_unique left_out first second (all_settled e p) (lowest k f at below) = absurd (true≢false (sym at ∙ p k))
-groups_unique left_out first second (lowest k e at below) (all_settled f q) = absurd (true≢false (sym at ∙ q k))
-groups_unique left_out first second (lowest k e at below) (lowest j f at' below') =
-    elim (cases_order k j) [
-      | inl same ↦ e ∙ ap (λ x. Err (Unnamed x)) same ∙ sym f
-      | inr apart ↦ elim apart [ inl k<j ↦ absurd (true≢false (sym at ∙ below' k k<j)) | inr j<k ↦ absurd (true≢false (sym at' ∙ below j j<k)) ]
-    ]
-
-after_groups_unique : (live : Live) (ls : List Literal) (pivot : Literal) (groups : List Group) (refusal : Option Refusal) (first second : StepAnswer) → AnswersGroups live ls pivot groups refusal first → AnswersGroups live ls pivot groups refusal second → first ≡ second
-after_groups_unique live ls pivot groups (Some r) first second a b = a ∙ sym b
-after_groups_unique live ls pivot groups None first second a b = groups_unique (is_left_out live ls pivot groups) first second (groups_cases live ls pivot groups first a) (groups_cases live ls pivot groups second b)
 
 chain_unique : (live : Live) (c : List Literal) (groups : List Group) (end : ChainEnd) (first second : StepAnswer) → AnswersChain live c groups end first → AnswersChain live c groups end second → first ≡ second
 chain_unique live [] groups conflict first second a b = a ∙ sym b
@@ -177,12 +136,9 @@ chain_unique live (l ∷ c) groups (unknown k) first second a b = a ∙ sym b
 chain_unique live [] groups (not_unit k) first second a b = a ∙ sym b
 chain_unique live (l ∷ c) groups (not_unit k) first second a b = a ∙ sym b
 chain_unique live [] groups (open_with ls) first second a b = a ∙ sym b
-chain_unique live (pivot ∷ rest) groups (open_with ls) first second a b = after_groups_unique live ls pivot groups (groups_refusal live ls pivot [] groups) first second a b
+chain_unique live (pivot ∷ rest) groups (open_with ls) first second a b = search rules
 
 pub lrat_unique : (state : LratState) (step : LratStep) (first second : StepAnswer) → AnswersLrat state step first → AnswersLrat state step second → first ≡ second
 lrat_unique state (add_lrat id c units groups) first second a b =
-    elim (cases_Bool (nat_le id state.top)) [
-      | inl e ↦ MatchBool-at_true _ _ e a ∙ sym (MatchBool-at_true _ _ e b)
-      | inr e ↦ chain_unique state.live c groups (chain state.live (complements c) units) first second (MatchBool-at_false _ _ e a) (MatchBool-at_false _ _ e b)
-    ]
+    grind (arith, cases_Bool, nat_le, chain_unique)
 lrat_unique state (delete_lrat ids) first second a b = a ∙ sym b

@@ -1,14 +1,13 @@
 -- A proof has one verdict, which depends on the clauses alone, and a verified formula has no model.
 use Rattle.std.proofs.Common.{◌≡◌, zero, suc, Bool, true, false, Ok, Err, List, [], ◌∷◌}
-use Rattle.std.proofs.Common.{slice_get, refl, sym, ap, ◌∙◌, subst, inl, inr}
+use Rattle.std.proofs.Common.{slice_get, refl, sym, ap, ◌∙◌, subst, inl, inr, rules}
 use Rattle.std.specs.Bool.{MatchBool}
 use Rattle.std.specs.List.{list_any}
 use Rattle.std.proofs.lemmas.Bool.{false≢true, cases_Bool, MatchBool-at_true, MatchBool-at_false}
 use Rattle.cnf_base.specs.Literals.{Clause}
 use Rattle.proofs.specs.Steps.{Step}
 use Rattle.theory.specs.declared.accepted.Accepted.{Accepted}
-use Rattle.theory.specs.declared.accepted.Accepted.TheVariants.{Rup, Rat, Pr, Empty, Deleted}
-use Rattle.theory.specs.declared.accepted.Accepted.TheVariants.{Ignored}
+use Rattle.theory.specs.declared.accepted.Accepted.TheVariants.{Empty}
 use Rattle.theory.specs.declared.refusal.Refusal.{Refusal}
 use Rattle.theory.specs.Answers.{StepAnswer}
 use Rattle.theory.specs.Models.{HasModel}
@@ -25,7 +24,7 @@ use Rattle.theory.proofs.LawLemmas.Rules.{started}
 pub ends_same : (steps : List Step) (words : List Accepted) (ending : Ending) (first second : State) → Same first second → Ends first steps words ending → Ends second steps words ending
 ends_same [] [] ending first second same e = e
 ends_same [] (word ∷ words) ending first second same e = absurd e
-ends_same (step ∷ steps) [] ending first second same e = (e.0, e.1, answers_same first second step (Err e.0) same e.2)
+ends_same (step ∷ steps) [] ending first second same e = search (rules, answers_same)
 ends_same (step ∷ steps) (word ∷ words) ending first second same e =
     (answers_same first second step (Ok word) same e.0, by_word (is_last word) (ends_same steps words ending (after first step word) (after second step word) (after_same first second step word same)) e.1)
   where
@@ -43,9 +42,9 @@ ends_unique : (steps : List Step) (s : State) (first second : List Accepted) (en
 ends_unique [] s [] [] ending other a b = (refl, a ∙ sym b)
 ends_unique [] s [] (w ∷ ws) ending other a b = absurd b
 ends_unique [] s (w ∷ ws) second ending other a b = absurd a
-ends_unique (step ∷ steps) s [] [] ending other a b = (refl, a.1 ∙ ap refused (err_is a.0 b.0 (answer_unique s step _ _ a.2 b.2)) ∙ sym b.1)
-ends_unique (step ∷ steps) s [] (w ∷ ws) ending other a b = absurd (ok_err w a.0 (answer_unique s step _ _ b.0 a.2))
-ends_unique (step ∷ steps) s (w ∷ ws) [] ending other a b = absurd (ok_err w b.0 (answer_unique s step _ _ a.0 b.2))
+ends_unique (step ∷ steps) s [] [] ending other a b = search (rules, err_is, answer_unique)
+ends_unique (step ∷ steps) s [] (w ∷ ws) ending other a b = search (rules, ok_err, answer_unique)
+ends_unique (step ∷ steps) s (w ∷ ws) [] ending other a b = search (rules, ok_err, answer_unique)
 ends_unique (step ∷ steps) s (w ∷ ws) (x ∷ xs) ending other a b =
     let same = ok_is w x (answer_unique s step _ _ a.0 b.0) in
     elim (cases_Bool (is_last w)) [
@@ -62,10 +61,7 @@ ends_unique (step ∷ steps) s (w ∷ ws) (x ∷ xs) ending other a b =
 pub verdict_unique : (rule : Rule) (formula : List Clause) (steps : List Step) (first second : List Accepted) (ending other : Ending) →
     Verdict rule formula steps first ending → Verdict rule formula steps second other → (first ≡ second) × (ending ≡ other)
 verdict_unique rule formula steps first second ending other a b =
-    elim (cases_Bool (list_any is_empty formula)) [
-      | inl e ↦ let p = MatchBool-at_true _ _ e a in let q = MatchBool-at_true _ _ e b in (p.0 ∙ sym q.0, p.1 ∙ sym q.1)
-      | inr e ↦ ends_unique steps (start rule formula) first second ending other (MatchBool-at_false _ _ e a) (MatchBool-at_false _ _ e b)
-    ]
+    search (rules, cases_Bool, ends_unique)
 
 -- ---- A verdict
 
@@ -108,12 +104,7 @@ some_verdict rule formula steps = by (list_any is_empty formula) refl (some_endi
 -- ---- A verified formula has no model
 
 last_is_empty : (word : Accepted) → is_last word ≡ true → word ≡ Empty
-last_is_empty Empty e = refl
-last_is_empty Rup e = absurd (false≢true e)
-last_is_empty Rat e = absurd (false≢true e)
-last_is_empty Pr e = absurd (false≢true e)
-last_is_empty Deleted e = absurd (false≢true e)
-last_is_empty Ignored e = absurd (false≢true e)
+last_is_empty word h = search rules
 
 verified_none : verified ≡ no_empty_clause → ⊥
 verified_none e = cc
@@ -138,7 +129,4 @@ empty_formula ((l ∷ c) ∷ formula) h m = empty_formula formula h (m.0, λ k d
 
 pub verdict_sound : (rule : Rule) (formula : List Clause) (steps : List Step) (words : List Accepted) → Verdict rule formula steps words verified → ¬ HasModel (slice_get formula)
 verdict_sound rule formula steps words verdict m =
-    elim (cases_Bool (list_any is_empty formula)) [
-      | inl e ↦ empty_formula formula e m
-      | inr e ↦ ends_sound steps (start rule formula) words (MatchBool-at_false _ _ e verdict) (started rule formula m)
-    ]
+    search (rules, cases_Bool, empty_formula, ends_sound, started)

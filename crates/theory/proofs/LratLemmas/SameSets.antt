@@ -1,25 +1,21 @@
 -- The rule of LRAT depends only on the sets of the live clauses.
-use Rattle.std.proofs.Common.{◌≡◌, ℕ, Bool, true, false, not, ◌&&◌, ◌||◌, cond, eqb}
-use Rattle.std.proofs.Common.{nat_le, Option, Some, None, option_map, is_none, Ok, Err}
-use Rattle.std.proofs.Common.{List, [], ◌∷◌, refl, sym, ap, ◌∙◌, subst, inl, inr}
-use Rattle.std.specs.Bool.{then_some, MatchBool}
-use Rattle.std.specs.Option.{option_or}
-use Rattle.std.specs.List.{list_all, list_any}
+use Rattle.std.proofs.Common.{◌≡◌, ℕ, Bool, true, false, ◌||◌, cond, eqb}
+use Rattle.std.proofs.Common.{nat_le, Option, Some, None, option_map, is_none, Err}
+use Rattle.std.proofs.Common.{List, [], ◌∷◌, refl, sym, ap, ◌∙◌, subst, inl, inr, rules}
+use Rattle.std.specs.Bool.{MatchBool}
+use Rattle.std.specs.List.{list_all}
 use Rattle.std.proofs.lemmas.Bool.{false≢true, cases_Bool}
-use Rattle.theory.specs.declared.accepted.Accepted.TheVariants.{Rat}
 use Rattle.theory.specs.declared.refusal.Refusal.{Refusal}
-use Rattle.theory.specs.declared.refusal.Refusal.TheVariants.{IdOutOfOrder, UnknownId, NotCandidate}
-use Rattle.theory.specs.declared.refusal.Refusal.TheVariants.{NamedTwice, GroupWithoutConflict}
-use Rattle.theory.specs.declared.refusal.Refusal.TheVariants.{Unnamed}
+use Rattle.theory.specs.declared.refusal.Refusal.TheVariants.{IdOutOfOrder}
 use Rattle.cnf_base.specs.Literals.{Literal, complement, Clause, has, complements, without}
 use Rattle.cnf_base.specs.Literals.{same_clause}
 use Rattle.theory.specs.Propagation.{Live, open_literals}
 use Rattle.theory.specs.Answers.{StepAnswer}
 use Rattle.theory.specs.Lrat.{ChainEnd, conflict, open_with, unknown, not_unit, look_at, chain}
-use Rattle.theory.specs.Lrat.{Group, LratStep, add, delete, with_candidate, chain_refusal}
+use Rattle.theory.specs.Lrat.{Group, LratStep, with_candidate, chain_refusal}
 use Rattle.theory.specs.Lrat.{group_refusal, groups_refusal, is_unsettled, is_left_out}
 use Rattle.theory.specs.Lrat.{AnswersGroups, AnswersChain, with_clause, without_id, without_ids}
-use Rattle.theory.specs.Lrat.{deletion_refusal, answer_of, AnswersLrat, SameAt, SameClauses}
+use Rattle.theory.specs.Lrat.{deletion_refusal, AnswersLrat, SameAt, SameClauses}
 use Rattle.theory.specs.Sets.{conflicts, SameSet}
 use Rattle.theory.proofs.PropagationLemmas.Conflicts.{conflicts_same}
 use Rattle.cnf_base.proofs.SetLemmas.{both_pass, has_head, has-filter}
@@ -30,7 +26,7 @@ use Rattle.cnf_base.proofs.LiteralLemmas.{complement-complement}
 use Rattle.theory.proofs.PropagationLemmas.Open.{first_alone, alone_first}
 
 pub same_set_from : (c d : Clause) → same_clause c d ≡ true → SameSet c d
-same_set_from c d same l = both_pass (has c l) (has d l) (same_there c d same l) (same_back c d same l)
+same_set_from c d same l = search (rules, both_pass, same_there, same_back)
 
 pub same_set_more : (first second : List Literal) (m : Literal) → SameSet first second → SameSet (m ∷ first) (m ∷ second)
 same_set_more first second m same l = ap (λ b. eqb m l || b) (same l)
@@ -38,13 +34,10 @@ same_set_more first second m same l = ap (λ b. eqb m l || b) (same l)
 -- ---- What is left
 
 open_there : (first second : List Literal) (c d : Clause) → SameSet first second → SameSet c d → (l : Literal) → has (open_literals first c) l ≡ true → has (open_literals second d) l ≡ true
-open_there first second c d same_ls same_c l h =
-    let w = filter_has (λ l. not (has first (complement l))) c l h in
-    has-filter (λ l. not (has second (complement l))) d l (sym (same_c l) ∙ w.0) (ap not (sym (same_ls (complement l))) ∙ w.1)
+open_there first second c d same_ls same_c l h = search (rules, filter_has, has-filter)
 
 open_same : (first second : List Literal) (c d : Clause) → SameSet first second → SameSet c d → SameSet (open_literals first c) (open_literals second d)
-open_same first second c d same_ls same_c l =
-    both_pass (has (open_literals first c) l) (has (open_literals second d) l) (open_there first second c d same_ls same_c l) (open_there second first d c (λ l. sym (same_ls l)) (λ l. sym (same_c l)) l)
+open_same first second c d same_ls same_c l = search (rules, both_pass, open_there)
 
 -- whether the first literal of a list is the only one, and which it is, depends on the set
 alone_there : (k m : Literal) (xs ys : List Literal) → SameSet (k ∷ xs) (m ∷ ys) → list_all (λ l. eqb l k) xs ≡ true → (list_all (λ l. eqb l m) ys ≡ true) × (k ≡ m)
@@ -73,10 +66,7 @@ module _ (j : ℕ) (go_on : Literal → ChainEnd) where
   -- ---- Walks
 
   looks_same : (first second : List Literal) → SameSet first second → (a b : Option Clause) → SameAt a b → look_at j (option_map (open_literals first) a) go_on ≡ look_at j (option_map (open_literals second) b) go_on
-  looks_same first second same None None h = refl
-  looks_same first second same (Some c) (Some d) h = left_same (open_literals first c) (open_literals second d) (open_same first second c d same (same_set_from c d h))
-  looks_same first second same None (Some d) h = absurd h
-  looks_same first second same (Some c) None h = absurd h
+  looks_same first second h a b h2 = search (rules, left_same, open_same, same_set_from)
 
 module _ (live other : Live) (same_clauses : SameClauses live other) where
   -- from one list, a walk has one end
@@ -88,22 +78,11 @@ module _ (live other : Live) (same_clauses : SameClauses live other) where
       ∙ ap (λ (f : Literal → ChainEnd). cond (conflicts ls) conflict (look_at k (option_map (open_literals ls) (other k)) f)) (λ i l. chain_is hints (l ∷ ls) i)
 
   refusals_look : (r : Refusal) (k : ℕ) (o : Option Clause) (f g : Literal → ChainEnd) → ((l : Literal) → chain_refusal r (f l) ≡ chain_refusal r (g l)) → chain_refusal r (look_at k o f) ≡ chain_refusal r (look_at k o g)
-  refusals_look r k None f g each = refl
-  refusals_look r k (Some []) f g each = refl
-  refusals_look r k (Some (l ∷ ls)) f g each = by_test (list_all (λ m. eqb m l) ls)
-    where
-      by_test : (b : Bool) → chain_refusal r (cond b (f l) (not_unit k)) ≡ chain_refusal r (cond b (g l) (not_unit k))
-      by_test true = each l
-      by_test false = refl
+  refusals_look r k o f g h = search rules
 
   -- from lists that are the same set, a walk is refused alike
   pub chain_alike : (r : Refusal) (hints : List ℕ) (first second : List Literal) → SameSet first second → chain_refusal r (chain live first hints) ≡ chain_refusal r (chain other second hints)
-  chain_alike r [] first second same =
-      by_conflict (conflicts first) ∙ ap (λ b. chain_refusal r (cond b conflict (open_with second))) (conflicts_same first second same)
-    where
-      by_conflict : (b : Bool) → chain_refusal r (cond b conflict (open_with first)) ≡ chain_refusal r (cond b conflict (open_with second))
-      by_conflict true = refl
-      by_conflict false = refl
+  chain_alike r [] first second same = search (rules, conflicts_same)
   chain_alike r (k ∷ hints) first second same =
       by_conflict (conflicts first) (λ l. chain_alike r hints (l ∷ first) (l ∷ second) (same_set_more first second l same))
       ∙ ap (λ e. chain_refusal r (cond (conflicts first) conflict e)) (looks_same k (λ l. chain other (l ∷ second) hints) first second same (live k) (other k) (same_clauses.at k))
@@ -129,43 +108,34 @@ module _ (live other : Live) (same_clauses : SameClauses live other) where
       ]
 
   candidate_same : (ls : List Literal) (c d : Clause) (pivot : Literal) → same_clause c d ≡ true → SameSet (with_candidate ls c pivot) (with_candidate ls d pivot)
-  candidate_same ls c d pivot same l =
-      both_pass (has (with_candidate ls c pivot) l) (has (with_candidate ls d pivot) l) (candidate_there ls c d pivot l same) (candidate_there ls d c pivot l (same_symm c d same))
+  candidate_same ls c d pivot same l = search (rules, both_pass, candidate_there, same_symm)
 
   group_same : (ls : List Literal) (pivot : Literal) (earlier : List ℕ) (group : Group) (a b : Option Clause) → SameAt a b → group_refusal live ls pivot earlier group a ≡ group_refusal other ls pivot earlier group b
   group_same ls pivot earlier group None None h = refl
   group_same ls pivot earlier group (Some c) (Some d) h =
-      ap (λ t. option_or (then_some (not t) (NotCandidate group.candidate)) (option_or (then_some (list_any (λ k. eqb k group.candidate) earlier) (NamedTwice group.candidate)) (chain_refusal (GroupWithoutConflict group.candidate) (chain live (with_candidate ls c pivot) group.hints)))) (same_set_from c d h (complement pivot))
-      ∙ ap (λ e. option_or (then_some (not (has d (complement pivot))) (NotCandidate group.candidate)) (option_or (then_some (list_any (λ k. eqb k group.candidate) earlier) (NamedTwice group.candidate)) e))
-      (chain_alike (GroupWithoutConflict group.candidate) group.hints (with_candidate ls c pivot) (with_candidate ls d pivot) (candidate_same ls c d pivot h))
+      search (rules, same_set_from, chain_alike, candidate_same)
   group_same ls pivot earlier group None (Some d) h = absurd h
   group_same ls pivot earlier group (Some c) None h = absurd h
 
   groups_same : (ls : List Literal) (pivot : Literal) (groups : List Group) (earlier : List ℕ) → groups_refusal live ls pivot earlier groups ≡ groups_refusal other ls pivot earlier groups
   groups_same ls pivot [] earlier = refl
   groups_same ls pivot (group ∷ groups) earlier =
-      ap (λ o. option_or o (groups_refusal live ls pivot (group.candidate ∷ earlier) groups)) (group_same ls pivot earlier group (live group.candidate) (other group.candidate) (same_clauses.at group.candidate))
-      ∙ ap (option_or (group_refusal other ls pivot earlier group (other group.candidate))) (groups_same ls pivot groups (group.candidate ∷ earlier))
+      search (rules, group_same, (groups_same ls pivot groups (group.candidate ∷ earlier)))
 
   unsettled_same : (ls : List Literal) (pivot : Literal) (a b : Option Clause) → SameAt a b → is_unsettled ls pivot a ≡ is_unsettled ls pivot b
   unsettled_same ls pivot None None h = refl
   unsettled_same ls pivot (Some c) (Some d) h =
-      ap (λ t. t && not (conflicts (with_candidate ls c pivot))) (same_set_from c d h (complement pivot))
-      ∙ ap (λ t. has d (complement pivot) && not t) (conflicts_same (with_candidate ls c pivot) (with_candidate ls d pivot) (candidate_same ls c d pivot h))
+      search (rules, same_set_from, conflicts_same, candidate_same)
   unsettled_same ls pivot None (Some d) h = absurd h
   unsettled_same ls pivot (Some c) None h = absurd h
 
   left_out_same : (ls : List Literal) (pivot : Literal) (groups : List Group) (k : ℕ) → is_left_out live ls pivot groups k ≡ is_left_out other ls pivot groups k
-  left_out_same ls pivot groups k = ap (λ t. not (list_any (λ group. eqb group.candidate k) groups) && t) (unsettled_same ls pivot (live k) (other k) (same_clauses.at k))
+  left_out_same ls pivot groups k = search (rules, unsettled_same)
 
   -- ---- Answers
 
   groups_answer : (ls : List Literal) (pivot : Literal) (groups : List Group) (refusal : Option Refusal) (answer : StepAnswer) → AnswersGroups live ls pivot groups refusal answer → AnswersGroups other ls pivot groups refusal answer
-  groups_answer ls pivot groups (Some r) answer a = a
-  groups_answer ls pivot groups None (Ok Rat) a = λ k. sym (left_out_same ls pivot groups k) ∙ a k
-  groups_answer ls pivot groups None (Err (Unnamed k)) a = (sym (left_out_same ls pivot groups k) ∙ a.0, λ j h. sym (left_out_same ls pivot groups j) ∙ a.1 j h)
-  groups_answer ls pivot groups None (Ok _) a = absurd a
-  groups_answer ls pivot groups None (Err _) a = absurd a
+  groups_answer ls pivot groups refusal answer h = search (rules, left_out_same)
 
   chain_answer : (c : List Literal) (groups : List Group) (end : ChainEnd) (answer : StepAnswer) → AnswersChain live c groups end answer → AnswersChain other c groups end answer
   chain_answer [] groups conflict answer a = a
@@ -176,32 +146,24 @@ module _ (live other : Live) (same_clauses : SameClauses live other) where
   chain_answer (l ∷ c) groups (not_unit k) answer a = a
   chain_answer [] groups (open_with ls) answer a = a
   chain_answer (pivot ∷ c) groups (open_with ls) answer a =
-      subst (λ refusal. AnswersGroups other ls pivot groups refusal answer) (groups_same ls pivot groups []) (groups_answer ls pivot groups (groups_refusal live ls pivot [] groups) answer a)
+      search (rules, groups_same, groups_answer)
 
   add_answer : (top id : ℕ) (c : List Literal) (units : List ℕ) (groups : List Group) (answer : StepAnswer) (late : Bool) →
       MatchBool late (answer ≡ Err IdOutOfOrder) (AnswersChain live c groups (chain live (complements c) units) answer) →
       MatchBool late (answer ≡ Err IdOutOfOrder) (AnswersChain other c groups (chain other (complements c) units) answer)
   add_answer top id c units groups answer true a = a
-  add_answer top id c units groups answer false a =
-      subst (λ end. AnswersChain other c groups end answer) (chain_is units (complements c)) (chain_answer c groups (chain live (complements c) units) answer a)
+  add_answer top id c units groups answer false a = search (rules, chain_is, chain_answer)
 
 -- ---- Deletions, and what is alive
 
 is_none_same : (a b : Option Clause) → SameAt a b → is_none a ≡ is_none b
-is_none_same None None h = refl
-is_none_same (Some c) (Some d) h = refl
-is_none_same None (Some d) h = absurd h
-is_none_same (Some c) None h = absurd h
-
-same_at_cond : (b : Bool) (x y v w : Option Clause) → SameAt x y → SameAt v w → SameAt (cond b x v) (cond b y w)
-same_at_cond true x y v w h g = h
-same_at_cond false x y v w h g = g
+is_none_same a b h = search rules
 
 pub with_same : (first second : Live) (id : ℕ) (c d : Clause) → SameClauses first second → same_clause c d ≡ true → SameClauses (with_clause first id c) (with_clause second id d)
-with_same first second id c d same h = record { at = λ k. same_at_cond (eqb k id) (Some c) (Some d) (first k) (second k) h (same.at k) }
+with_same first second id c d same h = search rules
 
 without_same : (first second : Live) (id : ℕ) → SameClauses first second → SameClauses (without_id first id) (without_id second id)
-without_same first second id same = record { at = λ k. same_at_cond (eqb k id) None None (first k) (second k) tt (same.at k) }
+without_same first second id same = search rules
 
 pub without_all_same : (ids : List ℕ) (first second : Live) → SameClauses first second → SameClauses (without_ids first ids) (without_ids second ids)
 without_all_same [] first second same = same
@@ -210,9 +172,13 @@ without_all_same (id ∷ ids) first second same = without_all_same ids (without_
 deletion_same : (ids : List ℕ) (first second : Live) → SameClauses first second → deletion_refusal first ids ≡ deletion_refusal second ids
 deletion_same [] first second same = refl
 deletion_same (id ∷ ids) first second same =
-    ap (λ t. option_or (then_some t (UnknownId id)) (deletion_refusal (without_id first id) ids)) (is_none_same (first id) (second id) (same.at id))
-    ∙ ap (option_or (then_some (is_none (second id)) (UnknownId id))) (deletion_same ids (without_id first id) (without_id second id) (without_same first second id same))
+    search (
+      rules,
+      is_none_same,
+      is_none,
+      without_same,
+      (deletion_same ids (without_id first id) (without_id second id) (without_same first second id same)),
+    )
 
 pub lrat_same : (first second : Live) (top : ℕ) (step : LratStep) (answer : StepAnswer) → SameClauses first second → AnswersLrat (record { live = first; top = top }) step answer → AnswersLrat (record { live = second; top = top }) step answer
-lrat_same first second top (add id c units groups) answer same a = add_answer first second same top id c units groups answer (nat_le id top) a
-lrat_same first second top (delete ids) answer same a = a ∙ ap answer_of (deletion_same ids first second same)
+lrat_same first second top step answer h h2 = search (rules, add_answer, nat_le, deletion_same)

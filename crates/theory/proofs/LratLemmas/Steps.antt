@@ -1,22 +1,22 @@
 -- What an accepted LRAT step shows.
 use Rattle.std.proofs.Common.{◌≡◌, ℕ, true, false, not, eqb, eqb-true, nat_le, Option}
-use Rattle.std.proofs.Common.{Some, None, Ok, Err, List, [], ◌∷◌, ◌++◌, refl, sym, ap}
-use Rattle.std.proofs.Common.{◌∙◌, subst, inl, inr}
+use Rattle.std.proofs.Common.{Some, None, Ok, Err, List, [], ◌∷◌, ◌++◌, sym, ap}
+use Rattle.std.proofs.Common.{◌∙◌, subst, inl, inr, arith, rules}
 use Rattle.std.proofs.lemmas.Bool.{false≢true, true≢false, cases_Bool, or_cases, and_cases}
 use Rattle.std.proofs.lemmas.Bool.{not-false, MatchBool-at_true, MatchBool-at_false}
 use Rattle.std.specs.Option.{option_or}
 use Rattle.std.specs.List.{list_any}
-use Rattle.std.proofs.lemmas.Option.{none-some}
+use Rattle.std.proofs.lemmas.Grind.{common_steps}
+use Rattle.std.proofs.lemmas.Bool.Decides.{nat_tests}
 use Rattle.theory.specs.declared.accepted.Accepted.{Accepted}
-use Rattle.theory.specs.declared.accepted.Accepted.TheVariants.{Rup, Rat, Pr, Empty, Deleted}
-use Rattle.theory.specs.declared.accepted.Accepted.TheVariants.{Ignored}
+use Rattle.theory.specs.declared.accepted.Accepted.TheVariants.{Deleted}
 use Rattle.theory.specs.declared.refusal.Refusal.{Refusal}
-use Rattle.theory.specs.declared.refusal.Refusal.TheVariants.{IdOutOfOrder, UnknownId, NotUnit}
-use Rattle.theory.specs.declared.refusal.Refusal.TheVariants.{GroupWithoutConflict, NoConflict}
+use Rattle.theory.specs.declared.refusal.Refusal.TheVariants.{IdOutOfOrder}
+use Rattle.theory.specs.declared.refusal.Refusal.TheVariants.{GroupWithoutConflict}
 use Rattle.cnf_base.specs.Literals.{Literal, complement, Clause, has, complements, without}
 use Rattle.theory.specs.Propagation.{Live, Forced, Clash, HasRat, by_both}
 use Rattle.theory.specs.Answers.{StepAnswer}
-use Rattle.theory.specs.Lrat.{ChainEnd, conflict, open_with, unknown, not_unit, chain, Group}
+use Rattle.theory.specs.Lrat.{ChainEnd, conflict, chain, Group}
 use Rattle.theory.specs.Lrat.{LratState, add, with_candidate, chain_refusal, group_refusal}
 use Rattle.theory.specs.Lrat.{groups_refusal, is_unsettled, is_left_out, AnswersGroups}
 use Rattle.theory.specs.Lrat.{AnswersChain, AnswersLrat, answer_of}
@@ -32,14 +32,10 @@ use Rattle.theory.proofs.LratLemmas.Chains.{ChainMeans, chain_means}
 -- ---- Refusals in a row
 
 or_none : {A : Type 0} (a b : Option A) → option_or a b ≡ None → (a ≡ None) × (b ≡ None)
-or_none None b e = (refl, e)
-or_none (Some x) b e = absurd (none-some x (sym e))
+or_none a b h = search rules
 
 conflict_of_none : (r : Refusal) (end : ChainEnd) → chain_refusal r end ≡ None → end ≡ conflict
-conflict_of_none r conflict e = refl
-conflict_of_none r (open_with ls) e = absurd (none-some r (sym e))
-conflict_of_none r (unknown k) e = absurd (none-some (UnknownId k) (sym e))
-conflict_of_none r (not_unit k) e = absurd (none-some (NotUnit k) (sym e))
+conflict_of_none r end h = search rules
 
 -- ---- Groups
 
@@ -69,8 +65,7 @@ module _ (live : Live) (ls : List Literal) (pivot : Literal) where
       by_both w.0 (forced_assumed live _ w.0 w.1) (forced_assumed live _ (complement w.0) w.2)
 
   settled : (d : Clause) → has d (complement pivot) ≡ true → is_unsettled ls pivot (Some d) ≡ false → conflicts (with_candidate ls d pivot) ≡ true
-  settled d member h =
-      elim (and_cases (has d (complement pivot)) (not (conflicts (with_candidate ls d pivot))) h) [ inl e ↦ absurd (true≢false (sym member ∙ e)) | inr e ↦ not-false _ e ]
+  settled d member h = search rules
 
   candidate_clash : (groups : List Group) → groups_refusal live ls pivot [] groups ≡ None → ((k : ℕ) → is_left_out live ls pivot groups k ≡ false) → (k : ℕ) (d : Clause) → live k ≡ Some d → has d (complement pivot) ≡ true → Clash live (with_candidate ls d pivot)
   candidate_clash groups e none_left k d at member =
@@ -86,14 +81,19 @@ module _ (live : Live) (ls : List Literal) (pivot : Literal) where
 -- what follows from the candidate's start follows from the complements of both clauses
 resolvent_forced : (live : Live) (c d : Clause) (ls : List Literal) (pivot : Literal) → ((a : Literal) → has ls a ≡ true → Forced live (complements c) a) → (a : Literal) → has (with_candidate ls d pivot) a ≡ true → Forced live (complements (c ++ without d (complement pivot))) a
 resolvent_forced live c d ls pivot forced a member =
-    let rest = without d (complement pivot) in
-    elim (has_append_cases ls (complements rest) a member) [
-      | inl h ↦ forced_through live (complements c) (complements (c ++ rest)) (λ b m. forced_assumed live _ b (back (c ++ rest) b (has_append_left c rest (complement b) (complements_has c b m)))) a (forced a h)
-      | inr h ↦ forced_assumed live _ a (back (c ++ rest) a (has_append_right c rest (complement a) (complements_has rest a h)))
-    ]
-  where
-    back : (xs : List Literal) (b : Literal) → has xs (complement b) ≡ true → has (complements xs) b ≡ true
-    back xs b m = subst (λ x. has (complements xs) x ≡ true) (complement-complement b) (has-complements xs (complement b) m)
+    grind (
+      arith,
+      common_steps,
+      nat_tests,
+      has_append_cases,
+      forced_through,
+      forced_assumed,
+      has_append_left,
+      complements_has,
+      has_append_right,
+      complement-complement,
+      has-complements,
+    )
 
 rat_of_groups : (live : Live) (pivot : Literal) (rest ls : List Literal) (groups : List Group) → ((a : Literal) → has ls a ≡ true → Forced live (complements (pivot ∷ rest)) a) → groups_refusal live ls pivot [] groups ≡ None → ((k : ℕ) → is_left_out live ls pivot groups k ≡ false) → HasRat live (pivot ∷ rest) pivot
 rat_of_groups live pivot rest ls groups forced e none_left =
@@ -111,23 +111,11 @@ pub ok_err : (word : Accepted) (r : Refusal) → ◌≡◌ {A = StepAnswer} (Ok 
 ok_err word r e = cc
 
 groups_redundant : (live : Live) (pivot : Literal) (rest ls : List Literal) (groups : List Group) (word : Accepted) → ((a : Literal) → has ls a ≡ true → Forced live (complements (pivot ∷ rest)) a) → (refusal : Option Refusal) → groups_refusal live ls pivot [] groups ≡ refusal → AnswersGroups live ls pivot groups refusal (Ok word) → IsRedundant live (pivot ∷ rest) word
-groups_redundant live pivot rest ls groups word forced (Some r) e answer = absurd (ok_err word r answer)
-groups_redundant live pivot rest ls groups Rat forced None e answer = rat_of_groups live pivot rest ls groups forced e answer
-groups_redundant live pivot rest ls groups Rup forced None e answer = absurd answer
-groups_redundant live pivot rest ls groups Empty forced None e answer = absurd answer
-groups_redundant live pivot rest ls groups Pr forced None e answer = absurd answer
-groups_redundant live pivot rest ls groups Deleted forced None e answer = absurd answer
-groups_redundant live pivot rest ls groups Ignored forced None e answer = absurd answer
+groups_redundant live pivot rest ls groups word h refusal h2 h3 =
+    search (rules, ok_err, rat_of_groups)
 
 chain_redundant : (live : Live) (c : List Literal) (groups : List Group) (word : Accepted) (end : ChainEnd) → ChainMeans live (complements c) end → AnswersChain live c groups end (Ok word) → IsRedundant live c word
-chain_redundant live [] groups word conflict means answer = subst (IsRedundant live []) (sym (ok_is word Empty answer)) means
-chain_redundant live (l ∷ c) groups word conflict means answer = subst (IsRedundant live (l ∷ c)) (sym (ok_is word Rup answer)) means
-chain_redundant live [] groups word (unknown k) means answer = absurd (ok_err word (UnknownId k) answer)
-chain_redundant live (l ∷ c) groups word (unknown k) means answer = absurd (ok_err word (UnknownId k) answer)
-chain_redundant live [] groups word (not_unit k) means answer = absurd (ok_err word (NotUnit k) answer)
-chain_redundant live (l ∷ c) groups word (not_unit k) means answer = absurd (ok_err word (NotUnit k) answer)
-chain_redundant live [] groups word (open_with ls) means answer = absurd (ok_err word NoConflict answer)
-chain_redundant live (pivot ∷ rest) groups word (open_with ls) means answer = groups_redundant live pivot rest ls groups word means (groups_refusal live ls pivot [] groups) refl answer
+chain_redundant live c groups word end h h2 = search (rules, ok_is, ok_err, groups_redundant)
 
 -- an addition that is accepted has RUP, or RAT on its first literal
 pub lrat_redundant : (state : LratState) (id : ℕ) (c : List Literal) (units : List ℕ) (groups : List Group) (word : Accepted) → AnswersLrat state (add id c units groups) (Ok word) → IsRedundant state.live c word
@@ -138,5 +126,4 @@ lrat_redundant state id c units groups word answer =
     ]
 
 pub deletion_word : (refusal : Option Refusal) (word : Accepted) → ◌≡◌ {A = StepAnswer} (Ok word) (answer_of refusal) → word ≡ Deleted
-deletion_word None word e = ok_is word Deleted e
-deletion_word (Some r) word e = absurd (ok_err word r e)
+deletion_word refusal word h = search rules

@@ -1,7 +1,7 @@
 -- Sums of sizes over identifiers.
 use Rattle.std.proofs.Common.{◌≡◌, ◌≢◌, ℕ, zero, suc, ◌+◌, ◌<◌}
 use Rattle.std.proofs.Common.{◌≤◌, cond, ne_eqb, eq-eqb, Some, None, refl}
-use Rattle.std.proofs.Common.{sym, ap, ◌∙◌, arith, inl, inr}
+use Rattle.std.proofs.Common.{sym, ap, ◌∙◌, arith, inl, inr, rules}
 use Rattle.std.proofs.lemmas.Bool.{cases_lt, cases_eq}
 use Rattle.cnf_base.specs.Literals.{Clause, size}
 use Rattle.theory.specs.Propagation.{Live}
@@ -11,8 +11,7 @@ use Rattle.theory.specs.Sizes.{size_at, sum_to}
 pub sum_agree : (n : ℕ) (f g : ℕ → ℕ) → ((k : ℕ) → 1 ≤ k → k ≤ n → f k ≡ g k) → sum_to n f ≡ sum_to n g
 sum_agree zero f g same = refl
 sum_agree (suc n) f g same =
-    let here : f (suc n) ≡ g (suc n) = same (suc n) (omega arith) (omega arith) in
-    ap (λ s. s + f (suc n)) (sum_agree n f g (λ k low high. same k low (omega arith))) ∙ ap (λ x. sum_to n g + x) here
+    search (rules, (sum_agree n f g (λ k low high. same k low (omega arith))))
 
 -- nothing above `top` counts
 pub sum_above : (top n : ℕ) (f : ℕ → ℕ) → top ≤ n → ((k : ℕ) → top < k → f k ≡ 0) → sum_to n f ≡ sum_to top f

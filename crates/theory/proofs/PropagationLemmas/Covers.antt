@@ -1,6 +1,6 @@
 -- What follows depends only on which sets of literals are clauses.
-use Rattle.std.proofs.Common.{◌≡◌, ◌≢◌, ℕ, Bool, true, Some, List, [], ap, ◌∙◌}
-use Rattle.cnf_base.specs.Literals.{Literal, complement, Clause, has, same_clause}
+use Rattle.std.proofs.Common.{◌≡◌, ℕ, Bool, true, Some, List, [], ap, ◌∙◌, rules}
+use Rattle.cnf_base.specs.Literals.{Literal, complement, Clause, same_clause}
 use Rattle.cnf_base.proofs.SetLemmas.{same_there, same_back, same_empty}
 use Rattle.theory.specs.Propagation.{Live, IsClosed, Forced, Clash, IsRootReason, by_empty, by_both}
 
@@ -10,12 +10,7 @@ Covers first second = (k : ℕ) (c : Clause) → first k ≡ Some c → (j : ℕ
 
 module _ (first second : Live) (covers : Covers first second) where
   closed_covers : (passes : Literal → Bool) → IsClosed second passes → IsClosed first passes
-  closed_covers passes closed = record { unit = go }
-    where
-      go : (k : ℕ) (c : Clause) → first k ≡ Some c → (m : Literal) → has c m ≡ true → ((l : Literal) → has c l ≡ true → l ≢ m → passes (complement l) ≡ true) → passes m ≡ true
-      go k c at m member others =
-          let w = covers k c at in
-          closed.unit w.0 w.1 w.2 m (same_there c w.1 w.3 m member) (λ l inside ne. others l (same_back c w.1 w.3 l inside) ne)
+  closed_covers passes closed = search (rules, same_there, same_back)
 
   pub forced_covers : (assumed : List Literal) (l : Literal) → Forced first assumed l → Forced second assumed l
   forced_covers assumed l forced = record { in_each = λ passes closed start. forced.in_each passes (closed_covers passes closed) start }
@@ -27,9 +22,4 @@ module _ (first second : Live) (covers : Covers first second) where
       by_both l (forced_covers assumed l f) (forced_covers assumed (complement l) g)
 
   pub reason_covers : (c d : Clause) → same_clause c d ≡ true → IsRootReason first c → IsRootReason second d
-  reason_covers c d same r = record {
-    literal = r.literal;
-    member = same_there c d same r.literal r.member;
-    forced = forced_covers [] r.literal r.forced;
-    others = λ k h ne. forced_covers [] (complement k) (r.others k (same_back c d same k h) ne);
-  }
+  reason_covers c d same r = search (rules, same_there, forced_covers, same_back)

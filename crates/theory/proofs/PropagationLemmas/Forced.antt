@@ -1,5 +1,5 @@
 -- Forced literals: the least set, its growth with what is assumed, and one clause's rule.
-use Rattle.std.proofs.Common.{◌≡◌, ◌≢◌, ℕ, true, Some, List, [], ◌∷◌}
+use Rattle.std.proofs.Common.{◌≡◌, ◌≢◌, ℕ, true, Some, List, [], ◌∷◌, rules}
 use Rattle.cnf_base.specs.Literals.{Literal, complement, Clause, has}
 use Rattle.cnf_base.proofs.SetLemmas.{has_head}
 use Rattle.theory.specs.Propagation.{Live, Forced, Clash, by_empty, by_both}
@@ -11,8 +11,7 @@ module _ (live : Live) (assumed : List Literal) where
 
   -- the forced literals are closed under the unit rule
   pub forced_unit : (k : ℕ) (c : Clause) → live k ≡ Some c → (m : Literal) → has c m ≡ true → ((l : Literal) → has c l ≡ true → l ≢ m → Forced live assumed (complement l)) → Forced live assumed m
-  forced_unit k c at m member others =
-      record { in_each = λ passes closed start. closed.unit k c at m member (λ l in_c ne. (others l in_c ne).in_each passes closed start) }
+  forced_unit k c at m member others = search rules
 
   -- a clause whose literals are all forced to be false
   pub clash_by_false : (k : ℕ) (c : Clause) → live k ≡ Some c → ((l : Literal) → has c l ≡ true → Forced live assumed (complement l)) → Clash live assumed
@@ -23,8 +22,7 @@ module _ (live : Live) (assumed : List Literal) where
 -- what is assumed may itself be forced
 module _ (live : Live) (first second : List Literal) (each : (a : Literal) → has first a ≡ true → Forced live second a) where
   pub forced_through : (l : Literal) → Forced live first l → Forced live second l
-  forced_through l forced =
-      record { in_each = λ passes closed start. forced.in_each passes closed (λ a member. (each a member).in_each passes closed start) }
+  forced_through l forced = search rules
 
   pub clash_through : Clash live first → Clash live second
   clash_through (by_empty k at) = by_empty k at

@@ -1,6 +1,6 @@
 -- How many literals are not found yet.
 use Rattle.std.proofs.Common.{◌≡◌, ℕ, ◌+◌, ◌<◌, ◌≤◌, Bool, true, false, not}
-use Rattle.std.proofs.Common.{cond, List, [], ◌∷◌, refl, ap, ◌∙◌, arith, inl, inr}
+use Rattle.std.proofs.Common.{cond, List, [], ◌∷◌, ap, ◌∙◌, arith, inl, inr, rules}
 use Rattle.std.proofs.lemmas.Bool.{false≢true}
 use Rattle.std.proofs.lemmas.List.Sums.{sum_by-cons}
 use Rattle.cnf_base.specs.Literals.{Literal, has}
@@ -9,10 +9,7 @@ use Rattle.theory.specs.Code.Sets.{lacking}
 
 module _ (first second : List Literal) (grows : (l : Literal) → has first l ≡ true → has second l ≡ true) where
   weight_le : (a b : Bool) → (a ≡ true → b ≡ true) → cond {A = ℕ} (not b) 1 0 ≤ cond (not a) 1 0
-  weight_le true true keeps = omega arith
-  weight_le true false keeps = absurd (false≢true (keeps refl))
-  weight_le false true keeps = omega arith
-  weight_le false false keeps = omega arith
+  weight_le a b h = search rules
 
   lacking-cons : (found : List Literal) (l : Literal) (ls : List Literal) → lacking found (l ∷ ls) ≡ cond (not (has found l)) 1 0 + lacking found ls
   lacking-cons found l ls = sum_by-cons (λ k. cond (not (has found k)) 1 0) l ls

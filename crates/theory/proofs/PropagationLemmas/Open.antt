@@ -1,6 +1,6 @@
 -- The literals of a clause that are not false.
-use Rattle.std.proofs.Common.{◌≡◌, true, false, not, eqb, eqb-true, eq-eqb, List}
-use Rattle.std.proofs.Common.{◌∷◌, sym, ap, ◌∙◌, inl, inr, ◌⊎◌}
+use Rattle.std.proofs.Common.{◌≡◌, true, false, eqb, eqb-true, eq-eqb, List}
+use Rattle.std.proofs.Common.{◌∷◌, sym, ◌∙◌, ◌⊎◌, rules}
 use Rattle.std.specs.List.{list_all}
 use Rattle.std.proofs.lemmas.Bool.{cases_Bool, not-true}
 use Rattle.cnf_base.specs.Literals.{Literal, complement, Clause, has}
@@ -18,10 +18,7 @@ IsAlone ls m = (has ls m ≡ true) × AreAll ls m
 
 module _ (k : Literal) (ls : List Literal) where
   pub first_alone : list_all (λ l. eqb l k) ls ≡ true → IsAlone (k ∷ ls) k
-  first_alone t = (
-    has_head k ls,
-    λ l h. elim (has_cases k ls l h) [ inl e ↦ sym e | inr g ↦ eqb-true l k (all_each (λ l. eqb l k) ls l t g) ],
-  )
+  first_alone t = search (rules, has_head, has_cases, eqb-true, all_each)
 
   pub alone_first : (m : Literal) → AreAll (k ∷ ls) m → list_all (λ l. eqb l k) ls ≡ true
   alone_first m same =
@@ -29,14 +26,8 @@ module _ (k : Literal) (ls : List Literal) where
 
 module _ (ls : List Literal) (c : Clause) where
   pub open_has : (l : Literal) → has (open_literals ls c) l ≡ true → (has c l ≡ true) × (has ls (complement l) ≡ false)
-  open_has l h =
-      let w = filter_has (λ l. not (has ls (complement l))) c l h in
-      (w.0, not-true (has ls (complement l)) w.1)
+  open_has l h = search (rules, filter_has, not-true)
 
   -- a literal of the clause is not false, or its complement is in the list
   pub open_cases : (l : Literal) → has c l ≡ true → (has (open_literals ls c) l ≡ true) ⊎ (has ls (complement l) ≡ true)
-  open_cases l member =
-      elim (cases_Bool (has ls (complement l))) [
-        | inl e ↦ inr e
-        | inr e ↦ inl (has-filter (λ l. not (has ls (complement l))) c l member (ap not e))
-      ]
+  open_cases l member = search (rules, cases_Bool, has-filter)

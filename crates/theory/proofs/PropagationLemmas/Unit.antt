@@ -1,6 +1,6 @@
 -- The unit rule by the literals of clauses that are not false: what follows, and where nothing more does.
 use Rattle.std.proofs.Common.{◌≡◌, ℕ, true, false, Some, List, [], sym, ap}
-use Rattle.std.proofs.Common.{◌∙◌, inl, inr}
+use Rattle.std.proofs.Common.{◌∙◌, inl, inr, rules}
 use Rattle.std.proofs.lemmas.Bool.{false≢true, true≢false, cases_eq}
 use Rattle.cnf_base.specs.Literals.{Literal, complement, Clause, has}
 use Rattle.theory.specs.Code.Propagation.{OthersFail, IsClosedAt}
@@ -26,18 +26,10 @@ module _ (ls : List Literal) (c : Clause) where
 
   -- where one alone is not false, it follows
   pub one_left_follows : (m : Literal) → IsAlone (open_literals ls c) m → (has c m ≡ true) × OthersFail (has ls) c m
-  one_left_follows m only = (
-    (open_has ls c m only.0).0,
-    λ l member ne. elim (open_cases ls c l member) [ inl h ↦ absurd (ne (only.1 l h)) | inr h ↦ h ],
-  )
+  one_left_follows m only = search (rules, open_has, open_cases)
 
   open_is : (m : Literal) → OthersFail (has ls) c m → AreAll (open_literals ls c) m
-  open_is m others l h =
-      let w = open_has ls c l h in
-      elim (cases_eq l m) [
-        | inl e ↦ e
-        | inr ne ↦ absurd (true≢false (sym (others l w.0 ne) ∙ w.1))
-      ]
+  open_is m others l h = search (rules, open_has, cases_eq, true≢false)
 
   -- a true literal keeps the unit rule, and so do two different ones that are not false
   pub true_closes : (l : Literal) → has (open_literals ls c) l ≡ true → has ls l ≡ true → IsClosedAt (has ls) c
@@ -54,12 +46,10 @@ module _ (live : Live) (assumed : List Literal) where
 
   module _ (ls : List Literal) (forced : (a : Literal) → has ls a ≡ true → Forced live assumed a) (k : ℕ) (c : Clause) (at : live k ≡ Some c) where
     pub left_is_forced : (m : Literal) → IsAlone (open_literals ls c) m → Forced live assumed m
-    left_is_forced m only =
-        let w = one_left_follows ls c m only in
-        forced_unit live assumed k c at m w.0 (λ l member ne. forced (complement l) (w.1 l member ne))
+    left_is_forced m only = search (rules, one_left_follows, forced_unit)
 
     pub none_left_clashes : open_literals ls c ≡ [] → Clash live assumed
-    none_left_clashes e = clash_by_false live assumed k c at (λ l member. forced (complement l) (none_open ls c e l member))
+    none_left_clashes e = search (rules, clash_by_false, none_open)
 
 -- ---- Where nothing more follows
 
@@ -68,4 +58,4 @@ pub closed_quiet : (live : Live) (ls : List Literal) → IsClosed live (has ls) 
     (assumed : List Literal) → ((a : Literal) → has assumed a ≡ true → has ls a ≡ true) → conflicts ls ≡ false → Clash live assumed → ⊥
 closed_quiet live ls closed no_empty assumed start quiet (by_empty k at) = no_empty k at
 closed_quiet live ls closed no_empty assumed start quiet (by_both l f g) =
-    true≢false (sym (conflict_from ls l (f.in_each (has ls) closed start) (g.in_each (has ls) closed start)) ∙ quiet)
+    search (rules, true≢false, conflict_from)

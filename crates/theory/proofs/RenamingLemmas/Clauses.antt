@@ -1,11 +1,12 @@
 -- Clauses under a map of literals that another map undoes.
-use Rattle.std.proofs.Common.{◌≡◌, ℕ, zero, suc, take, drop, Bool, true, false, not, ◌&&◌, ◌||◌, cond, eqb, List, [], ◌∷◌}
-use Rattle.std.proofs.Common.{◌++◌, map, filter, refl, sym, ap, ◌∙◌, subst, inl, inr, eqb-true, eq-eqb}
+use Rattle.std.proofs.Common.{◌≡◌, ℕ, zero, suc, take, drop, Bool, true, eqb, List, [], ◌∷◌}
+use Rattle.std.proofs.Common.{◌++◌, map, filter, refl, sym, ap, ◌∙◌, subst, inl, inr}
 use Rattle.std.proofs.lemmas.Bool.{false≢true}
 use Rattle.std.specs.List.{list_any, list_all}
+use Rattle.std.proofs.Common.{rules}
 use Rattle.cnf_base.specs.Literals.{Literal, complement, Clause, has, complements, without}
 use Rattle.cnf_base.specs.Literals.{same_clause}
-use Rattle.cnf_base.proofs.SetLemmas.{both_pass, has_head, has_tail, has_cases, filter_has}
+use Rattle.cnf_base.proofs.SetLemmas.{has_head, has_tail, has_cases, filter_has}
 use Rattle.cnf_base.proofs.SetLemmas.{has_append_cases}
 use Rattle.theory.specs.Propagation.{open_literals}
 use Rattle.theory.specs.Sets.{conflicts}
@@ -34,22 +35,17 @@ module _ (f : Literal → Literal) where
     pub filter_mapped : (c : Clause) → ((l : Literal) → has c l ≡ true → q (f l) ≡ p l) → filter q (map f c) ≡ map f (filter p c)
     filter_mapped [] agree = refl
     filter_mapped (k ∷ c) agree =
-        ap (λ b. cond b (f k ∷ filter q (map f c)) (filter q (map f c))) (agree k (has_head k c))
-        ∙ by (p k) (filter_mapped c (λ l h. agree l (has_tail k c l h)))
-      where
-        by : (b : Bool) → filter q (map f c) ≡ map f (filter p c) → cond b (f k ∷ filter q (map f c)) (filter q (map f c)) ≡ map f (cond b (k ∷ filter p c) (filter p c))
-        by true e = ap (λ ls. f k ∷ ls) e
-        by false e = e
+        search (rules, has_head, has_tail, (filter_mapped c (λ l h. agree l (has_tail k c l h))))
 
     pub any_mapped : (c : Clause) → ((l : Literal) → has c l ≡ true → q (f l) ≡ p l) → list_any q (map f c) ≡ list_any p c
     any_mapped [] agree = refl
     any_mapped (k ∷ c) agree =
-        ap (λ b. b || list_any q (map f c)) (agree k (has_head k c)) ∙ ap (λ b. p k || b) (any_mapped c (λ l h. agree l (has_tail k c l h)))
+        search (rules, has_head, has_tail, (any_mapped c (λ l h. agree l (has_tail k c l h))))
 
     pub all_mapped : (c : Clause) → ((l : Literal) → has c l ≡ true → q (f l) ≡ p l) → list_all q (map f c) ≡ list_all p c
     all_mapped [] agree = refl
     all_mapped (k ∷ c) agree =
-        ap (λ b. b && list_all q (map f c)) (agree k (has_head k c)) ∙ ap (λ b. p k && b) (all_mapped c (λ l h. agree l (has_tail k c l h)))
+        search (rules, has_head, has_tail, (all_mapped c (λ l h. agree l (has_tail k c l h))))
 
 -- One map undoes the other on these literals. Complements go to complements.
 pub record Renames (there back : Literal → Literal) (among : Literal → Type 0) : Type 0 where
@@ -62,23 +58,17 @@ abbrev pub GoesTo : (Literal → Literal) → (Literal → Type 0) → Literal �
 GoesTo there among m = (l : Literal) × among l × (there l ≡ m)
 
 pub reversed : (there back : Literal → Literal) (among : Literal → Type 0) → Renames there back among → ((l : Literal) → complement (back l) ≡ back (complement l)) → Renames back there (GoesTo there among)
-reversed there back among r commutes = record {
-  commutes = commutes;
-  opposite = λ m w. (complement w.0, r.opposite w.0 w.1, sym (r.commutes w.0) ∙ ap complement w.2);
-  undone = λ m w. subst (λ x. there (back x) ≡ x) w.2 (ap there (r.undone w.0 w.1));
-}
+reversed there back among r commutes = search rules
 
 module _ (there back : Literal → Literal) (among : Literal → Type 0) (r : Renames there back among) where
   pub apart : (k l : Literal) → among k → among l → there k ≡ there l → k ≡ l
   apart k l a b e = sym (r.undone k a) ∙ ap back e ∙ r.undone l b
 
   pub equal_is : (k l : Literal) → among k → among l → eqb (there k) (there l) ≡ eqb k l
-  equal_is k l a b =
-      both_pass (eqb (there k) (there l)) (eqb k l) (λ h. eq-eqb k l (apart k l a b (eqb-true (there k) (there l) h)))
-      (λ h. eq-eqb (there k) (there l) (ap there (eqb-true k l h)))
+  equal_is k l a b = search rules
 
   pub has_is : (c : Clause) → AreAmong among c → (l : Literal) → among l → has (map there c) (there l) ≡ has c l
-  has_is c within l a = any_mapped there (λ k. eqb k l) (λ k. eqb k (there l)) c (λ k h. equal_is k l (within k h) a)
+  has_is c within l a = search (rules, any_mapped, equal_is)
 
   pub back_there : (c : Clause) → AreAmong among c → map back (map there c) ≡ c
   back_there [] within = refl
@@ -92,35 +82,31 @@ module _ (there back : Literal → Literal) (among : Literal → Type 0) (r : Re
   mapped_among c within m h = let w = mapped_has there c m h in (w.0, within w.0 w.1, w.2)
 
   pub without_mapped : (c : Clause) → AreAmong among c → (x : Literal) → among x → without (map there c) (there x) ≡ map there (without c x)
-  without_mapped c within x a = filter_mapped there (λ k. not (eqb k x)) (λ k. not (eqb k (there x))) c (λ k h. ap not (equal_is k x (within k h) a))
+  without_mapped c within x a = search (rules, filter_mapped, equal_is)
 
   -- whether a list has a literal's complement
   pub has_opposite : (ls : List Literal) → AreAmong among ls → (l : Literal) → among l → has (map there ls) (complement (there l)) ≡ has ls (complement l)
-  has_opposite ls within l a = ap (has (map there ls)) (r.commutes l) ∙ has_is ls within (complement l) (r.opposite l a)
+  has_opposite ls within l a = search (rules, has_is)
 
   pub open_mapped : (ls : List Literal) (c : Clause) → AreAmong among ls → AreAmong among c → open_literals (map there ls) (map there c) ≡ map there (open_literals ls c)
-  open_mapped ls c ls_within within =
-      filter_mapped there (λ l. not (has ls (complement l))) (λ l. not (has (map there ls) (complement l))) c (λ l h. ap not (has_opposite ls ls_within l (within l h)))
+  open_mapped ls c ls_within within = search (rules, filter_mapped, has_opposite)
 
   pub conflicts_mapped : (ls : List Literal) → AreAmong among ls → conflicts (map there ls) ≡ conflicts ls
-  conflicts_mapped ls within =
-      any_mapped there (λ l. has ls (complement l)) (λ l. has (map there ls) (complement l)) ls (λ l h. has_opposite ls within l (within l h))
+  conflicts_mapped ls within = search (rules, any_mapped, has_opposite)
 
   pub same_mapped : (c d : Clause) → AreAmong among c → AreAmong among d → same_clause (map there c) (map there d) ≡ same_clause c d
-  same_mapped c d c_within d_within =
-      ap (λ b. b && list_all (has (map there c)) (map there d)) (all_mapped there (has d) (has (map there d)) c (λ l h. has_is d d_within l (c_within l h)))
-      ∙ ap (λ b. list_all (has d) c && b) (all_mapped there (has c) (has (map there c)) d (λ l h. has_is c c_within l (d_within l h)))
+  same_mapped c d c_within d_within = search (rules, all_mapped, has_is)
 
   -- ---- What is among these
 
   pub complements_among : (c : Clause) → AreAmong among c → AreAmong among (complements c)
-  complements_among c within m h = let w = mapped_has complement c m h in subst among w.2 (r.opposite w.0 (within w.0 w.1))
+  complements_among c within m h = search (rules, mapped_has)
 
   pub filter_among : (p : Literal → Bool) (c : Clause) → AreAmong among c → AreAmong among (filter p c)
   filter_among p c within l h = within l (filter_has p c l h).0
 
   pub append_among : (c d : Clause) → AreAmong among c → AreAmong among d → AreAmong among (c ++ d)
-  append_among c d c_within d_within l h = elim (has_append_cases c d l h) [ inl a ↦ c_within l a | inr b ↦ d_within l b ]
+  append_among c d c_within d_within l h = search (rules, has_append_cases)
 
 pub take_has : (n : ℕ) (c : List Literal) (l : Literal) → has (take n c) l ≡ true → has c l ≡ true
 take_has zero c l h = absurd (false≢true h)

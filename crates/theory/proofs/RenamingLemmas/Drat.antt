@@ -1,15 +1,15 @@
 -- The rule of DRAT under other names.
 use Rattle.std.proofs.Common.{◌≡◌, ℕ, zero, suc, ◌+◌, Bool, true, false, not, ◌||◌, cond, eqb}
-use Rattle.std.proofs.Common.{Option, Some, None, option_map, Ok, Err, List, [], ◌∷◌, map, length}
-use Rattle.std.proofs.Common.{slice_get, refl, sym, ap, ◌∙◌, subst, inl, inr, take, drop}
+use Rattle.std.proofs.Common.{Option, Some, option_map, Ok, Err, List, [], ◌∷◌, map, length}
+use Rattle.std.proofs.Common.{slice_get, refl, sym, ap, ◌∙◌, subst, inl, inr, take, drop, arith}
 use Rattle.std.specs.List.{list_any, take-map, drop-map, prefix_len}
 use Rattle.std.proofs.lemmas.List.{length-map}
 use Rattle.std.proofs.lemmas.Option.{none-some, same_Some, slice_get-map}
+use Rattle.std.proofs.Common.{rules}
 use Rattle.cnf_base.specs.Literals.{Literal, complement, Clause, same_clause}
 use Rattle.cnf_base.proofs.SetLemmas.{has_head, has_tail}
 use Rattle.proofs.specs.Steps.{clause_part, witness_part}
 use Rattle.proofs.specs.declared.step_buf.StepKind.{StepKind}
-use Rattle.proofs.specs.declared.step_buf.StepKind.TheVariants as kinds
 use Rattle.theory.specs.declared.accepted.Accepted.{Accepted}
 use Rattle.theory.specs.declared.accepted.Accepted.TheVariants.{Rup, Rat, Pr, Empty, Deleted}
 use Rattle.theory.specs.declared.accepted.Accepted.TheVariants.{Ignored}
@@ -39,8 +39,7 @@ IsOf among (delete c) = AreAmong among c
 
 module _ (there back : Literal → Literal) (among : Literal → Type 0) (r : Renames there back among) (commutes : (l : Literal) → complement (back l) ≡ back (complement l)) where
   image_back : (o : Option Clause) → ((c : Clause) → o ≡ Some c → AreAmong among c) → (d : Clause) → option_map (map there) o ≡ Some d → o ≡ Some (map back d)
-  image_back None within d at = absurd (none-some d at)
-  image_back (Some c) within d at = ap Some (sym (back_there there back among r c (within c refl)) ∙ ap (map back) (same_Some (map there c) d at))
+  image_back o h d h2 = search (rules, none-some, back_there, same_Some)
 
   -- live clauses of which each is mapped
   pub carried : (live other : Live) → ((k : ℕ) → other k ≡ option_map (map there) (live k)) → ((k : ℕ) (c : Clause) → live k ≡ Some c → AreAmong among c) → Carries there back among live other
@@ -104,7 +103,7 @@ module _ (there back : Literal → Literal) (among : Literal → Type 0) (r : Re
 
     witness_mapped : (c witness : List Literal) (answer : StepAnswer) → AreAmong among c → AreAmong among witness → AnswersWithWitness (slice_get live) c witness answer →
         AnswersWithWitness (slice_get other) (map there c) (map there witness) (answer_renamed there answer)
-    witness_mapped c witness (Err InconsistentSet) cw ww a = conflicts_mapped there back among r witness ww ∙ a
+    witness_mapped c witness (Err InconsistentSet) cw ww a = search (rules, conflicts_mapped)
     witness_mapped c witness (Ok Rup) cw ww a = (conflicts_mapped there back among r witness ww ∙ a.0, rup_there c a.1)
     witness_mapped c witness (Ok Pr) cw ww a =
         (conflicts_mapped there back among r witness ww ∙ a.0, λ b. a.1 (rup_again c cw b), pr_image there back among (slice_get live) (slice_get other) listed c witness ww a.2)
@@ -115,14 +114,13 @@ module _ (there back : Literal → Literal) (among : Literal → Type 0) (r : Re
 
     listed_mapped : (c witness : List Literal) (answer : StepAnswer) → AreAmong among c → AreAmong among witness → AnswersListed (slice_get live) c witness answer →
         AnswersListed (slice_get other) (map there c) (map there witness) (answer_renamed there answer)
-    listed_mapped c [] answer cw ww a = add_mapped c answer cw a
-    listed_mapped c (l ∷ witness) answer cw ww a = witness_mapped c (l ∷ witness) answer cw ww a
+    listed_mapped c witness answer h h2 h3 = search (rules, add_mapped, witness_mapped)
 
     kept_there : (rules : DratRules) (c : Clause) → IsKeptUnit rules live c → IsKeptUnit rules other (map there c)
-    kept_there rules c kept = (kept.0, reason_image there back among (slice_get live) (slice_get other) listed c kept.1)
+    kept_there rules c kept = search (rules, reason_image, slice_get, listed)
 
     kept_again : (rules : DratRules) (c : Clause) → AreAmong among c → IsKeptUnit rules other (map there c) → IsKeptUnit rules live c
-    kept_again rules c w kept = (kept.0, reason_back (slice_get live) (slice_get other) listed c w kept.1)
+    kept_again rules c w kept = search (rules, reason_back, slice_get, listed)
 
   alive_mapped : (live : List Clause) (c : Clause) → ((k : ℕ) (d : Clause) → slice_get live k ≡ Some d → AreAmong among d) → AreAmong among c →
       list_any (same_clause (map there c)) (map (map there) live) ≡ list_any (same_clause c) live
@@ -143,7 +141,7 @@ module _ (there back : Literal → Literal) (among : Literal → Type 0) (r : Re
     delete_mapped rules c (Err _) w a = absurd a
 
     pub drat_answers_mapped : (rules : DratRules) (step : DratStep) (answer : StepAnswer) → IsOf among step → AnswersDrat rules live step answer → AnswersDrat rules (map (map there) live) (drat_mapped there step) (answer_renamed there answer)
-    drat_answers_mapped rules (add c witness) answer w a = listed_mapped live within c witness answer w.0 w.1 a
+    drat_answers_mapped rules (add c witness) answer w a = search (rules, listed_mapped)
     drat_answers_mapped rules (delete c) answer w a = delete_mapped rules c answer w a
 
   -- ---- What is alive after a step
@@ -162,13 +160,7 @@ module _ (there back : Literal → Literal) (among : Literal → Type 0) (r : Re
 
   pub after_mapped : (live : List Clause) (step : DratStep) (word : Accepted) → ((k : ℕ) (d : Clause) → slice_get live k ≡ Some d → AreAmong among d) → IsOf among step →
       after_drat (map (map there) live) (drat_mapped there step) word ≡ map (map there) (after_drat live step word)
-  after_mapped live (add c witness) word within w = refl
-  after_mapped live (delete c) Ignored within w = refl
-  after_mapped live (delete c) Deleted within w = take_off_mapped live c within w
-  after_mapped live (delete c) Rup within w = take_off_mapped live c within w
-  after_mapped live (delete c) Rat within w = take_off_mapped live c within w
-  after_mapped live (delete c) Pr within w = take_off_mapped live c within w
-  after_mapped live (delete c) Empty within w = take_off_mapped live c within w
+  after_mapped live step word h h2 = search (rules, take_off_mapped)
 
   -- ---- The parts of an addition
 
@@ -192,9 +184,7 @@ module _ (there back : Literal → Literal) (among : Literal → Type 0) (r : Re
       ∙ drop-map there (length (clause_part lits)) lits
 
   addition_mapped : (pr : Bool) (lits : List Literal) → AreAmong among lits → addition_of pr (map there lits) ≡ drat_mapped there (addition_of pr lits)
-  addition_mapped true lits w = λ i. add (clause_part_mapped lits w i) (witness_part_mapped lits w i)
-  addition_mapped false lits w = refl
+  addition_mapped pr lits h = search (rules, clause_part_mapped, witness_part_mapped)
 
   pub drat_step_mapped : (rules : DratRules) (kind : StepKind) (lits : List Literal) → AreAmong among lits → drat_step_of rules kind (map there lits) ≡ drat_mapped there (drat_step_of rules kind lits)
-  drat_step_mapped rules kinds.Add lits w = addition_mapped rules.pr lits w
-  drat_step_mapped rules kinds.Delete lits w = refl
+  drat_step_mapped rules kind lits h = grind (arith, addition_mapped)

@@ -1,7 +1,6 @@
 -- What is forced under other names, and the clauses that are redundant.
 use Rattle.std.proofs.Common.{◌≡◌, ◌≢◌, ℕ, Bool, true, false, Some, List, [], ◌∷◌, ◌++◌}
-use Rattle.std.proofs.Common.{map, refl, sym, ap, ◌∙◌, subst, inl, inr, ◌⊎◌}
-use Rattle.std.proofs.lemmas.Option.{same_Some}
+use Rattle.std.proofs.Common.{map, refl, sym, ap, ◌∙◌, subst, inl, inr, ◌⊎◌, rules}
 use Rattle.std.proofs.lemmas.List.{map-append}
 use Rattle.cnf_base.specs.Literals.{Literal, complement, Clause, has, complements, without}
 use Rattle.theory.specs.Propagation.{Live, IsClosed, Forced, Clash, by_empty, by_both, open_literals}
@@ -52,7 +51,7 @@ pub record Carries (there back : Literal → Literal) (among : Literal → Type 
 module _ (there back : Literal → Literal) (among : Literal → Type 0) (live other : Live) (s : Carries there back among live other) where
   -- a clause of the other is an image
   pub is_image : (k : ℕ) (d : Clause) → other k ≡ Some d → d ≡ map there (map back d)
-  is_image k d at = same_Some d (map there (map back d)) (sym at ∙ s.images k (map back d) (s.images_back k d at))
+  is_image k d at = search rules
 
   pub carries_back : ((l : Literal) → complement (back l) ≡ back (complement l)) → Carries back there (GoesTo there among) other live
   carries_back commutes = record {

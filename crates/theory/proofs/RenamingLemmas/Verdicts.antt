@@ -1,33 +1,29 @@
 -- States, steps and proofs under other names.
-use Rattle.std.proofs.Common.{◌≡◌, ℕ, zero, suc, ◌+◌, ◌*◌, ◌%◌, Bool, true, false, ◌||◌, cond, eqb}
-use Rattle.std.proofs.Common.{Some, None, Ok, Err, List, [], ◌∷◌, map, slice_get, length}
-use Rattle.std.proofs.Common.{refl, sym, ap, ◌∙◌, subst, arith, not}
+use Rattle.std.proofs.Common.{◌≡◌, ℕ, zero, suc, ◌+◌, ◌*◌, ◌%◌, Bool, true, false, cond, eqb}
+use Rattle.std.proofs.Common.{Some, None, Ok, Err, List, [], ◌∷◌, map, slice_get}
+use Rattle.std.proofs.Common.{refl, sym, ap, ◌∙◌, subst, arith, rules}
 use Rattle.std.specs.Bool.{MatchBool}
-use Rattle.std.specs.List.{list_any, prefix_len}
+use Rattle.std.specs.List.{list_any}
 use Rattle.std.specs.Prelude.{nat_abs}
 use Rattle.std.proofs.lemmas.Bool.{false≢true}
-use Rattle.std.proofs.lemmas.Bool.Decides.{nat_tests}
 use Rattle.std.proofs.lemmas.List.{length-map}
-use Rattle.std.proofs.lemmas.Option.{none-some, same_Some, slice_get-map}
+use Rattle.std.proofs.lemmas.Option.{none-some, slice_get-map}
 use Rattle.cnf_base.specs.Literals.{Literal, complement, Clause, variable, same_clause}
 use Rattle.cnf_base.proofs.MemberLemmas.{variable-complement}
 use Rattle.proofs.specs.Steps.{Step, clause_part}
 use Rattle.proofs.specs.declared.step_buf.StepKind.{StepKind}
 use Rattle.proofs.specs.declared.step_buf.StepKind.TheVariants as kinds
 use Rattle.theory.specs.declared.accepted.Accepted.{Accepted}
-use Rattle.theory.specs.declared.accepted.Accepted.TheVariants.{Rup, Rat, Pr, Empty, Deleted}
-use Rattle.theory.specs.declared.accepted.Accepted.TheVariants.{Ignored}
 use Rattle.theory.specs.declared.drat_rules.DratRules.{DratRules}
 use Rattle.theory.specs.Answers.{StepAnswer}
 use Rattle.theory.specs.Propagation.{Live}
-use Rattle.theory.specs.Drat as d
-use Rattle.theory.specs.Drat.{DratStep, AnswersDrat, drat_step, drat_step_of, take_off, after_drat}
+use Rattle.theory.specs.Drat.{DratStep, AnswersDrat, drat_step_of, take_off, after_drat}
 use Rattle.theory.specs.Lrat.{AnswersLrat, step_of, with_clause, without_id}
-use Rattle.theory.specs.Lrat.{without_ids, numbered, after_lrat}
-use Rattle.theory.specs.Rules.{Rule, lrat, drat, State, by_ids, by_copies, start, Answers, after}
+use Rattle.theory.specs.Lrat.{without_ids, after_lrat}
+use Rattle.theory.specs.Rules.{Rule, State, by_ids, by_copies, start, Answers, after}
 use Rattle.theory.specs.Verdicts.{Ending, verified, is_last, Ends}
 use Rattle.theory.specs.Verdicts.{is_empty, Verdict}
-use Rattle.theory.specs.Renaming.{renamed, step_renamed, answer_renamed, ending_renamed, AreRenamed}
+use Rattle.theory.specs.Renaming.{renamed, step_renamed, answer_renamed, ending_renamed}
 use Rattle.theory.specs.Renaming.{IsUndone, AreUndone, StepsAreUndone, IsRenamed}
 use Rattle.theory.proofs.RenamingLemmas.Clauses.{Renames, take_has, drop_has}
 use Rattle.theory.proofs.RenamingLemmas.Drat.{IsOf, drat_answers_mapped, after_mapped}
@@ -39,11 +35,7 @@ use Rattle.theory.proofs.RenamingLemmas.Lrat.{without_all_mapped}
 
 pub renamed_complement : (name : ℕ → ℕ) (l : Literal) → complement (renamed name l) ≡ renamed name (complement l)
 unfolding complement
-renamed_complement name l =
-    by (name (variable l)) ∙ ap (λ n. 2 * n + complement l % 2) (ap name (sym (variable-complement l)))
-  where
-    by : (n : ℕ) → complement (2 * n + l % 2) ≡ 2 * n + complement l % 2
-    by n = grind (arith, nat_tests)
+renamed_complement name l = search rules
 
 variable_renamed : (n l : ℕ) → variable (2 * n + l % 2) ≡ n
 variable_renamed n l = grind arith
@@ -59,29 +51,21 @@ abbrev IsTold : (name back : ℕ → ℕ) → Literal → Type 0
 IsTold name back l = back (name (variable l)) ≡ variable l
 
 pub renames : (name back : ℕ → ℕ) → Renames (renamed name) (renamed back) (IsTold name back)
-renames name back = record {
-  commutes = renamed_complement name;
-  opposite = λ l told. ap (λ v. back (name v)) (variable-complement l) ∙ told ∙ sym (variable-complement l);
-  undone = λ l told.
-      ap (λ v. 2 * back v + (2 * name (variable l) + l % 2) % 2) (variable_renamed (name (variable l)) l)
-      ∙ ap (λ b. 2 * back (name (variable l)) + b) (sign_renamed (name (variable l)) l)
-      ∙ ap (λ v. 2 * v + l % 2) told ∙ whole_literal l;
-}
+renames name back =
+    search (
+      rules,
+      renamed_complement,
+      variable-complement,
+      variable_renamed,
+      sign_renamed,
+      whole_literal,
+    )
 
 -- ---- One step
 
 module _ (name back : ℕ → ℕ) where
   of_step : (rules : DratRules) (kind : StepKind) (lits : List Literal) → IsUndone name back lits → IsOf (IsTold name back) (drat_step_of rules kind lits)
-  of_step rules kinds.Delete lits told = told
-  of_step rules kinds.Add lits told = by rules.pr
-    where
-      part_told : (lits : List Literal) → IsUndone name back lits → IsUndone name back (clause_part lits)
-      part_told [] told = told
-      part_told (first ∷ rest) told = λ l h. told l (take_has (suc (prefix_len (λ k. not (eqb k first)) rest)) (first ∷ rest) l h)
-
-      by : (pr : Bool) → IsOf (IsTold name back) (d.addition_of pr lits)
-      by true = (part_told lits told, λ l h. told l (drop_has (length (clause_part lits)) lits l h))
-      by false = (told, λ l h. absurd (false≢true h))
+  of_step rules kind lits h = grind (arith, clause_part, take_has, drop_has, false≢true)
 
   pub step_answers : (first second : State) (step : Step) (answer : StepAnswer) → IsRenamed name back first second → IsUndone name back step.lits → Answers first step answer →
       Answers second (step_renamed (renamed name) step) (answer_renamed (renamed name) answer)
@@ -116,24 +100,13 @@ module _ (name back : ℕ → ℕ) where
       by false rest = kept rest
 
   added_undone : (c : Clause) (live : List Clause) → IsUndone name back c → AreUndone name back (slice_get live) → AreUndone name back (slice_get (c ∷ live))
-  added_undone c live told undone zero x e = subst (IsUndone name back) (same_Some c x e) told
-  added_undone c live told undone (suc k) x e = undone k x e
+  added_undone c live h h2 = search rules
 
   drat_undone : (live : List Clause) (step : DratStep) (word : Accepted) → IsOf (IsTold name back) step → AreUndone name back (slice_get live) → AreUndone name back (slice_get (after_drat live step word))
-  drat_undone live (d.add c witness) word of undone = added_undone c live of.0 undone
-  drat_undone live (d.delete c) Ignored of undone = undone
-  drat_undone live (d.delete c) Deleted of undone = taken_undone c live undone
-  drat_undone live (d.delete c) Rup of undone = taken_undone c live undone
-  drat_undone live (d.delete c) Rat of undone = taken_undone c live undone
-  drat_undone live (d.delete c) Pr of undone = taken_undone c live undone
-  drat_undone live (d.delete c) Empty of undone = taken_undone c live undone
+  drat_undone live step word h h2 = search (rules, added_undone, taken_undone)
 
   with_undone : (live : Live) (id : ℕ) (c : Clause) → IsUndone name back c → AreUndone name back live → AreUndone name back (with_clause live id c)
-  with_undone live id c told undone k x = by (eqb k id)
-    where
-      by : (b : Bool) → cond b (Some c) (live k) ≡ Some x → IsUndone name back x
-      by true e = subst (IsUndone name back) (same_Some c x e) told
-      by false e = undone k x e
+  with_undone live id c told undone k x = search rules
 
   without_undone : (ids : List ℕ) (live : Live) → AreUndone name back live → AreUndone name back (without_ids live ids)
   without_undone [] live undone = undone
@@ -189,31 +162,12 @@ module _ (name back : ℕ → ℕ) where
 
   empties : (formula : List Clause) → list_any is_empty (map (map (renamed name)) formula) ≡ list_any is_empty formula
   empties [] = refl
-  empties (c ∷ formula) = ap (λ b. b || list_any is_empty (map (map (renamed name)) formula)) (by c) ∙ ap (λ b. is_empty c || b) (empties formula)
-    where
-      by : (c : Clause) → is_empty (map (renamed name) c) ≡ is_empty c
-      by [] = refl
-      by (l ∷ c) = refl
+  empties (c ∷ formula) = search (rules, (empties formula))
 
   started : (rule : Rule) (formula : List Clause) → AreUndone name back (slice_get formula) → IsRenamed name back (start rule formula) (start rule (map (map (renamed name)) formula))
-  started lrat formula undone = (at, length-map formula (map (renamed name)), undone_at)
-    where
-      at : AreRenamed (renamed name) (numbered formula) (numbered (map (map (renamed name)) formula))
-      at zero = refl
-      at (suc k) = slice_get-map (map (renamed name)) formula k
-
-      undone_at : AreUndone name back (numbered formula)
-      undone_at zero c e = absurd (none-some c e)
-      undone_at (suc k) c e = undone k c e
-  started (drat rules) formula undone = (refl, refl, undone)
+  started rule formula h = search (rules, length-map, slice_get-map, none-some)
 
   pub verdict_renamed : (rule : Rule) (formula : List Clause) (steps : List Step) (words : List Accepted) (ending : Ending) → AreUndone name back (slice_get formula) → StepsAreUndone name back steps →
       Verdict rule formula steps words ending → Verdict rule (map (map (renamed name)) formula) (map (step_renamed (renamed name)) steps) words (ending_renamed (renamed name) ending)
   verdict_renamed rule formula steps words ending undone told v =
-      subst (λ b. MatchBool b ((words ≡ []) × (ending_renamed (renamed name) ending ≡ verified)) (Ends (start rule (map (map (renamed name)) formula)) (map (step_renamed (renamed name)) steps) words (ending_renamed (renamed name) ending))) (sym (empties formula))
-      (by (list_any is_empty formula) v)
-    where
-      by : (b : Bool) → MatchBool b ((words ≡ []) × (ending ≡ verified)) (Ends (start rule formula) steps words ending) →
-          MatchBool b ((words ≡ []) × (ending_renamed (renamed name) ending ≡ verified)) (Ends (start rule (map (map (renamed name)) formula)) (map (step_renamed (renamed name)) steps) words (ending_renamed (renamed name) ending))
-      by true h = (h.0, ap (ending_renamed (renamed name)) h.1)
-      by false h = ends_renamed steps words ending (start rule formula) (start rule (map (map (renamed name)) formula)) (started rule formula undone) told h
+      search (rules, empties, ends_renamed, started)
