@@ -1,21 +1,19 @@
 -- The steps of a binary DRAT proof, both ways.
 use Rattle.std.proofs.Common.{◌≡◌, ℕ, suc, ◌+◌, ◌*◌, ◌/◌, ◌%◌, ◌<◌, ◌≤◌, ◌==◌, ◌&&◌, nat_le, cond}
 use Rattle.std.proofs.Common.{Bool, true, false, List, [], ◌∷◌, ◌++◌, length, map, Option, None}
-use Rattle.std.proofs.Common.{Some, refl, sym, ap, ◌∙◌, append_assoc, subst, arith}
+use Rattle.std.proofs.Common.{Some, refl, sym, ap, ◌∙◌, append_assoc, subst, arith, rules}
 use Rattle.std.specs.Prelude.{All}
 use Rattle.std.specs.List.{flat_map, list_all}
 use Rattle.std.specs.Option.{option_map}
 use Rattle.std.proofs.lemmas.Bool.Decides.{nat_tests}
 use Rattle.std.proofs.lemmas.Grind.{flat_map-append}
 use Rattle.std.proofs.lemmas.List.{append-nil}
-use Rattle.std.proofs.lemmas.List.Elements.{All-nil, All-cons}
+use Rattle.std.proofs.lemmas.List.Elements.{All-cons}
 use Rattle.cnf_base.specs.Printing.{input_of, is_literal}
 use Rattle.cnf_base.specs.Stream.{next_count}
-use Rattle.cnf_base.specs.declared.fault.BinaryFault.TheVariants.{LiteralTooLarge, BadNumber}
-use Rattle.cnf_base.specs.declared.fault.BinaryFault.TheVariants.{BadTag}
 use Rattle.cnf_base.specs.declared.input.Ending.TheVariants.{End}
 use Rattle.proofs.specs.declared.step_end.StepEnd.TheVariants.{Byte}
-use Rattle.proofs.specs.Steps.{Step, named, deleting, with_literal}
+use Rattle.proofs.specs.Steps.{Step, named, with_literal}
 use Rattle.proofs.specs.Reading.{PlacedStep}
 use Rattle.proofs.specs.Binary.{groups_value, BinarySpot, at_tag, in_step, in_number, BinaryMove}
 use Rattle.proofs.specs.Binary.{goes, completes, faults, tag_move, group_move, binary_number_move}
@@ -41,12 +39,7 @@ value_some (c ∷ bytes) b some small = let later = value_some bytes b some smal
 number_spelled : (bytes : List ℕ) (b : ℕ) → list_all is_marked bytes ≡ true → 0 < b → b < 128
     → number_bytes (groups_value (bytes ++ b ∷ [])) ≡ bytes ++ b ∷ []
 number_spelled [] b marked some small =
-    let value : groups_value (b ∷ []) ≡ b = omega arith in
-    let lowest : b % 128 ≡ b = omega arith in
-    let none : b / 128 ≡ 0 = omega arith in
-    ap number_bytes value
-    ∙ ap group_bytes
-    (groups_step b some ∙ ap (λ m. b % 128 ∷ seven_bit_groups m) none ∙ ap (λ m. m ∷ []) lowest)
+    search (rules, groups_value, number_bytes, group_bytes, groups_step, seven_bit_groups)
 number_spelled (c ∷ bytes) b marked some small =
     let r = both (is_marked c) (list_all is_marked bytes) marked in
     let byte = marked_range c r.0 in
@@ -96,26 +89,7 @@ Spells before b (faults f at) = Unit {0}
 
 -- a step's tag
 tag_spelled : (s : Step) (at b : ℕ) → s ≡ named 0 → Spells [] b (tag_move s at b)
-tag_spelled s at b start = by (b == 97) refl (b == 100) refl
-  where
-    by : (a : Bool) → (b == 97) ≡ a → (d : Bool) → (b == 100) ≡ d
-        → Spells [] b
-        (cond a (goes in_step s) (cond d (goes in_step (deleting s)) (faults BadTag at)))
-    by true e d f =
-        let is : b ≡ 97 = grind (arith, nat_tests) in (
-          record {
-            id = ap (λ t. t.id) start;
-            hints = ap (λ t. t.hints) start;
-            literals = ap (λ t. list_all (is_literal 268435455) t.lits) start;
-          },
-          ap step_bytes start ∙ ap (λ x. x ∷ []) (sym is),
-        )
-    by false e true f =
-        let is : b ≡ 100 = grind (arith, nat_tests) in (
-          record { id = ap (λ t. t.id) start; hints = refl; literals = refl },
-          ap (λ x. x ∷ []) (sym is),
-        )
-    by false e false f = tt
+tag_spelled s at b start = search rules
 
 -- a whole number
 last_spelled : (s : Step) (first : ℕ) (bytes : List ℕ) (b : ℕ) → HasLiterals s
@@ -123,56 +97,39 @@ last_spelled : (s : Step) (first : ℕ) (bytes : List ℕ) (b : ℕ) → HasLite
     → Spells (step_bytes s ++ bytes) b
     (binary_number_move s first b (groups_value (bytes ++ b ∷ [])))
 last_spelled s first bytes b has marked small =
-    by (b == 0) refl (nat_le n 1) refl (nat_le n 536870911) refl
-  where
-    n : ℕ
-    n = groups_value (bytes ++ b ∷ [])
-
-    literal : (n : ℕ) → nat_le n 1 ≡ false → nat_le n 536870911 ≡ true
-        → is_literal 268435455 n ≡ true
-    literal n low high = grind (arith, nat_tests)
-
-    by : (empty : Bool) → (b == 0) ≡ empty → (low : Bool) → nat_le n 1 ≡ low → (high : Bool)
-        → nat_le n 536870911 ≡ high
-        → Spells (step_bytes s ++ bytes) b (cond empty (faults BadNumber first)
-        (cond low (faults BadNumber first)
-        (cond high (goes in_step (with_literal s n)) (faults LiteralTooLarge first))))
-    by true e low l high h = tt
-    by false e true l high h = tt
-    by false e false l false h = tt
-    by false e false l true h =
-        let some : 0 < b = grind (arith, nat_tests) in (
-          record {
-            id = has.id;
-            hints = has.hints;
-            literals = all_more (is_literal 268435455) s.lits n has.literals (literal n l h);
-          },
-          ap (λ bs. tag_bytes s.kind ++ bs)
-              (flat_map-append number_bytes s.lits (n ∷ [])
-              ∙ ap (λ bs. flat_map number_bytes s.lits ++ bs)
-              (append-nil (number_bytes n) ∙ number_spelled bytes b marked some small))
-              ∙ sym (append_assoc (tag_bytes s.kind) (flat_map number_bytes s.lits)
-              (bytes ++ b ∷ []))
-              ∙ sym (append_assoc (step_bytes s) bytes (b ∷ [])),
-        )
+    search (
+      rules,
+      nat_le,
+      groups_value,
+      faults,
+      goes,
+      in_step,
+      with_literal,
+      all_more,
+      tag_bytes,
+      flat_map-append,
+      number_bytes,
+      append-nil,
+      number_spelled,
+      append_assoc,
+    )
 
 -- one more byte of a number
 group_spelled : (s : Step) (first : ℕ) (bytes : List ℕ) (b : ℕ) → HasLiterals s
     → list_all is_marked bytes ≡ true → b < 256
     → Spells (step_bytes s ++ bytes) b (group_move s first bytes b)
-group_spelled s first bytes b has marked byte = by (nat_le 128 b) refl
-  where
-    by : (v : Bool) → nat_le 128 b ≡ v → Spells (step_bytes s ++ bytes) b
-        (cond v (goes (in_number first (bytes ++ b ∷ [])) s)
-        (binary_number_move s first b (groups_value (bytes ++ b ∷ []))))
-    by true e =
-        let is : is_marked b ≡ true = grind (arith, nat_tests) in (
-          (has, all_more is_marked bytes b marked is),
-          sym (append_assoc (step_bytes s) bytes (b ∷ [])),
-        )
-    by false e =
-        let small : b < 128 = grind (arith, nat_tests) in
-        last_spelled s first bytes b has marked small
+group_spelled s first bytes b has marked byte =
+    search (
+      rules,
+      nat_le,
+      goes,
+      in_number,
+      binary_number_move,
+      groups_value,
+      all_more,
+      append_assoc,
+      last_spelled,
+    )
 
 byte_moves : (spot : BinarySpot) (s : Step) (at b : ℕ) → b < 256 → Fits spot s
     → Spells (so_far spot s) b (binary_move_of spot s at b)
@@ -188,8 +145,7 @@ byte_moves in_step s at b byte fits = by (b == 0) refl
         )
     by false e = subst (λ bs. Spells bs b (group_move s at [] b)) (append-nil (step_bytes s))
         (group_spelled s at [] b fits refl byte)
-byte_moves (in_number first bytes) s at b byte fits =
-    group_spelled s first bytes b fits.0 fits.1 byte
+byte_moves (in_number first bytes) s at b byte fits = search (rules, group_spelled)
 
 -- ---- Steps
 
@@ -200,9 +156,7 @@ AreSpelled spot s bs steps =
 bytes_spelled : (bs : List ℕ) (spot : BinarySpot) (s : Step) (at offset : ℕ) (steps : List Step)
     → All (λ b. b < 256) bs → Fits spot s
     → bare (binary_steps_among spot s at offset bs End) ≡ Some steps → AreSpelled spot s bs steps
-bytes_spelled [] at_tag s at offset steps are fits e =
-    let nothing : [] ≡ steps = cc in
-    subst (AreSpelled at_tag s []) nothing (All-nil IsDratStep, refl)
+bytes_spelled [] at_tag s at offset steps are fits e = search rules
 bytes_spelled [] in_step s at offset steps are fits e = absurd (none_some steps e)
 bytes_spelled [] (in_number first bytes) s at offset steps are fits e = absurd (none_some steps e)
 bytes_spelled (b ∷ bs) spot s at offset steps are fits e =

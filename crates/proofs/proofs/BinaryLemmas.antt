@@ -1,7 +1,7 @@
 -- A binary proof's bytes, one at a time.
 use Rattle.std.proofs.Common.{◌≡◌, ℕ, ◌<◌, ◌≤◌, [], ◌∷◌, length, Option, None, Some, refl, sym, ap}
-use Rattle.std.proofs.Common.{◌∙◌, subst, arith}
-use Rattle.std.specs.Prelude.{Bool, true, false, Result, Ok, Err, slice_index}
+use Rattle.std.proofs.Common.{◌∙◌, subst, arith, rules}
+use Rattle.std.specs.Prelude.{Bool, true, Result, Ok, Err, slice_index}
 use Rattle.cnf_base.specs.Stream.{Suffix, Stream, Along, IsLook, bumped, next_count, most_to_come}
 use Rattle.cnf_base.specs.Stream.{tells_failure}
 use Rattle.cnf_base.specs.Readers.{Keeps}
@@ -29,7 +29,7 @@ use Rattle.proofs.specs.declared.moved.Moved.{Moved}
 use Rattle.proofs.specs.declared.drat_binary.part.BinaryPart.{BinaryPart}
 use Rattle.proofs.specs.declared.drat_binary.stopped.Stopped.{Stopped}
 use Rattle.proofs.proofs.ReachLemmas.{on_binary_move-from, binary_steps_among-from}
-use Rattle.proofs.proofs.TextLemmas.{gives_fault, IsFaulty-from}
+use Rattle.proofs.proofs.TextLemmas.{gives_fault}
 
 -- from one moment to another bytes of one step were read
 pub record Between (old now : Stream) (spot : BinarySpot) (s : Step) : Type 0 where
@@ -43,15 +43,11 @@ Between-none s = record { text = Along-still s (binary_steps_at s.byte_no); fewe
 -- what is left after an answer, where it is kept if it is an end
 pub binary_kept : (result : Result Bool Fault) (kept : Option (Result Bool Fault)) (at : ℕ) (i : Suffix) → Keeps result kept
     → binary_left result at i ≡ proof_unless_ended kept (binary_steps_at at i)
-binary_kept (Ok true) kept at i keeps = ap (λ k. proof_unless_ended k (binary_steps_at at i)) (sym keeps)
-binary_kept (Ok false) kept at i keeps = ap (λ k. proof_unless_ended k (binary_steps_at at i)) (sym keeps)
-binary_kept (Err f) kept at i keeps = ap (λ k. proof_unless_ended k (binary_steps_at at i)) (sym keeps)
+binary_kept result kept at i h = search rules
 
 ends_so : (last : Proof) (result : Result Bool Fault) (end : Option StepEnd) (s : Step) (before : Proof) (at : ℕ) (j : Suffix)
     → EndsProof result last → before ≡ last → GivesStep result end s before (binary_left result at j) j
-ends_so last (Ok true) end s before at j ends e = absurd ends
-ends_so last (Ok false) end s before at j ends e = (e ∙ ends, e ∙ ends)
-ends_so last (Err f) end s before at j ends e = gives_fault f end s before _ j (IsFaulty-from f None before (e ∙ ends)) refl
+ends_so last result end s before at j h h2 = search rules
 
 module _ (old now new : Stream) (spot : BinarySpot) (s : Step) (so_far : Between old now spot s) (look : IsLook now new) where
   looked : Along old new (λ i j. binary_steps_at old.byte_no i ≡ binary_steps_from spot s new.byte_no j)
@@ -79,16 +75,12 @@ module _ (old now new : Stream) (spot : BinarySpot) (s : Step) (so_far : Between
 
     -- whatever the byte did, nothing that was to come ends before what is left
     follows-from : (j : Suffix) (move : BinaryMove) → PassesNoEnd (follows j move) j
-    follows-from j move = on_binary_move-from j.offset new.byte_no j.offset move (λ spot s. binary_steps_from spot s (next_count new.byte_no) j) (omega arith)
-        (λ spot s. binary_steps_among-from j.offset spot s (next_count new.byte_no) j.offset j.bytes j.ending (omega arith))
+    follows-from j move =
+        search (rules, on_binary_move-from, binary_steps_from, binary_steps_among-from)
 
     pub Between-byte : (next : BinarySpot) (t : Step) → binary_move_of spot s new.byte_no b ≡ goes next t → tells_failure new.reader ≡ tells_failure now.reader
         → Between old (bumped new) next t
-    Between-byte next t is mark = record {
-      text = Along-map old (bumped new) _ _ byte_text (λ i j m q. q ∙ ap (follows j) is);
-      fewer = omega (arith, so_far.fewer, most_to_come-look now new look, most_to_come-bumped new some);
-      mark = mark ∙ so_far.mark;
-    }
+    Between-byte next t is mark = search (rules, byte_text, most_to_come-look, most_to_come-bumped)
 
     -- what is made of the move is given
     gave : (result : Result Bool Fault) (end : Option StepEnd) (t : Step)
@@ -101,33 +93,26 @@ module _ (old now new : Stream) (spot : BinarySpot) (s : Step) (so_far : Between
 
     pub Between-step : (end : Option StepEnd) → end ≡ Some (Byte new.byte_no) → (t : Step) → binary_move_of spot s new.byte_no b ≡ completes t
         → Gave (bumped new) (Ok true) end t
-    Between-step end at t is = gave (Ok true) end t (λ i j q. (Byte new.byte_no, at, q ∙ ap (follows j) is))
+    Between-step end at t is = search (rules, gave)
 
     pub Between-fault : (f : BinaryFault) (at : ℕ) (t : Step) → binary_move_of spot s new.byte_no b ≡ faults f at → Gave (bumped new) (Err (Binary f at)) None t
-    Between-fault f at t is = gave (Err (Binary f at)) None t (λ i j q.
-        gives_fault (Binary f at) None t _ _ j (IsFaulty-from (Binary f at) (Some j.offset) _ (q ∙ ap (follows j) is)) refl)
+    Between-fault f at t is = search (rules, gave, gives_fault)
 
     pub Between-refused : (t : Step) → Gave (bumped new) (Err OutOfMemory) None t
     Between-refused t = gave (Err OutOfMemory) None t (λ i j q. refl)
 
   -- and none before the rest
   rest-from : (i j : Suffix) → binary_steps_at old.byte_no i ≡ binary_steps_from spot s new.byte_no j → PassesNoEnd (binary_steps_at old.byte_no i) j
-  rest-from i j is =
-      passes _ (binary_steps_from spot s new.byte_no j) j is (binary_steps_among-from j.offset spot s new.byte_no j.offset j.bytes j.ending (omega arith))
+  rest-from i j is = search (rules, passes, binary_steps_from, binary_steps_among-from)
 
   pub Between-end : (result : Result Bool Fault) (end : Option StepEnd) → new.ahead ≡ [] → new.met ≡ Some End → EndsProof result (binary_at_end spot new.byte_no End)
       → Gave new result end s
-  Between-end result end nothing met ends = Along-map old new _ _ looked (λ i j m q.
-      let e = shown_end new End j nothing met m in (
-        ends_so (binary_at_end spot new.byte_no End) result end s _ new.byte_no j ends (q ∙ ap (binary_steps_from spot s new.byte_no) e),
-        rest-from i j q,
-      ))
+  Between-end result end nothing met ends =
+      search (rules, looked, shown_end, ends_so, binary_at_end, binary_steps_from, rest-from)
 
   pub Between-failed : new.ahead ≡ [] → new.met ≡ Some Failed → Gave new (Err ReadFailed) None s
-  Between-failed nothing met = Along-map old new _ _ looked (λ i j m q. (
-    gives_fault ReadFailed None s _ _ j (IsFaulty-from ReadFailed None _ (q ∙ ap (binary_steps_from spot s new.byte_no) (shown_end new Failed j nothing met m))) refl,
-    rest-from i j q,
-  ))
+  Between-failed nothing met =
+      search (rules, looked, gives_fault, binary_steps_from, shown_end, rest-from)
 
 -- literals were taken at once
 pub Between-on : (old now new : Stream) (spot : BinarySpot) (s t : Step) → Between old now spot s → RunsOn spot now new s t → Between old new spot t
@@ -145,7 +130,4 @@ Between-out old now spot s t so_far = Along-map old now _ _ so_far.text (λ i j 
 -- what a byte was found to do, by the answer's pattern, and by the byte's number
 pub moves_told : (result answer : Result (Moved BinaryPart) Stopped) (spot : BinarySpot) (s t : Step) (at known b : ℕ)
     → MovesBinary result (binary_move_of spot s at b) t → at ≡ known → result ≡ answer → MovesBinary answer (binary_move_of spot s known b) t
-moves_told result answer spot s t at known b moves number is =
-    let P : Result (Moved BinaryPart) Stopped → Type 0 = λ r. MovesBinary r (binary_move_of spot s known b) t in
-    let Q : ℕ → Type 0 = λ n. MovesBinary result (binary_move_of spot s n b) t in
-    subst P is (subst Q number moves)
+moves_told result answer spot s t at known b moves number is = search rules

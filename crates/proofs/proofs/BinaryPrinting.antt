@@ -1,9 +1,8 @@
 -- A DRAT proof that was printed in binary, as it is read.
-use Rattle.std.proofs.Common.{◌≡◌, ℕ, zero, suc, ◌+◌, ◌*◌, ◌/◌, ◌%◌, ◌<◌, ◌≤◌, ◌==◌, nat_le, cond}
-use Rattle.std.proofs.Common.{Bool, true, false, List, [], ◌∷◌, ◌++◌, length, reverse, fold, refl}
-use Rattle.std.proofs.Common.{sym, ap, ◌∙◌, subst, append_assoc, length-append, arith}
+use Rattle.std.proofs.Common.{◌≡◌, ℕ, zero, suc, ◌+◌, ◌*◌, ◌/◌, ◌%◌, ◌<◌, ◌≤◌, ◌==◌, nat_le}
+use Rattle.std.proofs.Common.{Bool, true, false, List, [], ◌∷◌, ◌++◌, length, fold, refl}
+use Rattle.std.proofs.Common.{sym, ap, ◌∙◌, subst, append_assoc, length-append, arith, rules}
 use Rattle.std.specs.Prelude.{All}
-use Rattle.std.specs.Int.Digits.{digits_of}
 use Rattle.std.specs.List.{flat_map, list_all}
 use Rattle.std.proofs.lemmas.Bool.Decides.{nat_tests}
 use Rattle.std.proofs.lemmas.Int.Digits.{digits_of_step}
@@ -30,13 +29,11 @@ pub data IsGroups : ℕ → List ℕ → Type 0 where
   more : (n g : ℕ) (gs : List ℕ) → g < 128 → IsGroups n gs → IsGroups (g + 128 * n) (g ∷ gs)
 
 pub group_bytes-cons : (n g : ℕ) (gs : List ℕ) → IsGroups n gs → group_bytes (g ∷ gs) ≡ (128 + g) ∷ group_bytes gs
-group_bytes-cons n g _ (last _ some small) = refl
-group_bytes-cons n g _ (more m h gs small groups) = refl
+group_bytes-cons n g gs h = search rules
 
 -- the lowest group of a number, and those above it
 pub groups_step : (n : ℕ) → 0 < n → seven_bit_groups n ≡ n % 128 ∷ seven_bit_groups (n / 128)
-groups_step n some =
-    ap reverse (digits_of_step 128 n (omega arith) some) ∙ reverse-append (digits_of 128 (n / 128)) (n % 128 ∷ [])
+groups_step n some = search (rules, digits_of_step, reverse-append)
 
 -- the groups of a number
 pub groups_are : (most n : ℕ) → n ≤ most → 0 < n → IsGroups n (seven_bit_groups n)
@@ -62,7 +59,7 @@ groups_are (suc most) n le some = by (nat_le 128 n) refl (groups_are most (n / 1
 groups_valued : (n : ℕ) (gs : List ℕ) → IsGroups n gs → groups_value (group_bytes gs) ≡ n
 groups_valued _ _ (last n some small) = omega arith
 groups_valued _ _ (more n g gs small groups) =
-    ap groups_value (group_bytes-cons n g gs groups) ∙ (let is = groups_valued n gs groups in omega arith)
+    search (rules, groups_value, group_bytes-cons, (groups_valued n gs groups))
 
 -- groups after those of a number that were read, and what follows the number
 groups_read : (n : ℕ) (gs : List ℕ) → IsGroups n gs
@@ -101,17 +98,19 @@ groups_read _ _ (more n g gs small groups) whole before rest first at offset end
 groups_begin : (n : ℕ) (gs : List ℕ) → IsGroups n gs → (rest : List ℕ) (at offset : ℕ) (s : Step)
     → binary_steps_among in_step s at offset (group_bytes gs ++ rest) End
     ≡ binary_steps_among (in_number at []) s at offset (group_bytes gs ++ rest) End
-groups_begin _ _ (last n some small) rest at offset s =
-    let nonzero : (n == 0) ≡ false = grind (arith, nat_tests) in
-    ap (λ v. on_binary_move at (suc offset) (cond v (completes s) (group_move s at [] n))
-    (λ spot s. binary_steps_among spot s (next_count at) (suc offset) rest End)) nonzero
+groups_begin _ _ (last n some small) rest at offset s = search rules
 groups_begin _ _ (more n g gs small groups) rest at offset s =
-    let nonzero : ((128 + g) == 0) ≡ false = grind (arith, nat_tests) in
-    let cons = group_bytes-cons n g gs groups in
-    ap (λ bs. binary_steps_among in_step s at offset (bs ++ rest) End) cons
-    ∙ ap (λ v. on_binary_move at (suc offset) (cond v (completes s) (group_move s at [] (128 + g)))
-    (λ spot s. binary_steps_among spot s (next_count at) (suc offset) (group_bytes gs ++ rest) End)) nonzero
-    ∙ ap (λ bs. binary_steps_among (in_number at []) s at offset (bs ++ rest) End) (sym cons)
+    search (
+      rules,
+      group_bytes-cons,
+      binary_steps_among,
+      in_step,
+      on_binary_move,
+      completes,
+      group_move,
+      group_bytes,
+      in_number,
+    )
 
 -- a literal, and what follows it
 literal_read : (l : ℕ) (rest : List ℕ) (at offset : ℕ) (s : Step) (result : ReadProof) → is_literal 268435455 l ≡ true

@@ -1,6 +1,6 @@
 -- The steps of a DRAT text, both ways.
-use Rattle.std.proofs.Common.{◌≡◌, ℕ, true, List, [], ◌∷◌, ◌++◌, map, fold, refl, sym, ap, ◌∙◌}
-use Rattle.std.proofs.Common.{append_assoc}
+use Rattle.std.proofs.Common.{◌≡◌, ℕ, true, List, [], ◌∷◌, ◌++◌, map, fold, refl, ap, ◌∙◌}
+use Rattle.std.proofs.Common.{append_assoc, rules}
 use Rattle.std.specs.Prelude.{codes}
 use Rattle.std.specs.List.{list_all}
 use Rattle.std.specs.Option.{option_map}
@@ -30,11 +30,6 @@ abbrev front : StepKind → List (List ℕ)
 front Add = []
 front Delete = codes "d" ∷ []
 
-drat_words-front : (kind : StepKind) (ls : List Literal)
-    → drat_words kind ls ≡ front kind ++ literal_words ls
-drat_words-front Add ls = refl
-drat_words-front Delete ls = refl
-
 record Fits (part : DratSpot) (s : Step) : Type 0 where
   begins : part ≡ at_start → s ≡ named 0
   id : s.id ≡ 0
@@ -56,35 +51,16 @@ module _ (part : DratSpot) (s : Step) (run : List ℕ) (fits : Fits part s) wher
   -- one more literal
   taken : (l : Literal) → is_literal 268435455 l ≡ true → run ≡ literal_text l
       → Spells spelling part s run (goes in_literals (with_literal s l))
-  taken l is text = (
-    record {
-      begins = λ (e : in_literals ≡ at_start). cc;
-      id = fits.id;
-      hints = fits.hints;
-      literals = all_more (is_literal 268435455) s.lits l fits.literals is;
-    },
-    ap (λ ws. front s.kind ++ ws) (map-append literal_text s.lits (l ∷ []))
-        ∙ sym (append_assoc (front s.kind) (map literal_text s.lits) (literal_text l ∷ []))
-        ∙ ap (λ w. so_far part s ++ w ∷ []) (sym text),
-  )
+  taken l is text = search (rules, in_literals, at_start, all_more, map-append, append_assoc)
 
   -- the `0`
   ended : run ≡ codes "0" → Spells spelling part s run (completes s)
-  ended text = (
-    record { id = fits.id; hints = fits.hints; literals = fits.literals },
-    drat_words-front s.kind s.lits
-        ∙ sym (append_assoc (front s.kind) (map literal_text s.lits) (codes "0" ∷ []))
-        ∙ ap (λ w. so_far part s ++ w ∷ []) (sym text),
-  )
+  ended text = search rules
 
 -- the `d`
 d_spelled : (part : DratSpot) (s : Step) (run : List ℕ) → Fits part s → run ≡ codes "d"
     → Spells spelling part s run (move_of drat part s words.D)
-d_spelled at_start s run fits text = (
-  record { begins = λ (e : in_literals ≡ at_start). cc; id = fits.id; hints = refl; literals = refl },
-  ap (λ w. w ∷ []) (sym text) ∙ ap (λ t. so_far at_start t ++ run ∷ []) (sym (fits.begins refl)),
-)
-d_spelled in_literals s run fits text = tt
+d_spelled part s run h h2 = search rules
 
 word_moves : (part : DratSpot) (s : Step) (run : List ℕ) → Fits part s → (w : Word) → IsSpelled w run
     → Spells spelling part s run (move_of drat part s w)
@@ -112,9 +88,7 @@ words_read : (kind : StepKind) (ls : List Literal) (rest : List (List ℕ))
     → word_steps drat at_start (named 0) (map word_of (drat_words kind ls ++ rest))
     ≡ option_map (λ ss. drat_step kind ls ∷ ss) (word_steps drat at_start (named 0) (map word_of rest))
 words_read Delete ls rest are =
-    literals_read ls rest (drat_step Delete []) are
-    ∙ ap (λ s. option_map (λ ss. s ∷ ss) (word_steps drat at_start (named 0) (map word_of rest)))
-    (with_literals (drat_step Delete []) ls)
+    simp (literals_read, drat_step, word_steps, drat, at_start, named, with_literals)
 words_read Add [] rest are = refl
 words_read Add (l ∷ ls) rest are =
     let r = both (is_literal 268435455 l) (list_all (is_literal 268435455) ls) are in
@@ -126,20 +100,20 @@ words_read Add (l ∷ ls) rest are =
     (with_literals (drat_step Add (l ∷ [])) ls)
 
 is_spelling : IsSpelling drat spelling
-is_spelling = record {
-  begins = record { begins = λ e. refl; id = refl; hints = refl; literals = refl };
-  none = refl;
-  starts = refl;
-  ends = ends;
-  moves = λ part s run fits. word_moves part s run fits (word_of run) (word_spelled run);
-  reads = λ s is rest. words_read s.kind s.lits rest is.literals
-      ∙ ap (λ t. option_map (λ ss. t ∷ ss) (word_steps drat at_start (named 0) (map word_of rest)))
-      (drat_step_is s is);
-}
-  where
-    ends : (part : DratSpot) (s : Step) → Fits part s → is_start part ≡ true → so_far part s ≡ []
-    ends at_start s fits start = ap (so_far at_start) (fits.begins refl)
-    ends in_literals s fits start = cc
+is_spelling =
+    search (
+      rules,
+      word_moves,
+      word_spelled,
+      words_read,
+      word_steps,
+      drat,
+      at_start,
+      named,
+      drat_step_is,
+      is_start,
+      in_literals,
+    )
 
 pub drat_both_ways : DratIsGrammar
 drat_both_ways = text_both_ways drat spelling is_spelling

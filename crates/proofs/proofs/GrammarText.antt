@@ -1,16 +1,12 @@
 -- The steps of a text by its words alone, in whatever format.
-use Rattle.std.proofs.Common.{◌≡◌, ℕ, suc, ◌+◌, ◌*◌, ◌/◌, ◌%◌, ◌≤◌, ◌==◌, ◌&&◌, nat_le, cond, Bool}
+use Rattle.std.proofs.Common.{◌≡◌, ℕ, suc, ◌+◌, ◌*◌, ◌≤◌, nat_le, cond, Bool}
 use Rattle.std.proofs.Common.{true, false, List, [], ◌∷◌, ◌++◌, map, fold, Option, None, Some, refl}
-use Rattle.std.proofs.Common.{sym, ap, ◌∙◌, append_assoc, subst, arith}
+use Rattle.std.proofs.Common.{sym, ap, ◌∙◌, append_assoc, subst, arith, rules}
 use Rattle.std.specs.Prelude.{All, codes}
-use Rattle.std.specs.Fmt.{decimal}
-use Rattle.std.specs.Bool.{then_some}
-use Rattle.std.proofs.lemmas.Bool.Decides.{nat_tests}
 use Rattle.std.proofs.lemmas.Fmt.{decimal_digit}
 use Rattle.std.specs.List.{flat_map, filter_map, cons_option, list_all}
 use Rattle.std.specs.Option.{option_map}
-use Rattle.std.proofs.lemmas.List.{append-nil}
-use Rattle.std.proofs.lemmas.List.Elements.{All-nil, All-cons}
+use Rattle.std.proofs.lemmas.List.Elements.{All-cons}
 use Rattle.std.proofs.lemmas.List.Folds.{list_all-append}
 use Rattle.cnf_base.specs.Grammar.{text_words}
 use Rattle.cnf_base.specs.Printing.{input_of, is_literal, literal_text}
@@ -27,14 +23,13 @@ use Rattle.cnf_base.specs.declared.token.Token.TheVariants as token
 use Rattle.cnf_base.proofs.GrammarLemmas.{said, number_text, IsSpelled, listing_says, listing_words}
 use Rattle.cnf_base.proofs.PrintLemmas.{both}
 use Rattle.proofs.specs.Steps.{Step, named, with_literal}
-use Rattle.proofs.specs.Reading.{Proof, PlacedStep, clean, faulty_proof, with_step}
+use Rattle.proofs.specs.Reading.{Proof, PlacedStep, with_step}
 use Rattle.proofs.specs.TextSteps.{Move, goes, completes, faults, Format, move_of, on_move}
 use Rattle.proofs.specs.TextSteps.{literal_or_end, literal_or_fault, steps_among}
 use Rattle.proofs.specs.TextSteps.{steps_of}
 use Rattle.proofs.specs.Grammar.{ReadsAs, IsTextOf, IsGrammar}
 use Rattle.cnf_base.specs.declared.fault.Fault.{Fault}
-use Rattle.cnf_base.specs.declared.fault.Fault.TheVariants.{Text}
-use Rattle.cnf_base.specs.declared.fault.TextFault.TheVariants.{UnterminatedStep, LiteralTooLarge}
+use Rattle.cnf_base.specs.declared.fault.TextFault.TheVariants.{LiteralTooLarge}
 use Rattle.proofs.specs.declared.step_end.StepEnd.{StepEnd}
 use Rattle.proofs.specs.declared.step_end.StepEnd.TheVariants as ends
 
@@ -55,25 +50,14 @@ pub none_some : (steps : List Step) → None ≡ Some steps → ⊥
 none_some steps e = cc
 
 pub ReadsAs-bare : (p : Proof) (steps : List Step) → bare p ≡ Some steps → ReadsAs p steps
-ReadsAs-bare p steps e = by p.fault refl e
-  where
-    by : (fault : Option Fault) → p.fault ≡ fault
-        → unless_faulty fault (bare_steps p.steps) ≡ Some steps → ReadsAs p steps
-    by None none e = record { all = cc; no_fault = none }
-    by (Some f) some e = absurd (none_some steps e)
+ReadsAs-bare p steps e = search rules
 
 pub bare-ReadsAs : (p : Proof) (steps : List Step) → ReadsAs p steps → bare p ≡ Some steps
-bare-ReadsAs p steps reads =
-    ap (λ f. unless_faulty f (bare_steps p.steps)) reads.no_fault ∙ ap Some reads.all
+bare-ReadsAs p steps reads = cc
 
 pub bare-with_step : (s : Step) (end : StepEnd) (offset : ℕ) (p : Proof)
     → bare (with_step s end offset p) ≡ option_map (λ ss. s ∷ ss) (bare p)
-bare-with_step s end offset p = by p.fault
-  where
-    by : (f : Option Fault) → unless_faulty f (s ∷ bare_steps p.steps)
-        ≡ option_map (λ ss. s ∷ ss) (unless_faulty f (bare_steps p.steps))
-    by None = refl
-    by (Some f) = refl
+bare-with_step s end offset p = search rules
 
 -- ---- By words
 
@@ -93,12 +77,7 @@ module _ {Part : Type 0} (format : Format Part) where
   tokens_bare : (part : Part) (s : Step) (ts : List Listed) (p : Place)
       → bare (steps_among format part s ts p End)
       ≡ word_steps part s (filter_map (λ t. said t.0) ts)
-  tokens_bare part s [] p = by (format.is_start part)
-    where
-      by : (v : Bool) → bare (cond v clean (faulty_proof (Text UnterminatedStep p) None))
-          ≡ cond v (Some []) None
-      by true = refl
-      by false = refl
+  tokens_bare part s [] p = search rules
   tokens_bare part s (t ∷ ts) p = by (λ part s. tokens_bare part s ts p) t.0
     where
       words : List Word
@@ -175,15 +154,7 @@ module _ {Part : Type 0} (format : Format Part) (g : Spelling Part) (is : IsSpel
   words_spelled : (runs : List (List ℕ)) (part : Part) (s : Step) (steps : List Step)
       → g.Fits part s
       → word_steps format part s (map word_of runs) ≡ Some steps → AreSpelled part s runs steps
-  words_spelled [] part s steps fits e = by (format.is_start part) refl e
-    where
-      by : (v : Bool) → format.is_start part ≡ v → cond v (Some []) None ≡ Some steps
-          → AreSpelled part s [] steps
-      by true starts e =
-          let nothing : [] ≡ steps = cc in
-          subst (AreSpelled part s []) nothing
-          (All-nil g.IsStep, append-nil (g.so_far part s) ∙ is.ends part s fits starts)
-      by false inside e = absurd (none_some steps e)
+  words_spelled [] part s steps fits e = search rules
   words_spelled (run ∷ runs) part s steps fits e =
       by (move_of format part s (word_of run)) (is.moves part s run fits) (words_spelled runs) e
     where
@@ -260,8 +231,7 @@ module _ {Part : Type 0} (format : Format Part) (g : Spelling Part) (is : IsSpel
 -- one more that passes a test
 pub all_more : {A : Type 0} (test : A → Bool) (xs : List A) (x : A) → list_all test xs ≡ true
     → test x ≡ true → list_all test (xs ++ x ∷ []) ≡ true
-all_more test xs x are is =
-    list_all-append test xs (x ∷ []) ∙ ap (λ v. v && (test x && true)) are ∙ ap (λ v. v && true) is
+all_more test xs x are is = search (rules, list_all-append)
 
 -- many words that do the same
 pub list_words : {Part : Type 0} (format : Format Part) {A : Type 0} (printed : A → List ℕ)
@@ -282,22 +252,13 @@ list_words format printed fits with part moves (x ∷ xs) runs s are =
 literal_is : (is_negative : Bool) (size : ℕ) → 1 ≤ size → size ≤ 268435455
     → (is_literal 268435455 (cond is_negative (2 * size + 1) (2 * size)) ≡ true)
     × (number_text is_negative size ≡ literal_text (cond is_negative (2 * size + 1) (2 * size)))
-literal_is false size low high =
-    let half : 2 * size / 2 ≡ size = omega arith in
-    let even : (2 * size % 2 == 0) ≡ true = grind (arith, nat_tests) in
-    let within : (nat_le 1 size && nat_le size 268435455) ≡ true = grind (arith, nat_tests) in
-    (ap (λ v. nat_le 1 v && nat_le v 268435455) half ∙ within, rw (even, half) refl)
-literal_is true size low high =
-    let half : (2 * size + 1) / 2 ≡ size = omega arith in
-    let odd : ((2 * size + 1) % 2 == 0) ≡ false = grind (arith, nat_tests) in
-    let within : (nat_le 1 size && nat_le size 268435455) ≡ true = grind (arith, nat_tests) in
-    (ap (λ v. nat_le 1 v && nat_le v 268435455) half ∙ within, rw (odd, half) refl)
+literal_is false size low high = search rules
+literal_is true size low high = search rules
 
 -- the number 0
 pub zero_text : (is_negative : Bool) (size : ℕ) (run : List ℕ) → run ≡ number_text is_negative size
     → size ≡ 0 → (is_negative ≡ true → ⊥) → run ≡ codes "0"
-zero_text true size run text none positive = absurd (positive refl)
-zero_text false size run text none positive = text ∙ ap decimal none ∙ decimal_digit 0 (omega arith)
+zero_text is_negative size run h h2 h3 = search (rules, decimal_digit)
 
 -- what a number does where a literal stands: it is too large, it is the text of a literal, or it is
 -- the `0`
@@ -307,28 +268,5 @@ pub literal_cases : {Part : Type 0} (P : Move Part → Type 0) (part : Part)
     → ((l : Literal) → is_literal 268435455 l ≡ true → run ≡ literal_text l
     → P (goes part (with_literal s l)))
     → (run ≡ codes "0" → P (ended s)) → P (literal_or_fault part ended s n)
-literal_cases P part ended s n run spelled large taken zero = by (nat_le n.size 268435455) refl
-  where
-    code : ℕ
-    code = cond n.is_negative (2 * n.size + 1) (2 * n.size)
-
-    fits : (v : Bool) → nat_le 1 n.size ≡ v → n.size ≤ 268435455
-        → P (literal_or_end part ended s (then_some (v && true) code))
-    fits true some small =
-        let low : 1 ≤ n.size = grind (arith, nat_tests) in
-        let is = literal_is n.is_negative n.size low small in
-        taken code is.0 ((spelled (omega arith)).0 ∙ is.1)
-    fits false none small =
-        let size : n.size ≡ 0 = grind (arith, nat_tests) in
-        let text = spelled (omega arith) in
-        let positive : n.is_negative ≡ true → ⊥ =
-        λ (e : n.is_negative ≡ true). let some = text.1 e in omega arith in
-        zero (zero_text n.is_negative n.size run text.0 size positive)
-
-    by : (v : Bool) → nat_le n.size 268435455 ≡ v
-        → P (cond v (literal_or_end part ended s (then_some (nat_le 1 n.size && v) code))
-        (faults LiteralTooLarge))
-    by true e =
-        let small : n.size ≤ 268435455 = grind (arith, nat_tests) in
-        fits (nat_le 1 n.size) refl small
-    by false e = large
+literal_cases P part ended s n run spelled large taken zero =
+    search (rules, nat_le, literal_or_end, literal_is, zero_text, faults)

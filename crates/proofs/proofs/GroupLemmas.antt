@@ -1,10 +1,10 @@
 -- The groups of a number, byte by byte.
-use Rattle.std.proofs.Common.{◌≡◌, ℕ, zero, suc, ◌+◌, ◌-◌, ◌*◌, ◌^◌, ◌%◌, ◌<◌, ◌≤◌, min, Bool, true}
-use Rattle.std.proofs.Common.{false, List, [], ◌∷◌, ◌++◌, length, refl, sym, ap, ◌∙◌, arith}
-use Rattle.std.proofs.Common.{length-append}
-use Rattle.std.specs.Prelude.{nat_le}
+use Rattle.std.proofs.Common.{◌≡◌, ℕ, zero, suc, ◌+◌, ◌-◌, ◌*◌, ◌^◌, ◌%◌, min}
+use Rattle.std.proofs.Common.{List, [], ◌∷◌, ◌++◌, length, arith}
+use Rattle.std.proofs.Common.{length-append, rules}
 use Rattle.std.proofs.Math.Nat.{pow-suc}
 use Rattle.std.proofs.lemmas.Bool.Decides.{nat_tests}
+use Rattle.std.proofs.lemmas.Grind.{common_steps}
 use Rattle.proofs.specs.Steps.{Step}
 use Rattle.proofs.specs.Binary.{groups_value, binary_number_move}
 use Rattle.proofs.specs.Code.BinaryMoves.{KeepsGroups}
@@ -21,28 +21,19 @@ value-last (x ∷ xs) b =
     step x v n g w w' e p = rw (e, p) (omega arith)
 
 weight-last : (bs : List ℕ) (b : ℕ) → 128 ^ length (bs ++ b ∷ []) ≡ 128 ^ length bs * 128
-weight-last bs b = ap (λ n. 128 ^ n) (length-append bs (b ∷ []) ∙ omega arith) ∙ pow-suc 128 (length bs)
+weight-last bs b = grind (arith, common_steps, nat_tests, length-append, pow-suc)
 
 -- a product with a number that is cut is cut alike
 cut-product : (g w m : ℕ) → min (g * min w m) m ≡ min (g * w) m
 cut-product zero w m = omega arith
-cut-product (suc h) w m = by (nat_le w m) refl
-  where
-    by : (v : Bool) → nat_le w m ≡ v → min (suc h * min w m) m ≡ min (suc h * w) m
-    by true e = let le : w ≤ m = grind (arith, nat_tests) in let same : min w m ≡ w = omega arith in ap (λ x. min (suc h * x) m) same
-    by false e = let gt : m < w = grind (arith, nat_tests) in let same : min w m ≡ m = omega arith in rw same (omega arith)
+cut-product (suc h) w m = search rules
 
 cut-sum : (v p m : ℕ) → min (min v m + min p m) m ≡ min (v + p) m
 cut-sum v p m = omega arith
 
 pub kept_value : (g : Groups) (bytes : List ℕ) (b : ℕ) → KeepsGroups g bytes
     → min (g.value + min (b % 128 * g.weight) (2 ^ 64 - 1)) (2 ^ 64 - 1) ≡ min (groups_value (bytes ++ b ∷ [])) (2 ^ 64 - 1)
-kept_value g bytes b k =
-    ap (λ v. min (v + min (b % 128 * g.weight) (2 ^ 64 - 1)) (2 ^ 64 - 1)) k.value
-    ∙ ap (λ w. min (min (groups_value bytes) (2 ^ 64 - 1) + min (b % 128 * w) (2 ^ 64 - 1)) (2 ^ 64 - 1)) k.weight
-    ∙ ap (λ p. min (min (groups_value bytes) (2 ^ 64 - 1) + p) (2 ^ 64 - 1)) (cut-product (b % 128) (128 ^ length bytes) (2 ^ 64 - 1))
-    ∙ cut-sum (groups_value bytes) (b % 128 * 128 ^ length bytes) (2 ^ 64 - 1)
-    ∙ ap (λ v. min v (2 ^ 64 - 1)) (sym (value-last bytes b))
+kept_value g bytes b k = search (rules, groups_value, cut-product, cut-sum, value-last)
 
 pub kept_weight : (g : Groups) (bytes : List ℕ) (b : ℕ) → KeepsGroups g bytes
     → min (g.weight * 128) (2 ^ 64 - 1) ≡ min (128 ^ length (bytes ++ b ∷ [])) (2 ^ 64 - 1)

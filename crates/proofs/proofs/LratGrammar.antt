@@ -1,17 +1,15 @@
 -- The steps of an LRAT text, both ways.
 use Rattle.std.proofs.Common.{◌≡◌, ℕ, zero, suc, ◌≤◌, ◌&&◌, nat_le, cond, Bool, true, false, List}
 use Rattle.std.proofs.Common.{[], ◌∷◌, ◌++◌, map, fold, Option, refl, sym, ap, ◌∙◌, append_assoc}
-use Rattle.std.proofs.Common.{arith}
+use Rattle.std.proofs.Common.{arith, rules}
 use Rattle.std.specs.Prelude.{codes, ℤ, pos, neg_ℤ}
 use Rattle.std.specs.Fmt.{decimal, signed_decimal}
 use Rattle.std.specs.List.{list_all}
 use Rattle.std.specs.Option.{option_map}
-use Rattle.std.proofs.lemmas.Bool.Decides.{nat_tests}
 use Rattle.std.proofs.lemmas.List.{append-nil, map-append}
 use Rattle.cnf_base.specs.Literals.{Literal}
 use Rattle.cnf_base.specs.Printing.{is_literal, literal_text, literal_words}
 use Rattle.cnf_base.specs.Words.{word_of}
-use Rattle.cnf_base.specs.declared.fault.TextFault.TheVariants.{BadToken, IdTooLarge}
 use Rattle.cnf_base.specs.declared.word.Number.{Number}
 use Rattle.cnf_base.specs.declared.word.Word.{Word}
 use Rattle.cnf_base.specs.declared.word.Word.TheVariants as words
@@ -77,22 +75,7 @@ inside e = cc
 -- an identifier
 identifier_spelled : (s : Step) (run : List ℕ) (n : Number) → IsSpelled (words.Number n) run
     → Spells spelling at_identifier s run (identifier n)
-identifier_spelled s run n spelled =
-    by n.is_negative refl (nat_le n.size 0) refl (is_small n.size) refl
-  where
-    by : (minus : Bool) → n.is_negative ≡ minus → (nought : Bool) → nat_le n.size 0 ≡ nought
-        → (small : Bool) → is_small n.size ≡ small
-        → Spells spelling at_identifier s run
-        (cond minus (faults BadToken) (cond nought (faults BadToken)
-        (cond small (goes after_identifier (named n.size)) (faults IdTooLarge))))
-    by true m nought z small e = tt
-    by false m true z small e = tt
-    by false m false z false e = tt
-    by false m false z true e =
-        let some : 1 ≤ n.size = grind (arith, nat_tests) in
-        let most : n.size ≤ 9223372036854775807 = grind (arith, nat_tests) in
-        let text : run ≡ decimal n.size = (spelled most).0 ∙ ap (λ v. number_text v n.size) m in
-        ((record { some = some; small = e }, refl), ap (λ w. w ∷ []) (sym text))
+identifier_spelled s run n spelled = search rules
 
 -- what a number does there is spelled by its text
 abbrev IsNumberSpelled : LratSpot → (Step → Number → Move LratSpot) → Type 0
@@ -169,116 +152,56 @@ hint_is : (is_negative : Bool) (size : ℕ) → 1 ≤ size → is_small size ≡
     → (is_hint Add (cond is_negative (neg_ℤ (pos size)) (pos size)) ≡ true)
     × (number_text is_negative size
     ≡ signed_decimal (cond is_negative (neg_ℤ (pos size)) (pos size)))
-hint_is false size some small =
-    let low : nat_le 1 size ≡ true = grind (arith, nat_tests) in
-    (ap (λ v. v && is_small size) low ∙ small, refl)
+hint_is false size some small = search rules
 hint_is true zero some small = absurd (omega arith)
-hint_is true (suc k) some small =
-    let low : nat_le 1 (suc k) ≡ true = grind (arith, nat_tests) in
-    (ap (λ v. v && is_small (suc k)) low ∙ small, refl)
+hint_is true (suc k) some small = search rules
 
 -- a hint, or the `0` that ends the step
 hint_spelled : IsNumberSpelled in_hints hint
-hint_spelled s run n fits spelled = by (is_small n.size) refl (nat_le n.size 0) refl
-  where
-    h : ℤ
-    h = cond n.is_negative (neg_ℤ (pos n.size)) (pos n.size)
-
-    onto : (more : List (List ℕ))
-        → decimal s.id ∷ literal_words s.lits ++ (map signed_decimal s.hints ++ more)
-        ≡ so_far in_hints s ++ more
-    onto more = ap (λ ws. decimal s.id ∷ ws)
-        (sym (append_assoc (literal_words s.lits) (map signed_decimal s.hints) more))
-
-    by : (small : Bool) → is_small n.size ≡ small → (nought : Bool) → nat_le n.size 0 ≡ nought
-        → Spells spelling in_hints s run
-        (cond small (cond nought (completes s) (goes in_hints (with_hint s h))) (faults IdTooLarge))
-    by false e nought z = tt
-    by true e true z =
-        let most : n.size ≤ 9223372036854775807 = grind (arith, nat_tests) in
-        let none : n.size ≡ 0 = grind (arith, nat_tests) in
-        let text = spelled most in
-        let positive : n.is_negative ≡ true → ⊥ =
-        λ (m : n.is_negative ≡ true). let some = text.1 m in omega arith in (
-          record {
-            some = fits.0.some;
-            small = fits.0.small;
-            literals = fits.2;
-            deletion = λ (d : s.kind ≡ Delete). absurd (other fits.1 d);
-            hints = ap (λ k. list_all (is_hint k) s.hints) fits.1 ∙ fits.3;
-          },
-          ap (λ k. lrat_words k s.id s.lits s.hints) fits.1 ∙ onto (codes "0" ∷ [])
-              ∙ ap (λ w. so_far in_hints s ++ w ∷ [])
-              (sym (zero_text n.is_negative n.size run text.0 none positive)),
-        )
-    by true e false z =
-        let most : n.size ≤ 9223372036854775807 = grind (arith, nat_tests) in
-        let some : 1 ≤ n.size = grind (arith, nat_tests) in
-        let is = hint_is n.is_negative n.size some e in (
-          (
-            record { some = fits.0.some; small = fits.0.small },
-            fits.1,
-            fits.2,
-            all_more (is_hint Add) s.hints h fits.3 is.0,
-          ),
-          ap (λ ws. decimal s.id ∷ literal_words s.lits ++ ws)
-              (map-append signed_decimal s.hints (h ∷ []))
-              ∙ onto (signed_decimal h ∷ [])
-              ∙ ap (λ w. so_far in_hints s ++ w ∷ []) (sym ((spelled most).0 ∙ is.1)),
-        )
+hint_spelled s run n fits spelled =
+    search (
+      rules,
+      is_small,
+      nat_le,
+      in_hints,
+      append_assoc,
+      completes,
+      goes,
+      with_hint,
+      faults,
+      other,
+      is_hint,
+      lrat_words,
+      zero_text,
+      hint_is,
+      all_more,
+      map-append,
+    )
 
 -- an identifier that is deleted, or the `0` that ends the step
 deleted_spelled : IsNumberSpelled in_deletion deleted
 deleted_spelled s run n fits spelled =
-    by n.is_negative refl (is_small n.size) refl (nat_le n.size 0) refl
-  where
-    by : (minus : Bool) → n.is_negative ≡ minus → (small : Bool) → is_small n.size ≡ small
-        → (nought : Bool) → nat_le n.size 0 ≡ nought
-        → Spells spelling in_deletion s run
-        (cond minus (faults BadToken)
-        (cond small (cond nought (completes s) (goes in_deletion (with_hint s (pos n.size))))
-        (faults IdTooLarge)))
-    by true m small e nought z = tt
-    by false m false e nought z = tt
-    by false m true e true z =
-        let most : n.size ≤ 9223372036854775807 = grind (arith, nat_tests) in
-        let none : n.size ≡ 0 = grind (arith, nat_tests) in
-        let text : run ≡ decimal n.size = (spelled most).0 ∙ ap (λ v. number_text v n.size) m in (
-          record {
-            some = fits.0.some;
-            small = fits.0.small;
-            literals = ap are_literals fits.2;
-            deletion = λ d. fits.2;
-            hints = ap (λ k. list_all (is_hint k) s.hints) fits.1 ∙ fits.3;
-          },
-          ap (λ k. lrat_words k s.id s.lits s.hints) fits.1
-              ∙ ap (λ w. so_far in_deletion s ++ w ∷ [])
-              (sym (zero_text false n.size run text none (λ (bad : false ≡ true). cc))),
-        )
-    by false m true e false z =
-        let most : n.size ≤ 9223372036854775807 = grind (arith, nat_tests) in
-        let low : nat_le 1 n.size ≡ true = grind (arith, nat_tests) in
-        let text : run ≡ decimal n.size = (spelled most).0 ∙ ap (λ v. number_text v n.size) m in (
-          (
-            record { some = fits.0.some; small = fits.0.small },
-            fits.1,
-            fits.2,
-            all_more (is_hint Delete) s.hints (pos n.size) fits.3
-                (ap (λ v. v && is_small n.size) low ∙ e),
-          ),
-          ap (λ ws. decimal s.id ∷ codes "d" ∷ ws)
-              (map-append signed_decimal s.hints (pos n.size ∷ []))
-              ∙ ap (λ w. so_far in_deletion s ++ w ∷ []) (sym text),
-        )
+    search (
+      rules,
+      is_small,
+      nat_le,
+      in_deletion,
+      faults,
+      completes,
+      goes,
+      with_hint,
+      number_text,
+      is_hint,
+      lrat_words,
+      zero_text,
+      all_more,
+      map-append,
+    )
 
 -- the `d`
 d_spelled : (part : LratSpot) (s : Step) (run : List ℕ) → Fits part s → run ≡ codes "d"
     → Spells spelling part s run (move_of lrat part s words.D)
-d_spelled after_identifier s run fits text = (
-  (record { some = fits.0.some; small = fits.0.small }, refl, refl, refl),
-  ap (λ w. decimal s.id ∷ w ∷ []) (sym text),
-)
-d_spelled _ s run fits text = tt
+d_spelled part s run h h2 = search rules
 
 number_spelled : (part : LratSpot) (s : Step) (run : List ℕ) → Fits part s → (n : Number)
     → IsSpelled (words.Number n) run
@@ -345,11 +268,7 @@ module _ (rest : List (List ℕ)) where
       → word_steps lrat at_identifier (named 0) (map word_of (lrat_words kind id ls hs ++ rest))
       ≡ option_map (λ ss. step_of kind id ls hs ∷ ss) later
   words_read Add id ls hs some small are empty hints =
-      ap (λ m. on_word lrat m
-      (λ part s. word_steps lrat part s
-      (map word_of ((literal_words ls ++ hint_words hs) ++ rest))))
-      (identifier_move (named 0) id some small)
-      ∙ addition_read id ls hs are hints
+      simp (on_word, lrat, word_steps, hint_words, identifier_move, named, addition_read)
   words_read Delete id ls hs some small are empty hints =
       ap (λ m. on_word lrat m
       (λ part s. word_steps lrat part s (map word_of (codes "d" ∷ hint_words hs ++ rest))))
@@ -360,22 +279,20 @@ module _ (rest : List (List ℕ)) where
       ∙ ap (λ t. step_of Delete id t hs) (sym (empty refl)))
 
 is_spelling : IsSpelling lrat spelling
-is_spelling = record {
-  begins = refl;
-  none = refl;
-  starts = refl;
-  ends = ends;
-  moves = λ part s run fits. word_moves part s run fits (word_of run) (word_spelled run);
-  reads = λ s is rest.
-      words_read rest s.kind s.id s.lits s.hints is.some is.small is.literals is.deletion is.hints;
-}
-  where
-    ends : (part : LratSpot) (s : Step) → Fits part s → is_identifier part ≡ true → so_far part s ≡ []
-    ends at_identifier s fits start = refl
-    ends after_identifier s fits start = absurd (inside start)
-    ends in_literals s fits start = absurd (inside start)
-    ends in_hints s fits start = absurd (inside start)
-    ends in_deletion s fits start = absurd (inside start)
+is_spelling =
+    search (
+      rules,
+      word_moves,
+      word_spelled,
+      words_read,
+      is_identifier,
+      at_identifier,
+      after_identifier,
+      inside,
+      in_literals,
+      in_hints,
+      in_deletion,
+    )
 
 pub lrat_both_ways : LratIsGrammar
 lrat_both_ways = text_both_ways lrat spelling is_spelling

@@ -5,6 +5,7 @@ use Rattle.std.specs.Prelude.{codes, All, ℤ, pos, negsuc}
 use Rattle.std.specs.Fmt.{decimal, signed_decimal}
 use Rattle.std.specs.List.{flat_map, list_all}
 use Rattle.std.proofs.lemmas.Bool.Decides.{nat_tests}
+use Rattle.std.proofs.Common.{rules}
 use Rattle.cnf_base.specs.Literals.{Literal}
 use Rattle.cnf_base.specs.Printing.{input_of, is_literal, literal_text, literal_words, words_line}
 use Rattle.cnf_base.specs.Stream.{suffix}
@@ -36,10 +37,7 @@ use Rattle.proofs.proofs.PrintedText.{zero_read, lines_read}
 -- a step's identifier
 pub identifier_move : (s : Step) (id : ℕ) → 1 ≤ id → is_small id ≡ true
     → move_of lrat at_identifier s (word_of (decimal id)) ≡ goes after_identifier (named id)
-identifier_move s id some small =
-    let most : id ≤ 9223372036854775807 = grind (arith, nat_tests) in
-    let nonzero : nat_le id 0 ≡ false = grind (arith, nat_tests) in
-    ap (move_of lrat at_identifier s) (decimal_word id (omega arith) (omega arith)) ∙ rw (nonzero, small) refl
+identifier_move s id some small = search (rules, nat_le, move_of, lrat, at_identifier, decimal_word)
 
 -- a literal's word
 pub first_literal_move : (s : Step) (l : Literal) → is_literal 268435455 l ≡ true
@@ -75,23 +73,16 @@ hint_plain Delete (negsuc k) is = absurd (let bad : false ≡ true = is in cc)
 pub hint_move : (kind : StepKind) (s : Step) (h : ℤ) → is_hint kind h ≡ true
     → move_of lrat (hint_part kind) s (word_of (signed_decimal h)) ≡ goes (hint_part kind) (with_hint s h)
 hint_move Add s (pos k) is =
-    let r = id_range k is in
-    let t = id_tests k is in
-    ap (move_of lrat in_hints s) (decimal_word k (omega arith) (omega arith)) ∙ rw (t.1, t.0) refl
+    search (rules, id_range, id_tests, move_of, lrat, in_hints, decimal_word)
 hint_move Add s (negsuc k) is =
-    let r = id_range (suc k) is in
-    let t = id_tests (suc k) is in
-    ap (move_of lrat in_hints s) (minus_word (suc k) (omega arith) (omega arith)) ∙ rw (t.1, t.0) refl
+    search (rules, id_range, id_tests, move_of, lrat, in_hints, minus_word)
 hint_move Delete s (pos k) is =
-    let r = id_range k is in
-    let t = id_tests k is in
-    ap (move_of lrat in_deletion s) (decimal_word k (omega arith) (omega arith)) ∙ rw (t.1, t.0) refl
+    search (rules, id_range, id_tests, move_of, lrat, in_deletion, decimal_word)
 hint_move Delete s (negsuc k) is = absurd (let bad : false ≡ true = is in cc)
 
 -- the `0` after them
 pub hint_zero : (kind : StepKind) (s : Step) → move_of lrat (hint_part kind) s (words.Number (number false 0)) ≡ completes s
-hint_zero Add s = refl
-hint_zero Delete s = refl
+hint_zero kind s = search rules
 
 -- ---- Lines
 

@@ -1,18 +1,15 @@
 -- The examples of printed texts.
-use Rattle.std.proofs.Common.{zero, suc, refl, arith}
+use Rattle.std.proofs.Common.{zero, suc, refl, arith, rules}
 use Rattle.std.specs.Prelude.{All}
 use Rattle.std.specs.Fmt.{digits}
 use Rattle.proofs.specs.Printing.{IsDratStep, IsLratStep, example_drat, example_lrat, ProofsLookSo}
 
 are_drat : All IsDratStep example_drat
-are_drat zero d l = record { id = refl; hints = refl; literals = refl }
-are_drat (suc zero) d l = record { id = refl; hints = refl; literals = refl }
-are_drat (suc (suc k)) d l = absurd (omega arith)
+are_drat = search rules
 
 are_lrat : All IsLratStep example_lrat
-are_lrat zero d l = record { some = omega arith; small = refl; literals = refl; deletion = λ e. cc; hints = refl }
-are_lrat (suc zero) d l =
-    record { some = omega arith; small = refl; literals = refl; deletion = λ e. refl; hints = refl }
+are_lrat zero d l = search rules
+are_lrat (suc zero) d l = search rules
 are_lrat (suc (suc k)) d l = absurd (omega arith)
 
 pub examples_printed : ProofsLookSo

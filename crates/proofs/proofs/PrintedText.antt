@@ -1,9 +1,9 @@
 -- A proof that was printed as text, as it is read, in whatever format.
 use Rattle.std.proofs.Common.{◌≡◌, ℕ, suc, ◌+◌, ◌-◌, ◌<◌, Bool, true, false, List, [], ◌∷◌, ◌++◌}
-use Rattle.std.proofs.Common.{length, map, fold, None, refl, sym, ap, ◌∙◌, append_assoc, arith}
+use Rattle.std.proofs.Common.{length, map, fold, None, refl, ap, ◌∙◌, append_assoc, arith}
 use Rattle.std.specs.Prelude.{codes, All, ℤ}
 use Rattle.std.specs.List.{flat_map, list_all}
-use Rattle.std.proofs.lemmas.List.{append-nil}
+use Rattle.std.proofs.Common.{rules}
 use Rattle.cnf_base.specs.Literals.{Literal}
 use Rattle.cnf_base.specs.Stream.{suffix}
 use Rattle.cnf_base.specs.Text.{Listing}
@@ -14,13 +14,12 @@ use Rattle.cnf_base.specs.declared.place.Place.{Place}
 use Rattle.cnf_base.specs.declared.word.Word.{Word}
 use Rattle.cnf_base.specs.declared.word.Word.TheVariants as words
 use Rattle.cnf_base.specs.declared.token.Token.TheVariants as token
-use Rattle.cnf_base.proofs.TextLemmas.{listing_at-end}
 use Rattle.cnf_base.proofs.PrintLemmas.{line_from, end_of_line, end_of_line-next, IsPlain, past}
 use Rattle.cnf_base.proofs.PrintLemmas.{past_from_one, Begins, next_word, next_line, both}
 use Rattle.cnf_base.proofs.PrintLemmas.{zero_plain}
 use Rattle.proofs.specs.declared.step_buf.StepKind.{StepKind}
 use Rattle.proofs.specs.declared.step_end.StepEnd.TheVariants as ends
-use Rattle.proofs.specs.Steps.{Step, named, with_literal, with_hint}
+use Rattle.proofs.specs.Steps.{Step, with_literal, with_hint}
 use Rattle.proofs.specs.Reading.{with_step}
 use Rattle.proofs.specs.TextSteps.{goes, completes, Format, move_of, steps_from}
 use Rattle.proofs.specs.Code.TextSteps.{steps_listed}
@@ -30,17 +29,14 @@ use Rattle.proofs.specs.Printing.{ReadProof, read_of, printed_steps, IsDratStep}
 -- many literals, and many hints
 pub with_literals : (s : Step) (ls : List Literal)
     → fold with_literal s ls ≡ record { kind = s.kind; id = s.id; lits = s.lits ++ ls; hints = s.hints }
-with_literals s [] = ap (λ t. record { kind = s.kind; id = s.id; lits = t; hints = s.hints }) (sym (append-nil s.lits))
+with_literals s [] = search rules
 with_literals s (l ∷ ls) =
-    with_literals (with_literal s l) ls
-    ∙ ap (λ t. record { kind = s.kind; id = s.id; lits = t; hints = s.hints }) (append_assoc s.lits (l ∷ []) ls)
+    search (rules, with_literal, append_assoc, (with_literals (with_literal s l) ls))
 
 pub with_hints : (s : Step) (hs : List ℤ)
     → fold with_hint s hs ≡ record { kind = s.kind; id = s.id; lits = s.lits; hints = s.hints ++ hs }
-with_hints s [] = ap (λ t. record { kind = s.kind; id = s.id; lits = s.lits; hints = t }) (sym (append-nil s.hints))
-with_hints s (h ∷ hs) =
-    with_hints (with_hint s h) hs
-    ∙ ap (λ t. record { kind = s.kind; id = s.id; lits = s.lits; hints = t }) (append_assoc s.hints (h ∷ []) hs)
+with_hints s [] = search rules
+with_hints s (h ∷ hs) = search (rules, with_hint, append_assoc, (with_hints (with_hint s h) hs))
 
 -- what is read of a proof, with one more step in front
 abbrev pub with_read : Step → ℕ → ReadProof → ReadProof
@@ -55,11 +51,7 @@ abbrev pub drat_step : StepKind → List Literal → Step
 drat_step kind ls = record { kind = kind; id = 0; lits = ls; hints = [] }
 
 pub drat_step_is : (s : Step) → IsDratStep s → drat_step s.kind s.lits ≡ s
-drat_step_is s f = by s.id s.hints f.id f.hints
-  where
-    by : (id : ℕ) (hints : List ℤ) → id ≡ 0 → hints ≡ []
-        → drat_step s.kind s.lits ≡ record { kind = s.kind; id = id; lits = s.lits; hints = hints }
-    by id hints e h = rw (e, h) refl
+drat_step_is s f = search rules
 
 module _ {Part : Type 0} (format : Format Part) where
   -- a word of a step, and the last one
@@ -116,8 +108,7 @@ module _ {Part : Type 0} (format : Format Part) where
       → read_of (steps_at format p (suffix n (line s ++ rest) End)) ≡ with_read s (n + length (line s) - 1) result)
       → (steps : List Step) (n : ℕ) (p : Place) → 0 < p.col → All Fits steps
       → read_of (steps_at format p (suffix n (flat_map line steps) End)) ≡ printed_from (codes "\n") line n steps
-  lines_read line Fits starts read [] n p from_one are =
-      ap (λ l. read_of (steps_from format format.start (named 0) l)) (listing_at-end p n End) ∙ rw starts refl
+  lines_read line Fits starts read [] n p from_one are = search rules
   lines_read line Fits starts read (s ∷ ss) n p from_one are =
       read s (are 0 s (omega arith)) (flat_map line ss) (printed_from (codes "\n") line (n + length (line s)) ss) n
       (λ q q_from_one. lines_read line Fits starts read ss (n + length (line s)) q q_from_one (λ k d l. are (suc k) d (omega arith)))

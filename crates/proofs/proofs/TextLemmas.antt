@@ -1,7 +1,7 @@
 -- A proof's tokens, one at a time.
 use Rattle.std.proofs.Common.{◌≡◌, ℕ, ◌<◌, ◌≤◌, [], Option, None, Some, refl, sym, ap, ◌∙◌}
-use Rattle.std.proofs.Common.{subst, arith}
-use Rattle.std.specs.Prelude.{Bool, true, false, Result, Ok, Err}
+use Rattle.std.proofs.Common.{subst, arith, rules}
+use Rattle.std.specs.Prelude.{Bool, true, Result, Ok, Err}
 use Rattle.cnf_base.specs.Stream.{Suffix, Stream, Along, most_to_come, tells_failure}
 use Rattle.cnf_base.specs.Readers.{Keeps}
 use Rattle.cnf_base.specs.Text.{Listing, listing_at, Gives}
@@ -12,7 +12,7 @@ use Rattle.cnf_base.specs.declared.word.Word.{Word}
 use Rattle.cnf_base.specs.declared.token.Token.{Token}
 use Rattle.cnf_base.specs.declared.token.Token.TheVariants as token
 use Rattle.cnf_base.specs.declared.fault.Fault.{Fault}
-use Rattle.cnf_base.specs.declared.fault.Fault.TheVariants.{Text, Binary, ReadFailed, OutOfMemory}
+use Rattle.cnf_base.specs.declared.fault.Fault.TheVariants.{Text, ReadFailed}
 use Rattle.cnf_base.specs.declared.fault.TextFault.{TextFault}
 use Rattle.cnf_base.proofs.ListingLemmas.{Gives-from, listing_at-from}
 use Rattle.cnf_base.proofs.StreamLemmas.{Along-then, Along-map, Along-none, Along-still}
@@ -27,15 +27,11 @@ use Rattle.proofs.specs.Code.TextSteps.{steps_listed}
 use Rattle.proofs.specs.Code.TextMoves.{fault_at, text_left, EndsProof, MovesText}
 use Rattle.proofs.specs.declared.moved.Moved.{Moved}
 use Rattle.proofs.specs.declared.stopped.Stopped.{Stopped}
-use Rattle.proofs.specs.declared.stopped.Stopped.TheVariants as stops
 use Rattle.proofs.proofs.ReachLemmas.{steps_among-from, on_move-from, ended-from}
 
 -- a fault is what comes, and it stays
 pub gives_fault : (f : Fault) (end : Option StepEnd) (s : Step) (p q : Proof) (rest : Suffix) → IsFaulty f p → q ≡ faulty_proof f None → GivesStep (Err f) end s p q rest
-gives_fault (Text k p) end s b a rest is stays = (is, stays)
-gives_fault (Binary k n) end s b a rest is stays = (is, stays)
-gives_fault ReadFailed end s b a rest is stays = (is, stays)
-gives_fault OutOfMemory end s b a rest is stays = stays
+gives_fault f end s p q rest h h2 = search rules
 
 -- so it is, wherever the fault ends
 pub IsFaulty-from : (f : Fault) (end : Option ℕ) (p : Proof) → p ≡ record { steps = []; fault = Some f; fault_end = end } → IsFaulty f p
@@ -44,9 +40,7 @@ IsFaulty-from f end p is = record { no_step = ap (λ x. x.steps) is; fault = ap 
 -- an answer that is kept is what comes, and it stays
 kept_gives : (answer : Result Bool Fault) (end : Option StepEnd) (s : Step) (before after : Proof) (rest : Suffix) → (answer ≡ Ok true → ⊥)
     → before ≡ proof_unless_ended (Some answer) clean → after ≡ proof_unless_ended (Some answer) clean → GivesStep answer end s before after rest
-kept_gives (Ok true) end s before after rest none b a = absurd (none refl)
-kept_gives (Ok false) end s before after rest none b a = (b ∙ sym a, b)
-kept_gives (Err f) end s before after rest none b a = gives_fault f end s before after rest (IsFaulty-from f None before b) a
+kept_gives answer end s before after rest h h2 h3 = search rules
 
 pub Kept-step : (stream : Stream) (kept : Option (Result Bool Fault)) (coming : Suffix → Proof) (answer : Result Bool Fault) (end : Option StepEnd) (s : Step)
     → kept ≡ Some answer → (kept ≡ Some (Ok true) → ⊥)
@@ -68,19 +62,15 @@ Kept-step stream kept coming answer end s is none =
 -- what is left after an answer, where it is kept if it is an end
 pub text_kept : {P : Type 0} (format : Format P) (result : Result Bool Fault) (kept : Option (Result Bool Fault)) (l : Listing) → Keeps result kept
     → text_left format result l ≡ proof_unless_ended kept (steps_listed format l)
-text_kept format (Ok true) kept l keeps = ap (λ k. proof_unless_ended k (steps_listed format l)) (sym keeps)
-text_kept format (Ok false) kept l keeps = ap (λ k. proof_unless_ended k (steps_listed format l)) (sym keeps)
-text_kept format (Err f) kept l keeps = ap (λ k. proof_unless_ended k (steps_listed format l)) (sym keeps)
+text_kept format result kept l h = search rules
 
 ends_so : {P : Type 0} (format : Format P) (last : Proof) (result : Result Bool Fault) (end : Option StepEnd) (s : Step) (before : Proof) (l : Listing) (rest : Suffix)
     → EndsProof result last → before ≡ last
     → GivesStep result end s before (text_left format result l) rest
-ends_so format last (Ok true) end s before l rest ends e = absurd ends
-ends_so format last (Ok false) end s before l rest ends e = (e ∙ ends, e ∙ ends)
-ends_so format last (Err f) end s before l rest ends e = gives_fault f end s before _ rest (IsFaulty-from f None before (e ∙ ends)) refl
+ends_so format last result end s before l rest h h2 = search rules
 
 pub moves_told : {P S : Type 0} (spot : P → S) (result answer : Result (Moved P) Stopped) (m : Move S) (s : Step) → MovesText spot result m s → result ≡ answer → MovesText spot answer m s
-moves_told {P} spot result answer m s moves is = let Q : Result (Moved P) Stopped → Type 0 = λ r. MovesText spot r m s in subst Q is moves
+moves_told spot result answer m s h h2 = search rules
 
 -- from one moment to another words of one step were read
 pub record Between {P : Type 0} (format : Format P) (old now : Stream) (part : P) (s : Step) : Type 0 where
@@ -122,16 +112,12 @@ module _ {P : Type 0} (format : Format P) (old now new : Stream) (part : P) (s :
 
     -- whatever the word did, nothing that was to come ends before what is left
     follows-from : (j : Suffix) (move : Move P) → PassesNoEnd (follows j move) j
-    follows-from j move = on_move-from format j.offset p j.offset move (λ part s. steps_from format part s (listing_at new.place j)) (omega arith)
-        (λ part s. steps_among-from format j.offset part s _ _ _ (listing_at-from new.place j))
+    follows-from j move =
+        search (rules, on_move-from, steps_from, steps_among-from, listing_at-from)
 
     pub Between-word : (next : P) (t : Step) → move_of format part s w ≡ goes next t → most_to_come new < most_to_come now → tells_failure new.reader ≡ tells_failure now.reader
         → Between format old new next t
-    Between-word next t is fewer mark = record {
-      text = Along-map old new _ _ word_text (λ i j m q. q ∙ ap (follows j) is);
-      fewer = omega (arith, so_far.fewer, fewer);
-      mark = mark ∙ so_far.mark;
-    }
+    Between-word next t is fewer mark = search (rules, word_text)
 
     -- what is made of the move is given
     gave : (result : Result Bool Fault) (end : Option StepEnd) (t : Step)
@@ -140,15 +126,13 @@ module _ {P : Type 0} (format : Format P) (old now new : Stream) (part : P) (s :
     gave result end t gives = Along-map old new _ _ word_text (λ i j m q. (gives i j q, passes _ (follows j (move_of format part s w)) j q (follows-from j (move_of format part s w))))
 
     pub Between-step : (end : Option StepEnd) → end ≡ Some (ends.Text p) → (t : Step) → move_of format part s w ≡ completes t → Gave (Ok true) end t
-    Between-step end at t is = gave (Ok true) end t (λ i j q. (ends.Text p, at, q ∙ ap (follows j) is))
+    Between-step end at t is = search (rules, gave)
 
     pub Between-fault : (f : TextFault) (t : Step) → move_of format part s w ≡ faults f → Gave (Err (Text f p)) None t
-    Between-fault f t is = gave (Err (Text f p)) None t (λ i j q.
-        gives_fault (Text f p) None t _ _ j (IsFaulty-from (Text f p) (Some j.offset) _ (q ∙ ap (follows j) is)) refl)
+    Between-fault f t is = search (rules, gave, gives_fault, IsFaulty-from)
 
     pub Between-stopped : {Part : Type 0} (spot : Part → P) (result : Result (Moved Part) Stopped) (stopped : Stopped) (end : Option StepEnd) (t : Step) → MovesText spot result (move_of format part s w) t → result ≡ Err stopped → Gave (Err (fault_at stopped p)) end t
-    Between-stopped spot result (stops.Text f) end t moves is = Between-fault f t (moves_told spot result (Err (stops.Text f)) _ t moves is)
-    Between-stopped spot result stops.OutOfMemory end t moves is = gave (Err OutOfMemory) None t (λ i j q. refl)
+    Between-stopped spot result stopped end t h h2 = search (rules, Between-fault, moves_told, gave)
 
   -- and none before the rest
   rest-from : (result : Result Token Cut) (i j k : Suffix) → Gives result (listing_at now.place j) (listing_at new.place k) k

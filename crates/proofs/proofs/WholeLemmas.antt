@@ -1,9 +1,9 @@
 -- Numbers that stand whole, and what they do to a step.
 use Rattle.std.proofs.Common.{◌≡◌, ◌≢◌, ℕ, suc, ◌+◌, ◌*◌, ◌%◌, ◌<◌, ◌≤◌, Bool, true, false, List, []}
 use Rattle.std.proofs.Common.{◌∷◌, ◌++◌, length, take, refl, sym, ap, ◌∙◌, arith, subst}
-use Rattle.std.proofs.Common.{append_assoc}
+use Rattle.std.proofs.Common.{append_assoc, rules}
 use Rattle.std.specs.List.{list_all}
-use Rattle.std.specs.Prelude.{nat_le, slice_index, if◌then◌else◌, ◌==◌}
+use Rattle.std.specs.Prelude.{nat_le, slice_index, if◌then◌else◌}
 use Rattle.std.proofs.lemmas.Bool.Decides.{nat_tests}
 use Rattle.std.proofs.lemmas.Grind.{common_steps}
 use Rattle.std.proofs.lemmas.List.{take-append-le, length-drop, length-take-le}
@@ -12,10 +12,9 @@ use Rattle.cnf_base.proofs.StreamLemmas.{Along-still, Along-then, Along-skipped,
 use Rattle.cnf_base.specs.declared.input.Ending.{Ending}
 use Rattle.proofs.specs.Steps.{Step, with_literal}
 use Rattle.proofs.specs.Binary.{groups_value, in_step, in_number, binary_steps_among, group_move}
-use Rattle.proofs.specs.Binary.{goes, faults, binary_number_move, on_binary_move, completes}
+use Rattle.proofs.specs.Binary.{goes, on_binary_move}
 use Rattle.proofs.specs.Binary.{BinarySpot, binary_move_of}
 use Rattle.proofs.specs.Code.Binary.{binary_steps_from}
-use Rattle.cnf_base.specs.declared.fault.BinaryFault.TheVariants.{BadNumber, LiteralTooLarge}
 use Rattle.std.proofs.lemmas.Bool.{and_parts, true≢false}
 use Rattle.proofs.specs.Code.Whole.{spelled, IsWhole, RunsOn}
 use Rattle.proofs.specs.declared.drat_binary.whole.Spelled.{Spelled}
@@ -98,25 +97,17 @@ more_more at n k is = omega (arith, is)
 -- the literal is put into the step
 ended : (s : Step) (first last value : ℕ) (before : List ℕ) → nat_le 128 last ≡ false → last ≢ 0 → value ≡ groups_value (before ++ last ∷ []) → 2 ≤ value → value ≤ 536870911
     → group_move s first before last ≡ goes in_step (with_literal s value)
-ended s first last value before low some says least most =
-    ap (λ t. if t then goes (in_number first (before ++ last ∷ [])) s else binary_number_move s first last (groups_value (before ++ last ∷ []))) low
-    ∙ ap (binary_number_move s first last) (sym says)
-    ∙ (let a : (last == 0) ≡ false = grind (arith, nat_tests, some) in let b : nat_le value 1 ≡ false = grind (arith, nat_tests, least) in let c : nat_le value 536870911 ≡ true = grind (arith, nat_tests, most) in
-    ap (λ t. if t then faults BadNumber first else (if nat_le value 1 then faults BadNumber first else (if nat_le value 536870911 then goes in_step (with_literal s value) else faults LiteralTooLarge first))) a
-    ∙ ap (λ t. if t then faults BadNumber first else (if nat_le value 536870911 then goes in_step (with_literal s value) else faults LiteralTooLarge first)) b
-    ∙ ap (λ t. if t then goes in_step (with_literal s value) else faults LiteralTooLarge first) c)
+ended s first last value before low some says least most = search rules
 
 goes_on : (s : Step) (first b : ℕ) (before : List ℕ) → nat_le 128 b ≡ true → group_move s first before b ≡ goes (in_number first (before ++ b ∷ [])) s
-goes_on s first b before high =
-    ap (λ t. if t then goes (in_number first (before ++ b ∷ [])) s else binary_number_move s first b (groups_value (before ++ b ∷ []))) high
+goes_on s first b before high = cc
 
 number_steps : (s : Step) (first last value : ℕ) (init before : List ℕ) (at offset : ℕ) (rest : List ℕ) (ending : Ending) → list_all (nat_le 128) init ≡ true → nat_le 128 last ≡ false → last ≢ 0
     → value ≡ groups_value (before ++ (init ++ last ∷ [])) → 2 ≤ value → value ≤ 536870911
     → binary_steps_among (in_number first before) s at offset ((init ++ last ∷ []) ++ rest) ending
     ≡ binary_steps_among in_step (with_literal s value) (more_count at (length init + 1)) (offset + (length init + 1)) rest ending
 number_steps s first last value [] before at offset rest ending high low some says least most =
-    ap (λ m. on_binary_move at (suc offset) m (λ spot t. binary_steps_among spot t (next_count at) (suc offset) rest ending)) (ended s first last value before low some says least most)
-    ∙ ap (λ o. binary_steps_among in_step (with_literal s value) (next_count at) o rest ending) (omega arith)
+    search rules
 number_steps s first last value (b ∷ init) before at offset rest ending high low some says least most =
     let parts = and_parts (nat_le 128 b) (list_all (nat_le 128) init) high in
     ap (λ m. on_binary_move at (suc offset) m (λ spot t. binary_steps_among spot t (next_count at) (suc offset) ((init ++ last ∷ []) ++ rest) ending)) (goes_on s first b before parts.0)
@@ -126,7 +117,7 @@ number_steps s first last value (b ∷ init) before at offset rest ending high l
 
 -- at a step's literals a number begins with any byte but 0
 begins : (s : Step) (at b : ℕ) → b ≢ 0 → binary_move_of in_step s at b ≡ group_move s at [] b
-begins s at b some = let e : (b == 0) ≡ false = grind (arith, nat_tests, some) in ap (λ t. if t then completes s else group_move s at [] b) e
+begins s at b some = search rules
 
 pub whole_steps : (s : Step) (bytes : List ℕ) (count value at offset : ℕ) (rest : List ℕ) (ending : Ending) → IsWhole bytes count value
     → binary_steps_among in_step s at offset (take count bytes ++ rest) ending ≡ binary_steps_among in_step (with_literal s value) (more_count at count) (offset + count) rest ending
