@@ -2,28 +2,28 @@
 use Rattle.std.proofs.Common.{◌≡◌, ◌∙◌, ◌+◌, ◌<◌, ◌≤◌, ap, ap₂, sym, subst, refl, codes, List, []}
 use Rattle.std.proofs.Common.{◌∷◌, ◌++◌, Bool, true, false, ℕ, zero, suc, Option, None, Some}
 use Rattle.std.proofs.Common.{option_map, String, string_bytes, cond, true≢false, arith, length}
-use Rattle.std.proofs.Common.{length-append}
+use Rattle.std.proofs.Common.{length-append, rules}
 use Rattle.std.specs.Prelude.{◌==◌, ◌&&◌, ◌||◌, drop, is_some, not, slice_get, if◌then◌else◌}
 use Rattle.std.specs.Prelude.{filter}
 use Rattle.std.specs.Str.{bytes_eq}
 use Rattle.std.specs.List.{fold, list_all, list_any}
-use Rattle.std.specs.Option.{option_map_or}
 use Rattle.std.proofs.lemmas.List.Elements.{filter-append}
 use Rattle.std.proofs.lemmas.Slice.Eq.{bytes_eq-Decides}
+use Rattle.std.proofs.lemmas.Grind.{common_steps}
+use Rattle.std.proofs.lemmas.Bool.Decides.{nat_tests}
 use Rattle.clap.specs.Faults.{check_fault, default_fault, defaults_fault, fault_of}
-use Rattle.clap.specs.Faults.{given_default_fault, settle_fault, turn_fault, walk_fault}
-use Rattle.clap.specs.Facts.{explicit_source}
+use Rattle.clap.specs.Faults.{settle_fault, turn_fault, walk_fault}
 use Rattle.clap.specs.Kinds.{Kinds, or_else}
 use Rattle.clap.specs.Takes.{is_given}
-use Rattle.clap.specs.Walk.{Held, Row, Text, Walk, finished, has_row, nothing_held, settled}
-use Rattle.clap.specs.Walk.{settled_rows, walk, walked, with_default}
+use Rattle.clap.specs.Walk.{Held, Row, Text, Walk, finished, nothing_held, settled}
+use Rattle.clap.specs.Walk.{walk, walked, with_default}
 use Rattle.clap.specs.declared.error.kind.ErrorKind.TheVariants as kind
 use Rattle.command_line.specs.Code.Commands.{command_of}
 use Rattle.command_line.specs.Words.{Accepts, is_among, is_empty_word, is_flag, is_known}
 use Rattle.command_line.specs.Words.{is_read_twice, is_some_empty, names, times}
 use Rattle.command_line.proofs.CommandLineLemmas.Rules.{fault_is, files_and_texts, flag_full}
-use Rattle.command_line.proofs.CommandLineLemmas.Rules.{formula_full, help_full, rules_of}
-use Rattle.command_line.proofs.CommandLineLemmas.Rules.{second_full, top_of}
+use Rattle.command_line.proofs.CommandLineLemmas.Rules.{rules_of}
+use Rattle.command_line.proofs.CommandLineLemmas.Rules.{top_of}
 use Rattle.command_line.proofs.CommandLineLemmas.Rows.{names_added, names_kept}
 use Rattle.command_line.proofs.CommandLineLemmas.Turns.{at}
 use Rattle.command_line.proofs.CommandLineLemmas.Steps.{After, Shows, end_mark, flag_passes}
@@ -39,49 +39,26 @@ nils a b e f = ap₂ or_else e f
 
 -- ---- the last checks
 
-no_default : (b : Bool) (k : Kinds) → (if b || true then [] else k) ≡ []
-no_default true k = refl
-no_default false k = refl
-
 flag_default_fault : (f : Text) (rows : List Row) → default_fault rows (flag_full f) ≡ []
-flag_default_fault f rows = go (has_row f rows)
-  where
-    go : (b : Bool) → (if b || false then [] else given_default_fault (flag_full f) (codes "false" ∷ [])) ≡ []
-    go true = refl
-    go false = refl
+flag_default_fault f rows = search rules
 
 files_fault : (rows : List Row) → defaults_fault rows files_and_texts ≡ []
 unfolding defaults_fault
-files_fault rows =
-    nils _ _ (no_default (has_row (codes "formula") rows) _)
-    (nils _ _ (no_default (has_row (codes "second") (with_default rows formula_full)) _)
-    (nils _ _ (no_default (has_row (codes "help") (with_default (with_default rows formula_full) second_full)) _)
-    (nils _ _ (no_default (has_row (codes "version") (with_default (with_default (with_default rows formula_full) second_full) help_full)) _) refl)))
+files_fault rows = search rules
 
 all_defaults_fault : (tool : Tool) (rows : List Row) → defaults_fault rows (rules_of tool) ≡ []
 unfolding defaults_fault
-all_defaults_fault Drat rows =
-    nils _ _ (flag_default_fault (codes "binary") rows)
-    (nils _ _ (flag_default_fault (codes "trace") (with_default rows (flag_full (codes "binary"))))
-    (nils _ _ (flag_default_fault (codes "strict") (with_default (with_default rows (flag_full (codes "binary"))) (flag_full (codes "trace"))))
-    (nils _ _ (flag_default_fault (codes "pr") (with_default (with_default (with_default rows (flag_full (codes "binary"))) (flag_full (codes "trace"))) (flag_full (codes "strict"))))
-    (nils _ _ (flag_default_fault (codes "keep-units") (with_default (with_default (with_default (with_default rows (flag_full (codes "binary"))) (flag_full (codes "trace"))) (flag_full (codes "strict"))) (flag_full (codes "pr"))))
-    (files_fault
-    (with_default (with_default (with_default (with_default (with_default rows (flag_full (codes "binary"))) (flag_full (codes "trace"))) (flag_full (codes "strict"))) (flag_full (codes "pr"))) (flag_full (codes "keep-units"))))))))
-all_defaults_fault Lrat rows = nils _ _ (flag_default_fault (codes "trace") rows) (files_fault (with_default rows (flag_full (codes "trace"))))
+all_defaults_fault Drat rows = simp (nils, flag_default_fault, flag_full, files_fault)
+all_defaults_fault Lrat rows = search rules
 all_defaults_fault Model rows = files_fault rows
 
 check_is : (tool : Tool) (rows : List Row) → check_fault (top_of tool) rows false ≡ (if not (is_given (codes "formula") rows) || false then kind.MissingRequiredArgument ∷ [] else [])
-check_is Drat rows = refl
-check_is Lrat rows = refl
-check_is Model rows = refl
+check_is tool rows = search rules
 
 formula_given : (tool : Tool) (words ns : List Text) (rows : List Row) → Shows tool words ns rows → 1 ≤ length ns
     → is_given (codes "formula") (fold with_default rows (rules_of tool)) ≡ true
 formula_given tool words [] rows s some = absurd (omega arith)
-formula_given tool words (a ∷ ns) rows s some =
-    ap (λ (o : Option Row). option_map_or (λ (r : Row). explicit_source r.source) o false)
-    (row_at_end tool (codes "formula") rows ∙ (formula_row_end tool _ ∙ s.formula))
+formula_given tool words (a ∷ ns) rows s some = search (rules, row_at_end, formula_row_end)
 
 abbrev rest_fault : Tool → Held → Kinds
 rest_fault tool h = or_else (settle_fault (rules_of tool) false h)
@@ -89,12 +66,7 @@ rest_fault tool h = or_else (settle_fault (rules_of tool) false h)
 
 rest_passes : (tool : Tool) (words : List Text) (w : Walk) → After tool words w → 1 ≤ length (names tool words) → rest_fault tool w.held ≡ []
 rest_passes tool words w a some =
-    let one : 1 ≤ length a.ns = subst (λ (l : List Text). 1 ≤ length l) a.shows.said some in
-    ap (λ (v : Walk). rest_fault tool v.held) a.is
-    ∙ nils _ _ a.settles
-    (nils _ _ (all_defaults_fault tool (settled_rows (rules_of tool) a.pending a.rows))
-    (check_is tool (fold with_default (settled_rows (rules_of tool) a.pending a.rows) (rules_of tool))
-    ∙ ap (λ b. if not b || false then kind.MissingRequiredArgument ∷ [] else []) (formula_given tool words a.ns (settled_rows (rules_of tool) a.pending a.rows) a.shows one)))
+    search (rules, nils, all_defaults_fault, rules_of, check_is, formula_given)
 
 -- ---- the words
 
@@ -107,9 +79,7 @@ neither true b e = absurd (true≢false e)
 neither false b e = (refl, e)
 
 end_mark_unknown : (tool : Tool) → is_known tool end_mark ≡ false
-end_mark_unknown Drat = refl
-end_mark_unknown Lrat = refl
-end_mark_unknown Model = refl
+end_mark_unknown tool = search rules
 
 pub known_free : (tool : Tool) (words : List Text) → list_all (is_known tool) words ≡ true → is_among words end_mark ≡ false
 known_free tool [] known = refl
@@ -121,7 +91,7 @@ known_free tool (word ∷ words) known = go (bytes_eq end_mark word) refl (known
         absurd (true≢false (sym (both _ _ known).0 ∙ (ap (is_known tool) (sym ((bytes_eq-Decides end_mark word).0 e)) ∙ end_mark_unknown tool)))
 
 times_more : (f word : Text) (done : List Text) → times f (done ++ word ∷ []) ≡ times f done + length (filter (bytes_eq f) (word ∷ []))
-times_more f word done = ap length (filter-append (bytes_eq f) done (word ∷ [])) ∙ length-append (filter (bytes_eq f) done) (filter (bytes_eq f) (word ∷ []))
+times_more f word done = simp (filter-append, length-append)
 
 never_among : (f : Text) (done : List Text) → times f done ≤ 0 → is_among done f ≡ false
 never_among f [] none = refl
@@ -157,27 +127,13 @@ module _ (tool : Tool) (done : List Text) (word : Text) (words : List Text) (fit
       go false e = omega (arith, e)
 
   fits_next : Fits tool (done ++ word ∷ []) words
-  fits_next =
-      let step = names_step (is_flag tool word) refl in
-      let before = fits.most in
-      record {
-        full = (neither _ _ fits.full).1;
-        most = omega (arith, step, before);
-        known = (both _ _ fits.known).1;
-        once = λ f flag. let more = times_step f in let low = fits.once f flag in omega (arith, more, low);
-      }
+  fits_next = grind (arith, common_steps, nat_tests, names_step, neither, both, times_step)
 
   fits_flag : is_flag tool word ≡ true → is_among done word ≡ false
-  fits_flag flag =
-      let here : times word (word ∷ words) ≡ suc (times word words) = ap (λ b. length (cond b (word ∷ filter (bytes_eq word) words) (filter (bytes_eq word) words))) ((bytes_eq-Decides word word).1 refl) in
-      let low = fits.once word flag in
-      never_among word done (omega (arith, here, low))
+  fits_flag flag = search (rules, bytes_eq-Decides, never_among)
 
   fits_name : is_flag tool word ≡ false → length (names tool done) < 2
-  fits_name flag =
-      let here : length (names tool (word ∷ words)) ≡ suc (length (names tool words)) = ap (λ b. length (cond (not b) (word ∷ names tool words) (names tool words))) flag in
-      let most = fits.most in
-      omega (arith, here, most)
+  fits_name flag = search rules
 
 turn_passes : (tool : Tool) (done : List Text) (word : Text) (words : List Text) → Fits tool done (word ∷ words) → (w : Walk) → After tool done w
     → turn_fault (top_of tool) [] w word ≡ []
@@ -243,11 +199,7 @@ none_left p t (w ∷ ws) e = by (p w) (t w) refl (none_left p t ws)
 
 at_none : (t : Text → Bool) (words : List Text) (k : ℕ) (w : Text) → list_any t words ≡ false → Some w ≡ slice_get words k → t w ≡ false
 at_none t [] k w e is = absurd (true≢false (ap is_some is))
-at_none t (x ∷ xs) zero w e is = by (t x) refl
-  where
-    by : (v : Bool) → t x ≡ v → t w ≡ false
-    by true h = absurd (true≢false (sym (ap (λ v. v || list_any t xs) h) ∙ e))
-    by false h = let same : w ≡ x = cc in ap t same ∙ h
+at_none t (x ∷ xs) zero w e is = search rules
 at_none t (x ∷ xs) (suc k) w e is = at_none t xs k w (by (t x) e) is
   where
     by : (v : Bool) → (v || list_any t xs) ≡ false → list_any t xs ≡ false
@@ -272,4 +224,4 @@ names_full {Z} tool words formula second accepts first then_second =
 pub names_apart : {Z : Type 0} (tool : Tool) (words : List Text) (formula : Text) (second : Option (String Z)) → Accepts tool words
     → Some formula ≡ slice_get (names tool words) 0 → option_map string_bytes second ≡ slice_get (names tool words) 1
     → is_read_twice (Some formula) (option_map string_bytes second) ≡ false
-names_apart tool words formula second accepts first then_second = ap₂ is_read_twice first then_second ∙ accepts.apart
+names_apart tool words formula second accepts first then_second = cc

@@ -1,7 +1,7 @@
 -- A word that begins with a hyphen and is no flag is refused.
 use Rattle.std.proofs.Common.{◌≡◌, ◌∙◌, ap, sym, subst, refl, codes, List, [], ◌∷◌, ◌++◌, Bool}
-use Rattle.std.proofs.Common.{true, false, Option, Some, None, ℕ, true≢false, map, arith, length}
-use Rattle.std.proofs.Common.{suc}
+use Rattle.std.proofs.Common.{true, false, Option, Some, None, ℕ, true≢false, map, arith}
+use Rattle.std.proofs.Common.{rules}
 use Rattle.std.specs.Prelude.{◌==◌, ◌&&◌, ◌||◌, not, is_some, slice_get, String, string_bytes, drop}
 use Rattle.std.specs.Str.{IsUtf8, all_scalars, bytes_eq, chars, encode_utf8_all, is_utf8}
 use Rattle.std.specs.List.{list_all}
@@ -73,11 +73,7 @@ plain_at tool r p n (x ∷ xs) flag mark s u f = go (x == 45) refl xs flag mark 
 
 word_known : (tool : Tool) (done : List Text) (w : Walk) → After tool done w → (word : Text) → bytes_eq word end_mark ≡ false → is_utf8 word ≡ true
     → turn_fault (top_of tool) [] w word ≡ [] → is_known tool word ≡ true
-word_known tool done w a word mark u f = go (is_flag tool word) refl
-  where
-    go : (b : Bool) → is_flag tool word ≡ b → (b || is_plain_word word) ≡ true
-    go true flag = refl
-    go false flag = plain_at tool a.rows a.pending (suc (length a.ns)) word flag mark a.settles u (ap (λ v. turn_fault (top_of tool) [] v word) (sym a.is) ∙ f)
+word_known tool done w a word mark u f = search (rules, plain_at, top_of)
 
 both : (a b : Bool) → (a && b) ≡ true → (a ≡ true) × (b ≡ true)
 both true b e = (refl, e)

@@ -1,6 +1,6 @@
 -- From a parse of the command to what the words say.
 use Rattle.std.proofs.Common.{◌≡◌, ◌∙◌, ap, sym, subst, refl, codes, List, [], ◌∷◌, Bool, true}
-use Rattle.std.proofs.Common.{false, Option, Some, None, map, inl, inr}
+use Rattle.std.proofs.Common.{false, Option, Some, None, map, rules}
 use Rattle.std.specs.Prelude.{◌&&◌, drop, Err, string_bytes, String}
 use Rattle.clap.specs.Words.{App, FailsBy, Text, fault_of, found_of, is_simple_and_free, kind_of}
 use Rattle.clap.specs.Words.{one_of, one_text, rows_of}
@@ -14,7 +14,6 @@ use Rattle.command_line.specs.Words.{is_known, Accepts, end_mark, is_among, is_f
 use Rattle.command_line.proofs.CommandLineLemmas.Rules.{is_plain, is_simple_too}
 use Rattle.command_line.proofs.CommandLineLemmas.Ends.{Reads, flag_text, parse_reads}
 use Rattle.std.specs.List.{list_all}
-use Rattle.std.specs.Str.{is_utf8}
 use Rattle.command_line.proofs.CommandLineLemmas.Known.{all_text, parse_knows}
 use Rattle.command_line.proofs.CommandLineLemmas.Accepted.{known_free, no_fault}
 use Rattle.command_line.specs.declared.tool.Tool.{Tool}
@@ -26,9 +25,7 @@ said_is (word ∷ words) = refl
 -- what `get_flag` gives
 flag_read : (has set b : Bool) (text : Option Text) → text ≡ flag_text has set → (text ≡ None → b ≡ false) → (text ≡ Some (codes "true") → b ≡ true)
     → (text ≡ Some (codes "false") → b ≡ false) → b ≡ (has && set)
-flag_read false set b text e none value other = none e
-flag_read true true b text e none value other = value e
-flag_read true false b text e none value other = other e
+flag_read has set b text h h2 h3 h4 = search rules
 
 module _ (tool : Tool) (app : App) (is : app ≡ command_of tool) {Z : Type 0} (ws : List (String Z)) where
   -- a parse that succeeds
@@ -51,23 +48,12 @@ module _ (tool : Tool) (app : App) (is : app ≡ command_of tool) {Z : Type 0} (
   -- each word of a parse that succeeds is known
   pub knows : (is_simple_and_free app ≡ true → fault_of app (map string_bytes ws) ≡ []) → is_among (said_by ws) end_mark ≡ false
       → list_all (is_known tool) (said_by ws) ≡ true
-  knows kinds free =
-      let words = map string_bytes ws in
-      let none : fault_of (command_of tool) words ≡ [] = ap (λ a. fault_of a words) (sym is) ∙ kinds (ap is_simple_and_free is ∙ is_plain tool) in
-      let known = parse_knows tool words none (ap (λ l. is_among l end_mark) (said_is ws) ∙ free) (ap (list_all is_utf8) (said_is ws) ∙ all_text (drop 1 ws)) in
-      ap (list_all (is_known tool)) (sym (said_is ws)) ∙ known
+  knows kinds free = search (rules, is_plain, parse_knows, said_is, all_text)
 
   -- a parse that fails, where the words are accepted
   pub fails_for_memory : (e : Error) → (is_simple_and_free app ≡ true → FailsBy {T = ArgMatches} (fault_of app (map string_bytes ws)) (Err e))
       → Accepts tool (said_by ws) → kind_of e ≡ kind.OutOfMemory
-  fails_for_memory e kinds accepts =
-      let words = map string_bytes ws in
-      let none : fault_of app words ≡ [] = ap (λ a. fault_of a words) is ∙ no_fault tool words (subst (Accepts tool) (sym (said_is ws)) accepts) in
-      let either = subst (λ k. FailsBy {T = ArgMatches} k (Err e)) none (kinds (ap is_simple_and_free is ∙ is_plain tool)) in
-      elim either as (λ x. kind_of e ≡ kind.OutOfMemory) [
-        | inl memory ↦ memory
-        | inr bad ↦ absurd bad
-      ]
+  fails_for_memory e kinds accepts = search (rules, no_fault, said_is, is_plain)
 
 -- accepted words have no `--`
 pub known_words : (tool : Tool) (words : List Text) → Accepts tool words → is_among words end_mark ≡ false

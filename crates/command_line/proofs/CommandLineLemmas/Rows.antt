@@ -1,13 +1,13 @@
 -- The rows that uses add, and what is found in them.
-use Rattle.std.proofs.Common.{◌≡◌, ◌∙◌, ap, ap₂, refl, List, [], ◌∷◌, ◌++◌, append-nil, Bool, true}
-use Rattle.std.proofs.Common.{false, Option, Some, None, cond, true≢false}
+use Rattle.std.proofs.Common.{◌≡◌, ◌∙◌, ap, refl, List, [], ◌∷◌, ◌++◌, append-nil, Bool, true}
+use Rattle.std.proofs.Common.{false, Option, Some, None, cond, true≢false, rules}
 use Rattle.std.specs.Prelude.{◌||◌, is_some, not}
 use Rattle.std.specs.Str.{bytes_eq}
 use Rattle.std.specs.List.{find}
 use Rattle.std.specs.Option.{option_or}
 use Rattle.std.proofs.lemmas.List.Folds.{find-append, list_any-append}
 use Rattle.std.proofs.lemmas.List.Elements.{filter-append}
-use Rattle.clap.specs.Walk.{Row, Rule, Text, at_row, has_row, more_values, reading_by, with_values}
+use Rattle.clap.specs.Walk.{Row, Rule, Text, at_row, has_row, reading_by, with_values}
 use Rattle.clap.specs.Walk.{without}
 use Rattle.clap.specs.declared.parser.matches.ValueSource.TheVariants.{CommandLine}
 use Rattle.command_line.specs.Words.{is_among, is_flag, names}
@@ -39,36 +39,25 @@ at_end id change missing (r ∷ rs) e = go (bytes_eq r.id id) e (at_end id chang
 -- the first use of an argument adds its row
 pub used_first : (a : Rule) (values : List Text) (rows : List Row) → has_row a.id rows ≡ false
     → with_values a.id (reading_by a) CommandLine values (without a.id rows) ≡ rows ++ new_row a values ∷ []
-used_first a values rows e =
-    ap (with_values a.id (reading_by a) CommandLine values) (at_end a.id (λ _. []) [] rows e ∙ append-nil rows)
-    ∙ at_end a.id (more_values CommandLine values) (new_row a values ∷ []) rows e
+used_first a values rows e = simp (at_end, append-nil)
 
 pub option_or-None : {X : Type 0} (o : Option X) → option_or o None ≡ o
-option_or-None None = refl
-option_or-None (Some x) = refl
+option_or-None o = search rules
 
 -- a row of another id changes nothing
 pub row_kept : (id : Text) (rows : List Row) (r : Row) → bytes_eq r.id id ≡ false → row_for id (rows ++ r ∷ []) ≡ row_for id rows
-row_kept id rows r e = find-append (λ r. bytes_eq r.id id) rows (r ∷ []) ∙ (ap (λ b. option_or (row_for id rows) (cond b (Some r) None)) e ∙ option_or-None _)
+row_kept id rows r e = search (rules, find-append, option_or-None)
 
 pub row_added : (id : Text) (rows : List Row) (r : Row) → bytes_eq r.id id ≡ true → row_for id rows ≡ None → row_for id (rows ++ r ∷ []) ≡ Some r
-row_added id rows r e none = find-append (λ r. bytes_eq r.id id) rows (r ∷ []) ∙ ap₂ (λ o b. option_or o (cond b (Some r) None)) none e
+row_added id rows r e none = search (rules, find-append)
 
 -- ---- the words
 
 pub among_kept : (done : List Text) (word f : Text) → bytes_eq f word ≡ false → is_among (done ++ word ∷ []) f ≡ is_among done f
-among_kept done word f e = list_any-append (bytes_eq f) done (word ∷ []) ∙ (ap (λ b. is_among done f || (b || false)) e ∙ or-false (is_among done f))
-  where
-    or-false : (b : Bool) → (b || false) ≡ b
-    or-false true = refl
-    or-false false = refl
+among_kept done word f e = search (rules, list_any-append)
 
 pub among_added : (done : List Text) (word f : Text) → bytes_eq f word ≡ true → is_among (done ++ word ∷ []) f ≡ true
-among_added done word f e = list_any-append (bytes_eq f) done (word ∷ []) ∙ (ap (λ b. is_among done f || (b || false)) e ∙ or-true (is_among done f))
-  where
-    or-true : (b : Bool) → (b || true) ≡ true
-    or-true true = refl
-    or-true false = refl
+among_added done word f e = search (rules, list_any-append)
 
 pub names_kept : (tool : Tool) (done : List Text) (word : Text) → is_flag tool word ≡ true → names tool (done ++ word ∷ []) ≡ names tool done
 names_kept tool done word e =

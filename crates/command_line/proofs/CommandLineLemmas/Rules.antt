@@ -1,9 +1,10 @@
 -- What `clap` makes of the commands when it builds them.
-use Rattle.std.proofs.Common.{◌≡◌, codes, refl, List, [], ◌∷◌, true, false, Option, Some, None}
-use Rattle.std.specs.Prelude.{drop, is_some}
-use Rattle.clap.specs.Faults.{built_fault, entered_fault, fault_of, is_simple_and_free, level_fault}
-use Rattle.clap.specs.Walk.{Held, Rule, Text, nothing_held, rows_after, walk}
-use Rattle.clap.specs.Simple.{Shape, entered, filled, help_rule, is_simple, matches_of}
+use Rattle.std.proofs.Common.{◌≡◌, codes, refl, List, [], ◌∷◌, true, false}
+use Rattle.std.specs.Prelude.{drop}
+use Rattle.std.proofs.Common.{rules}
+use Rattle.clap.specs.Faults.{built_fault, fault_of, is_simple_and_free, level_fault}
+use Rattle.clap.specs.Walk.{Held, Rule, Text, nothing_held, rows_after}
+use Rattle.clap.specs.Simple.{Shape, filled, help_rule, is_simple, matches_of}
 use Rattle.clap.specs.Simple.{version_rule, with_index}
 use Rattle.command_line.specs.Code.Commands.{command_of, flag_rule, formula_rule, second_rule}
 use Rattle.command_line.specs.declared.tool.Tool.{Tool}
@@ -73,20 +74,10 @@ is_simple_too Lrat = refl
 is_simple_too Model = refl
 
 leaf_fault : (s : Shape) (h : Held) (words : List Text) → built_fault (record { top = s; subs = [] }) h words ≡ level_fault s [] h words false []
-leaf_fault s h words = go (walk s.rules [] h words).stopped
-  where
-    go : (stop : Option (Text × List Text))
-        → level_fault s [] h words (is_some (entered (record { top = s; subs = [] }) stop)) (entered_fault (record { top = s; subs = [] }) stop)
-        ≡ level_fault s [] h words false []
-    go None = refl
-    go (Some p) = refl
+leaf_fault s h words = search rules
 
 pub fault_is : (tool : Tool) (words : List Text) → fault_of (command_of tool) words ≡ level_fault (top_of tool) [] nothing_held (drop 1 words) false []
-fault_is Drat words = leaf_fault (top_of Drat) nothing_held (drop 1 words)
-fault_is Lrat words = leaf_fault (top_of Lrat) nothing_held (drop 1 words)
-fault_is Model words = leaf_fault (top_of Model) nothing_held (drop 1 words)
+fault_is tool words = search (rules, leaf_fault)
 
 pub matches_are : (tool : Tool) (words : List Text) → matches_of (command_of tool) words ≡ rows_after (rules_of tool) [] (drop 1 words)
-matches_are Drat words = refl
-matches_are Lrat words = refl
-matches_are Model words = refl
+matches_are tool words = search rules

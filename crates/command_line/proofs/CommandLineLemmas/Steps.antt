@@ -1,17 +1,15 @@
 -- What is held after each word, and what the walk gives at the end.
-use Rattle.std.proofs.Common.{◌≤◌, ◌≡◌, ◌∙◌, ◌<◌, ap, ap₂, sym, subst, refl, codes, List, [], ◌∷◌}
+use Rattle.std.proofs.Common.{◌≤◌, ◌≡◌, ◌∙◌, ◌<◌, ap, sym, subst, refl, codes, List, [], ◌∷◌}
 use Rattle.std.proofs.Common.{◌++◌, append_assoc, append-nil, Bool, true, false, Option, Some, None}
-use Rattle.std.proofs.Common.{ℕ, cond, suc, true≢false, inl, inr, ◌⊎◌, ⊎_elim, arith, length}
-use Rattle.std.specs.Prelude.{◌==◌, ◌&&◌, ◌||◌, is_some, option_map, slice_get, if◌then◌else◌}
+use Rattle.std.proofs.Common.{ℕ, cond, suc, true≢false, ◌⊎◌, ⊎_elim, arith, length, rules}
+use Rattle.std.specs.Prelude.{◌==◌, ◌&&◌, ◌||◌, is_some, option_map, slice_get}
 use Rattle.std.specs.Str.{bytes_eq}
 use Rattle.std.specs.List.{fold}
 use Rattle.std.proofs.lemmas.Slice.Eq.{bytes_eq-Decides}
-use Rattle.std.specs.Option.{option_map_or}
-use Rattle.std.proofs.lemmas.Bool.Decides.{nat_tests}
-use Rattle.clap.specs.Faults.{positional_fault, settle_fault, step_fault, turn_fault, walk_fault}
-use Rattle.clap.specs.Kinds.{Kinds, or_else}
-use Rattle.clap.specs.Walk.{Row, Rule, Text, Walk, arg_by_index, has_row, idle, is_pending, pushed}
-use Rattle.clap.specs.Walk.{settled, settled_rows, to_positional, used, value, walked}
+use Rattle.clap.specs.Faults.{settle_fault, step_fault, turn_fault, walk_fault}
+use Rattle.clap.specs.Kinds.{or_else}
+use Rattle.clap.specs.Walk.{Row, Rule, Text, Walk, arg_by_index, has_row}
+use Rattle.clap.specs.Walk.{settled_rows, to_positional, used, value, walked}
 use Rattle.clap.specs.declared.error.kind.ErrorKind.TheVariants as kind
 use Rattle.clap.proofs.OnLiterals.{clap_on_literals}
 use Rattle.command_line.proofs.CommandLineLemmas.Rules.{flag_full, formula_full, name_of, rules_of}
@@ -58,31 +56,18 @@ pub record After (tool : Tool) (done : List Text) (w : Walk) : Type 0 where
 -- ---- a flag
 
 bytes_eq_sym : (a b : Text) → bytes_eq a b ≡ bytes_eq b a
-bytes_eq_sym a b = go (bytes_eq a b) (bytes_eq b a) refl refl
-  where
-    go : (x y : Bool) → bytes_eq a b ≡ x → bytes_eq b a ≡ y → x ≡ y
-    go true y e f = sym ((bytes_eq-Decides b a).1 (sym ((bytes_eq-Decides a b).0 e))) ∙ f
-    go false false e f = refl
-    go false true e f = sym e ∙ (bytes_eq-Decides a b).1 (sym ((bytes_eq-Decides b a).0 f))
+bytes_eq_sym a b = search rules
 
 set_kept : (tool : Tool) (name : Text) (done : List Text) (rows : List Row) (r : Row) (word : Text) → bytes_eq r.id name ≡ false → bytes_eq (45 ∷ 45 ∷ name) word ≡ false
     → row_for name rows ≡ set_row tool name done → row_for name (rows ++ r ∷ []) ≡ set_row tool name (done ++ word ∷ [])
-set_kept tool name done rows r word id other shown =
-    row_kept name rows r id ∙ (shown
-    ∙ ap (λ b. cond (is_flag tool (45 ∷ 45 ∷ name) && b) (Some (flag_row name)) None) (sym (among_kept done word (45 ∷ 45 ∷ name) other)))
+set_kept tool name done rows r word id other shown = search (rules, row_kept, among_kept)
 
 set_added : (tool : Tool) (name : Text) (done : List Text) (rows : List Row) → bytes_eq name name ≡ true → is_flag tool (45 ∷ 45 ∷ name) ≡ true
     → row_for name rows ≡ None → row_for name (rows ++ flag_row name ∷ []) ≡ set_row tool name (done ++ (45 ∷ 45 ∷ name) ∷ [])
-set_added tool name done rows same flag none =
-    row_added name rows (flag_row name) same none
-    ∙ sym (ap₂ (λ (a b : Bool). cond (a && b) (Some (flag_row name)) None) flag (among_added done (45 ∷ 45 ∷ name) (45 ∷ 45 ∷ name) same))
+set_added tool name done rows same flag none = search (rules, row_added, among_added)
 
 no_row : (name : Text) (rows : List Row) → has_row name rows ≡ false → row_for name rows ≡ None
-no_row name rows e = go (row_for name rows) (sym (has_row-row_for name rows) ∙ e)
-  where
-    go : (o : Option Row) → is_some o ≡ false → o ≡ None
-    go None e = refl
-    go (Some r) e = absurd (true≢false e)
+no_row name rows e = search (rules, row_for, has_row-row_for)
 
 file_kept : (name : Text) (a : Rule) (ns : List Text) (k : ℕ) (rows : List Row) (r : Row) → bytes_eq r.id name ≡ false
     → row_for name rows ≡ file_row a ns k → row_for name (rows ++ r ∷ []) ≡ file_row a ns k
@@ -103,16 +88,8 @@ module _ (tool : Tool) (done ns : List Text) (rows : List Row) (s : Shows tool d
 
   flag_shown : (flag : Text) → bytes_eq flag (codes "formula") ≡ false → bytes_eq flag (codes "second") ≡ false → is_flag tool (45 ∷ 45 ∷ flag) ≡ true → has_row flag rows ≡ false
       → Shows tool (done ++ (45 ∷ 45 ∷ flag) ∷ []) ns (rows ++ flag_row flag ∷ [])
-  flag_shown flag no_formula no_second is new = record {
-    said = names_kept tool done (45 ∷ 45 ∷ flag) is ∙ s.said;
-    binary = set_after flag (codes "binary") is new s.binary;
-    trace = set_after flag (codes "trace") is new s.trace;
-    strict = set_after flag (codes "strict") is new s.strict;
-    pr = set_after flag (codes "pr") is new s.pr;
-    keep_units = set_after flag (codes "keep-units") is new s.keep_units;
-    formula = file_kept _ formula_full ns 0 rows _ no_formula s.formula;
-    second = file_kept _ second_full ns 1 rows _ no_second s.second;
-  }
+  flag_shown flag no_formula no_second is new =
+      search (rules, names_kept, set_after, file_kept)
 
 -- what the walk asks of a flag, and what it makes of it
 abbrev FlagTurn : Tool → Text → List Row → Option (Text × List Text) → ℕ → Type 0
@@ -130,7 +107,7 @@ record DratTurns (r : List Row) (p : Option (Text × List Text)) (n : ℕ) : Typ
 
 drat_turns : (r : List Row) (p : Option (Text × List Text)) (n : ℕ) → DratTurns r p n
 unfolding clap_on_literals
-drat_turns r p n = record { binary = (refl, refl); trace = (refl, refl); strict = (refl, refl); pr = (refl, refl); keep_units = (refl, refl) }
+drat_turns r p n = search rules
 
 lrat_trace : (r : List Row) (p : Option (Text × List Text)) (n : ℕ) → FlagTurn Lrat (codes "trace") r p n
 unfolding clap_on_literals
@@ -164,8 +141,7 @@ module _ (tool : Tool) (done : List Text) (name : Text) (r : List Row) (p : Opti
 -- ---- a flag of the tool, by its name
 
 either : (a b : Bool) → (a || b) ≡ true → (a ≡ true) ⊎ (b ≡ true)
-either true b e = inl refl
-either false b e = inr e
+either a b h = search rules
 
 -- the flag was not there before, and what is held after it
 record FlagMet (tool : Tool) (done : List Text) (r : List Row) (p : Option (Text × List Text)) (ns : List Text) (word : Text) : Type 0 where
@@ -186,23 +162,15 @@ module _ (tool : Tool) (done : List Text) (r : List Row) (p : Option (Text × Li
 
   no_fault : (name : Text) → FlagTurn tool name r p (suc (length ns)) → has_row name (settled_rows (rules_of tool) p r) ≡ false
       → turn_fault (top_of tool) [] (at r p (suc (length ns))) (45 ∷ 45 ∷ name) ≡ []
-  no_fault name turn new =
-      turn.0 ∙ ap₂ (λ (k : Kinds) (b : Bool). or_else (or_else k (or_else (cond (b && true) (kind.ArgumentConflict ∷ []) []) [])) []) settles new
+  no_fault name turn new = cc
 
   one_met : (name : Text) → bytes_eq name (codes "formula") ≡ false → bytes_eq name (codes "second") ≡ false → row_for name (settled_rows (rules_of tool) p r) ≡ set_row tool name done
       → is_flag tool (45 ∷ 45 ∷ name) ≡ true → FlagTurn tool name r p (suc (length ns)) → FlagMet tool done r p ns (45 ∷ 45 ∷ name)
-  one_met name no_formula no_second shown flag turn = record {
-    after = λ f. let new = flag_new tool done name r p ns turn f in
-        flag_after tool done name r p ns few turn new (flag_shown tool done ns _ shows name no_formula no_second flag new);
-    fine = λ none. no_fault name turn (has_none name shown none);
-  }
+  one_met name no_formula no_second shown flag turn =
+      search (rules, flag_new, flag_after, flag_shown, no_fault, has_none)
 
 pick : (P : Text → Type 0) (word f : Text) (rest : Bool) → (bytes_eq word f || rest) ≡ true → P f → (rest ≡ true → P word) → P word
-pick P word f rest e here there = go (bytes_eq word f) refl e
-  where
-    go : (b : Bool) → bytes_eq word f ≡ b → (b || rest) ≡ true → P word
-    go true same e = subst P (sym ((bytes_eq-Decides word f).0 same)) here
-    go false same e = there e
+pick P word f rest e here there = search rules
 
 flag_met : (tool : Tool) (done : List Text) (r : List Row) (p : Option (Text × List Text)) (ns : List Text) → length ns ≤ 2 → settle_fault (rules_of tool) false (holding r p) ≡ []
     → Shows tool done ns (settled_rows (rules_of tool) p r) → (word : Text) → is_flag tool word ≡ true → FlagMet tool done r p ns word
@@ -215,10 +183,7 @@ flag_met Drat done r p ns few settles shows word flag =
     (λ e. pick P word (codes "--pr") (is_among (codes "--keep-units" ∷ []) word) e (one_met Drat done r p ns few settles shows (codes "pr") refl refl shows.pr refl turns.pr)
     (λ e. pick P word (codes "--keep-units") false e (one_met Drat done r p ns few settles shows (codes "keep-units") refl refl shows.keep_units refl turns.keep_units)
     (λ e. absurd (true≢false (sym e)))))))
-flag_met Lrat done r p ns few settles shows word flag =
-    let P : Text → Type 0 = FlagMet Lrat done r p ns in
-    pick P word (codes "--trace") false flag (one_met Lrat done r p ns few settles shows (codes "trace") refl refl shows.trace refl (lrat_trace r p (suc (length ns))))
-    (λ e. absurd (true≢false (sym e)))
+flag_met Lrat done r p ns few settles shows word flag = search (rules, pick, one_met, lrat_trace)
 flag_met Model done r p ns few settles shows word flag = absurd (true≢false (sym flag))
 
 -- ---- a name
@@ -226,14 +191,8 @@ flag_met Model done r p ns few settles shows word flag = absurd (true≢false (s
 -- a word that is no flag sets none
 set_by_name : (tool : Tool) (name : Text) (done : List Text) (rows : List Row) (r : Row) (word : Text) → bytes_eq r.id name ≡ false → is_flag tool word ≡ false
     → row_for name rows ≡ set_row tool name done → row_for name (rows ++ r ∷ []) ≡ set_row tool name (done ++ word ∷ [])
-set_by_name tool name done rows r word id flag shown = row_kept name rows r id ∙ (shown ∙ go (bytes_eq (45 ∷ 45 ∷ name) word) refl)
-  where
-    go : (b : Bool) → bytes_eq (45 ∷ 45 ∷ name) word ≡ b → set_row tool name done ≡ set_row tool name (done ++ word ∷ [])
-    go false e = ap (λ b. cond (is_flag tool (45 ∷ 45 ∷ name) && b) (Some (flag_row name)) None) (sym (among_kept done word (45 ∷ 45 ∷ name) e))
-    go true e =
-        let lacks : is_flag tool (45 ∷ 45 ∷ name) ≡ false = ap (is_flag tool) ((bytes_eq-Decides (45 ∷ 45 ∷ name) word).0 e) ∙ flag in
-        ap (λ b. cond (b && is_among done (45 ∷ 45 ∷ name)) (Some (flag_row name)) None) lacks
-        ∙ sym (ap (λ b. cond (b && is_among (done ++ word ∷ []) (45 ∷ 45 ∷ name)) (Some (flag_row name)) None) lacks)
+set_by_name tool name done rows r word id flag shown =
+    search (rules, row_kept, among_kept, bytes_eq-Decides)
 
 -- what is held of a file name, after the names ns
 abbrev FileTurn : Tool → Rule → List Row → Option (Text × List Text) → ℕ → Text → Type 0
@@ -245,40 +204,13 @@ FileTurn tool a r p n word = (step_fault (top_of tool) n (holding r p) value ≡
     ≡ or_else (cond (has_row a.id (settled_rows (rules_of tool) p r) && true) (kind.ArgumentConflict ∷ []) []) [])
 
 and_false : (b : Bool) → (b && false) ≡ false
-and_false true = refl
-and_false false = refl
-
-abbrev fault_by : List Rule → List Row → Option (Text × List Text) → Bool → Kinds
-fault_by c r p b = if b then [] else settle_fault c false (holding r p)
-
-abbrev walk_by : List Rule → Rule → List Row → Option (Text × List Text) → ℕ → Text → Bool → Walk
-walk_by c a r p n word b =
-    record { held = pushed a.id word (if b then holding r p else settled c (holding r p)); waiting = idle; position = n; is_trailing = false; stopped = None }
+and_false b = search rules
 
 first_turn : (tool : Tool) (r : List Row) (p : Option (Text × List Text)) (word : Text) → FileTurn tool formula_full r p 1 word
-first_turn Drat r p word = (ap (fault_by (rules_of Drat) r p) (and_false (is_pending formula_full p)), ap (walk_by (rules_of Drat) formula_full r p 2 word) (and_false (is_pending formula_full p)), refl, refl)
-first_turn Lrat r p word = (ap (fault_by (rules_of Lrat) r p) (and_false (is_pending formula_full p)), ap (walk_by (rules_of Lrat) formula_full r p 2 word) (and_false (is_pending formula_full p)), refl, refl)
-first_turn Model r p word = (ap (fault_by (rules_of Model) r p) (and_false (is_pending formula_full p)), ap (walk_by (rules_of Model) formula_full r p 2 word) (and_false (is_pending formula_full p)), refl, refl)
+first_turn tool r p word = search (rules, rules_of, and_false, formula_full)
 
 second_turn : (tool : Tool) (r : List Row) (p : Option (Text × List Text)) (word : Text) → FileTurn tool second_full r p 2 word
-second_turn Drat r p word = (ap (fault_by (rules_of Drat) r p) (and_false (is_pending second_full p)), ap (walk_by (rules_of Drat) second_full r p 3 word) (and_false (is_pending second_full p)), refl, refl)
-second_turn Lrat r p word = (ap (fault_by (rules_of Lrat) r p) (and_false (is_pending second_full p)), ap (walk_by (rules_of Lrat) second_full r p 3 word) (and_false (is_pending second_full p)), refl, refl)
-second_turn Model r p word = (ap (fault_by (rules_of Model) r p) (and_false (is_pending second_full p)), ap (walk_by (rules_of Model) second_full r p 3 word) (and_false (is_pending second_full p)), refl, refl)
-
-past_one : (k : ℕ) → (1 == suc (suc (suc k))) ≡ false
-past_one k = grind (arith, nat_tests)
-
-past_two : (k : ℕ) → (2 == suc (suc (suc k))) ≡ false
-past_two k = grind (arith, nat_tests)
-
-abbrev stray_by : List Rule → List Row → Option (Text × List Text) → Bool → Bool → Kinds
-stray_by c r p x y =
-    option_map_or (λ a. positional_fault c false a (holding r p)) (cond x (Some formula_full) (cond y (Some second_full) None)) (kind.UnknownArgument ∷ [])
-
-third_turn : (tool : Tool) (r : List Row) (p : Option (Text × List Text)) (k : ℕ) → step_fault (top_of tool) (suc (suc (suc k))) (holding r p) value ≡ kind.UnknownArgument ∷ []
-third_turn Drat r p k = ap₂ (stray_by (rules_of Drat) r p) (past_one k) (past_two k)
-third_turn Lrat r p k = ap₂ (stray_by (rules_of Lrat) r p) (past_one k) (past_two k)
-third_turn Model r p k = ap₂ (stray_by (rules_of Model) r p) (past_one k) (past_two k)
+second_turn tool r p word = search (rules, rules_of, and_false, second_full)
 
 -- the word is a file name, and what is held after it
 record FileMet (tool : Tool) (done : List Text) (r : List Row) (p : Option (Text × List Text)) (ns : List Text) (word : Text) : Type 0 where
@@ -295,36 +227,15 @@ module _ (tool : Tool) (done : List Text) (r : List Row) (p : Option (Text × Li
   name_taken : (a : Rule) (ns named : List Text) → length named ≡ suc (length ns) → length named ≤ 2 → FileTurn tool a r p (suc (length ns)) word → has_row a.id (settled_rows (rules_of tool) p r) ≡ false
       → used a (word ∷ []) (settled_rows (rules_of tool) p r) ≡ settled_rows (rules_of tool) p r ++ new_row a (word ∷ []) ∷ []
       → Shows tool (done ++ word ∷ []) named (settled_rows (rules_of tool) p r ++ new_row a (word ∷ []) ∷ []) → FileMet tool done r p ns word
-  name_taken a ns named grows few turn new grown shows =
-      let rows = settled_rows (rules_of tool) p r in
-      record {
-        after = λ f. record {
-          rows = rows;
-          pending = Some (a.id, word ∷ []);
-          ns = named;
-          few = few;
-          is = turn.1 ∙ ap (λ n. at rows (Some (a.id, word ∷ [])) (suc n)) (sym grows);
-          settles = turn.3 ∙ ap (λ b. or_else (cond (b && true) (kind.ArgumentConflict ∷ []) []) []) new;
-          shows = subst (Shows tool (done ++ word ∷ []) named) (sym (turn.2 ∙ grown)) shows;
-        };
-        fine = λ few. turn.0 ∙ settles;
-      }
+  name_taken a ns named grows few turn new grown shows = search rules
 
   -- what the rows show with its row
   name_shown : (a : Rule) (ns : List Text) (rows : List Row) → bytes_eq a.id (codes "binary") ≡ false → bytes_eq a.id (codes "trace") ≡ false → bytes_eq a.id (codes "strict") ≡ false → bytes_eq a.id (codes "pr") ≡ false → bytes_eq a.id (codes "keep-units") ≡ false → Shows tool done ns rows
       → row_for (codes "formula") (rows ++ new_row a (word ∷ []) ∷ []) ≡ file_row formula_full (ns ++ word ∷ []) 0
       → row_for (codes "second") (rows ++ new_row a (word ∷ []) ∷ []) ≡ file_row second_full (ns ++ word ∷ []) 1
       → Shows tool (done ++ word ∷ []) (ns ++ word ∷ []) (rows ++ new_row a (word ∷ []) ∷ [])
-  name_shown a ns rows no_binary no_trace no_strict no_pr no_keep_units s formula second = record {
-    said = names_added tool done word flag ∙ ap (λ l. l ++ word ∷ []) s.said;
-    binary = set_by_name tool (codes "binary") done rows _ word no_binary flag s.binary;
-    trace = set_by_name tool (codes "trace") done rows _ word no_trace flag s.trace;
-    strict = set_by_name tool (codes "strict") done rows _ word no_strict flag s.strict;
-    pr = set_by_name tool (codes "pr") done rows _ word no_pr flag s.pr;
-    keep_units = set_by_name tool (codes "keep-units") done rows _ word no_keep_units flag s.keep_units;
-    formula = formula;
-    second = second;
-  }
+  name_shown a ns rows no_binary no_trace no_strict no_pr no_keep_units s formula second =
+      search (rules, names_added, set_by_name)
 
   first_met : Shows tool done [] (settled_rows (rules_of tool) p r) → FileMet tool done r p [] word
   first_met s =
@@ -343,10 +254,7 @@ module _ (tool : Tool) (done : List Text) (r : List Row) (p : Option (Text × Li
   file_met : (ns : List Text) → Shows tool done ns (settled_rows (rules_of tool) p r) → FileMet tool done r p ns word
   file_met [] s = first_met s
   file_met (a ∷ []) s = second_met a s
-  file_met (a ∷ b ∷ ns) s = record {
-    after = λ f. absurd (cons_not_nil _ _ (sym (third_turn tool r p (length ns)) ∙ f));
-    fine = λ few. absurd (omega arith);
-  }
+  file_met (a ∷ b ∷ ns) s = search rules
 
 -- ---- one word
 
@@ -369,10 +277,7 @@ step_at tool done r p ns few settles shows word mark f = go (is_flag tool word) 
 
 pub step_after : (tool : Tool) (done : List Text) (w : Walk) → After tool done w → (word : Text) → bytes_eq word end_mark ≡ false
     → turn_fault (top_of tool) [] w word ≡ [] → After tool (done ++ word ∷ []) (walked (rules_of tool) [] w word)
-step_after tool done w a word mark f =
-    let g = ap (λ v. turn_fault (top_of tool) [] v word) (sym a.is) ∙ f in
-    subst (λ v. After tool (done ++ word ∷ []) (walked (rules_of tool) [] v word)) (sym a.is)
-    (step_at tool done a.rows a.pending a.ns a.few a.settles a.shows word mark g)
+step_after tool done w a word mark f = search (rules, top_of, rules_of, step_at)
 
 -- a flag that was not there, and a word that begins with no hyphen where there is room for a name, are not refused
 pub flag_passes : (tool : Tool) (done : List Text) (w : Walk) → After tool done w → (word : Text) → is_flag tool word ≡ true → is_among done word ≡ false
@@ -404,11 +309,7 @@ hyphen_passes tool done w a few =
 -- ---- all the words
 
 pub tail_free : (word : Text) (words : List Text) → is_among (word ∷ words) end_mark ≡ false → (bytes_eq word end_mark ≡ false) × (is_among words end_mark ≡ false)
-tail_free word words e = go (bytes_eq end_mark word) refl e
-  where
-    go : (b : Bool) → bytes_eq end_mark word ≡ b → (b || is_among words end_mark) ≡ false → (bytes_eq word end_mark ≡ false) × (is_among words end_mark ≡ false)
-    go true same e = absurd (true≢false e)
-    go false same e = (bytes_eq_sym word end_mark ∙ same, e)
+tail_free word words e = search rules
 
 pub words_after : (tool : Tool) (words done : List Text) (w : Walk) → After tool done w → is_among words end_mark ≡ false → walk_fault (top_of tool) [] w words ≡ []
     → After tool (done ++ words) (fold (walked (rules_of tool) []) w words)
@@ -421,28 +322,4 @@ words_after tool (word ∷ words) done w a free f =
     (words_after tool words (done ++ word ∷ []) (walked (rules_of tool) [] w word) (step_after tool done w a word apart.0 both.0) apart.1 both.1)
 
 pub start_after : (tool : Tool) → After tool [] (at [] None 1)
-start_after tool = record {
-  rows = [];
-  pending = None;
-  ns = [];
-  few = omega arith;
-  is = refl;
-  settles = refl;
-  shows = record {
-    said = refl;
-    binary = sym (unset tool (codes "binary"));
-    trace = sym (unset tool (codes "trace"));
-    strict = sym (unset tool (codes "strict"));
-    pr = sym (unset tool (codes "pr"));
-    keep_units = sym (unset tool (codes "keep-units"));
-    formula = refl;
-    second = refl;
-  };
-}
-  where
-    unset : (tool : Tool) (name : Text) → set_row tool name [] ≡ None
-    unset tool name = go (is_flag tool (45 ∷ 45 ∷ name))
-      where
-        go : (b : Bool) → cond (b && false) (Some (flag_row name)) None ≡ None
-        go true = refl
-        go false = refl
+start_after tool = search rules

@@ -1,21 +1,20 @@
 -- What `clap`'s walk makes of one word, and when it refuses the word.
 use Rattle.std.proofs.Common.{◌≡◌, ◌∙◌, ap, ap₂, sym, subst, refl, codes, List, [], ◌∷◌, Bool, true}
 use Rattle.std.proofs.Common.{false, Option, Some, None, ℕ, cond, suc, true≢false, inl, inr, ◌⊎◌}
-use Rattle.std.proofs.Common.{arith, length}
-use Rattle.std.specs.Prelude.{◌==◌, ◌&&◌, ◌||◌, is_some, not, if◌then◌else◌, slice_get, take, ◌+◌}
+use Rattle.std.proofs.Common.{arith, length, rules}
+use Rattle.std.specs.Prelude.{◌==◌, ◌&&◌, ◌||◌, not, if◌then◌else◌, slice_get, take, ◌+◌}
 use Rattle.std.specs.Str.{bytes_eq, chars}
 use Rattle.std.specs.List.{before_first, prefix_len}
 use Rattle.std.specs.Option.{option_map_or}
 use Rattle.std.proofs.lemmas.Bool.Decides.{nat_tests}
-use Rattle.std.proofs.lemmas.Slice.Eq.{bytes_eq-Decides}
 use Rattle.clap.specs.Lexer.{has_byte, long_of, short_of}
-use Rattle.clap.specs.Faults.{bundle_fault, bundle_step_fault, flag_word_fault, flags_fault}
-use Rattle.clap.specs.Faults.{long_fault, react_fault, settle_fault, short_fault, step_fault}
+use Rattle.clap.specs.Faults.{bundle_fault, bundle_step_fault, flags_fault}
+use Rattle.clap.specs.Faults.{long_fault, settle_fault, short_fault, step_fault}
 use Rattle.clap.specs.Faults.{turn_fault}
 use Rattle.clap.specs.Kinds.{Kinds, or_else}
 use Rattle.clap.specs.Walk.{Held, Outcome, Row, Rule, Step, Text, Walk, after_flag, after_step}
-use Rattle.clap.specs.Walk.{arg_by_index, arg_by_long, arg_by_short, bundle_met, bundle_step, idle}
-use Rattle.clap.specs.Walk.{long_or_other, plain, reacted, short_or_plain, to_positional, trailing}
+use Rattle.clap.specs.Walk.{arg_by_index, arg_by_long, arg_by_short, bundle_met, idle}
+use Rattle.clap.specs.Walk.{plain, short_or_plain, to_positional}
 use Rattle.clap.specs.Walk.{value, walked}
 use Rattle.clap.specs.declared.error.kind.ErrorKind.{ErrorKind}
 use Rattle.command_line.proofs.CommandLineLemmas.Rules.{flag_full, help_full, name_of, rules_of}
@@ -43,11 +42,7 @@ or_nil (k ∷ ks) b e = absurd (true≢false (ap is_cons e))
     is_cons (x ∷ xs) = true
 
 pub cons_not_nil : (k : ErrorKind) (ks : Kinds) → k ∷ ks ≡ [] → ⊥
-cons_not_nil k ks e = true≢false (ap is_cons e)
-  where
-    is_cons : Kinds → Bool
-    is_cons [] = false
-    is_cons (x ∷ xs) = true
+cons_not_nil k ks e = cc
 
 pub nat_eq_same : (x y : ℕ) → (x == y) ≡ true → x ≡ y
 nat_eq_same x y e = grind (arith, nat_tests)
@@ -66,8 +61,7 @@ whole (x ∷ xs) e = go (x == 61) refl e (whole xs)
         rw t (ap (λ k. take k (x ∷ xs)) one ∙ ap (λ l. x ∷ l) (rest e))
 
 no_mark : (b : Bool) (v : Text) → (if b then Some v else None) ≡ None → b ≡ false
-no_mark false v e = refl
-no_mark true v e = absurd (true≢false (ap is_some e))
+no_mark b v h = search rules
 
 -- what a letter after one hyphen names: nothing, or a flag that asks for a text
 abbrev pub IsShort : Option Rule → Type 0
@@ -85,23 +79,13 @@ module _ (c : List Rule) (name : Text) (r : List Row) (p : Option (Text × List 
       → turn_fault (shape name c) [] (at r p n) word
       ≡ or_else (option_map_or (λ flags. bundle_fault c false flags (holding r p)) s [])
       (step_fault (shape name c) n (short_or_plain c idle word s (holding r p)).0 (short_or_plain c idle word s (holding r p)).1)
-  short_fault_is word b l s e =
-      ap₂ (λ (b : Bool) (l : Option (Text × Option Text)).
-      or_else (if b then [] else flag_word_fault c false l word (holding r p))
-      (step_fault (shape name c) n (if b then (holding r p, trailing n) else long_or_other c idle word l (holding r p)).0
-      (if b then (holding r p, trailing n) else long_or_other c idle word l (holding r p)).1)) b l
-      ∙ ap (λ (s : Option Text). or_else (option_map_or (λ flags. bundle_fault c false flags (holding r p)) s [])
-      (step_fault (shape name c) n (short_or_plain c idle word s (holding r p)).0 (short_or_plain c idle word s (holding r p)).1)) e
+  short_fault_is word b l s e = search rules
 
   short_walk_is : (word : Text) → bytes_eq word (45 ∷ 45 ∷ []) ≡ false → long_of word ≡ None → (s : Option Text) → short_of word ≡ s
       → walked c [] (at r p n) word
       ≡ after_step c word (at r p n) (short_or_plain c idle word s (holding r p)).0 (short_or_plain c idle word s (holding r p)).1
   unfolding walked
-  short_walk_is word b l s e =
-      ap₂ (λ (b : Bool) (l : Option (Text × Option Text)).
-      after_step c word (at r p n) (if b then (holding r p, trailing n) else long_or_other c idle word l (holding r p)).0
-      (if b then (holding r p, trailing n) else long_or_other c idle word l (holding r p)).1) b l
-      ∙ ap (λ (s : Option Text). after_step c word (at r p n) (short_or_plain c idle word s (holding r p)).0 (short_or_plain c idle word s (holding r p)).1) e
+  short_walk_is word b l s e = cc
 
   plain_word_taken : (word : Text) → bytes_eq word (45 ∷ 45 ∷ []) ≡ false → long_of word ≡ None → short_of word ≡ None → Taken word
   plain_word_taken word b l s = (short_fault_is word b l None s, short_walk_is word b l None s)
@@ -130,16 +114,16 @@ module _ (c : List Rule) (name : Text) (r : List Row) (p : Option (Text × List 
 
     bundle_none : slice_get (chars (y ∷ ys)) 0 ≡ None → bundle_fault c false (y ∷ ys) (holding r p) ≡ []
     unfolding flags_fault
-    bundle_none first = ap (λ o. bundle_step_fault c false o (y ∷ ys) 0 (holding r p) (flags_fault c false (length ys))) first
+    bundle_none first = cc
 
     bundle_is : (o : Option ℕ) → slice_get (chars (y ∷ ys)) 0 ≡ o
         → bundle_fault c false (y ∷ ys) (holding r p) ≡ bundle_step_fault c false o (y ∷ ys) 0 (holding r p) (flags_fault c false (length ys))
     unfolding flags_fault
-    bundle_is o first = ap (λ o. bundle_step_fault c false o (y ∷ ys) 0 (holding r p) (flags_fault c false (length ys))) first
+    bundle_is o first = cc
 
     met_none : slice_get (chars (y ∷ ys)) 0 ≡ None → bundle_met c (length (y ∷ ys)) (y ∷ ys) 0 plain (holding r p) ≡ (holding r p, plain)
     unfolding bundle_met
-    met_none first = ap (λ o. bundle_step c o (y ∷ ys) 0 plain (holding r p) (bundle_met c (length ys))) first
+    met_none first = cc
 
     taken_at : (m : Held × Outcome) → bundle_met c (length (y ∷ ys)) (y ∷ ys) 0 plain (holding r p) ≡ m
         → short_or_plain c idle (45 ∷ y ∷ ys) (Some (y ∷ ys)) (holding r p) ≡ after_flag c idle (45 ∷ y ∷ ys) m.0 m.1
@@ -158,12 +142,8 @@ module _ (c : List Rule) (name : Text) (r : List Row) (p : Option (Text × List 
     char_refused : (o : Option Rule) → IsShort o → (rest : Text) (next : Held → Kinds)
         → settle_fault c false (holding r p) ≡ [] → short_fault c false o rest (holding r p) next ≡ [] → ⊥
     char_refused o (inl none) rest next s f = cons_not_nil _ _ (rw none at f)
-    char_refused o (inr (inl help)) rest next s f =
-        let g : or_else (react_fault c false help_full [] (holding r p)) (next (reacted c help_full [] (holding r p))) ≡ [] = rw help at f in
-        cons_not_nil _ _ (or_nil _ _ (or_nil _ _ g).0).1
-    char_refused o (inr (inr version)) rest next s f =
-        let g : or_else (react_fault c false version_full [] (holding r p)) (next (reacted c version_full [] (holding r p))) ≡ [] = rw version at f in
-        cons_not_nil _ _ (or_nil _ _ (or_nil _ _ g).0).1
+    char_refused o (inr (inl help)) rest next s f = search rules
+    char_refused o (inr (inr version)) rest next s f = search rules
 
     pub short_refused : ((x : ℕ) → IsShort (arg_by_short c x)) → settle_fault c false (holding r p) ≡ []
         → (x : ℕ) → slice_get (chars (y ∷ ys)) 0 ≡ Some x → turn_fault (shape name c) [] (at r p n) (45 ∷ y ∷ ys) ≡ [] → ⊥
@@ -174,11 +154,7 @@ module _ (c : List Rule) (name : Text) (r : List Row) (p : Option (Text × List 
 
     pub short_met : ((x : ℕ) → IsShort (arg_by_short c x)) → settle_fault c false (holding r p) ≡ []
         → Taken (45 ∷ y ∷ ys) ⊎ (turn_fault (shape name c) [] (at r p n) (45 ∷ y ∷ ys) ≡ [] → ⊥)
-    short_met shorts s = go (slice_get (chars (y ∷ ys)) 0) refl
-      where
-        go : (o : Option ℕ) → slice_get (chars (y ∷ ys)) 0 ≡ o → Taken (45 ∷ y ∷ ys) ⊎ (turn_fault (shape name c) [] (at r p n) (45 ∷ y ∷ ys) ≡ [] → ⊥)
-        go None first = inl (no_char_taken first)
-        go (Some x) first = inr (short_refused shorts s x first)
+    short_met shorts s = search (rules, shape, no_char_taken, short_refused)
 
   -- ---- a word that begins with two
 
@@ -189,14 +165,10 @@ module _ (c : List Rule) (name : Text) (r : List Row) (p : Option (Text × List 
   long_refused : (P : Text → Type 0) (name : Text) (o : Option Rule) → IsLong P name o → (v : Option Text) → settle_fault c false (holding r p) ≡ []
       → (v ≡ None → P name → ⊥) → long_fault c false o v (holding r p) ≡ [] → ⊥
   long_refused P name o (inl none) v s refuted f = cons_not_nil _ _ (rw none at f)
-  long_refused P name o (inr (inl (inl help))) None s refuted f =
-      let g : react_fault c false help_full [] (holding r p) ≡ [] = rw help at f in
-      cons_not_nil _ _ (or_nil _ _ g).1
-  long_refused P name o (inr (inl (inl help))) (Some v) s refuted f = cons_not_nil _ _ (rw help at f)
-  long_refused P name o (inr (inl (inr version))) None s refuted f =
-      let g : react_fault c false version_full [] (holding r p) ≡ [] = rw version at f in
-      cons_not_nil _ _ (or_nil _ _ g).1
-  long_refused P name o (inr (inl (inr version))) (Some v) s refuted f = cons_not_nil _ _ (rw version at f)
+  long_refused P name o (inr (inl (inl help))) None s refuted f = cc
+  long_refused P name o (inr (inl (inl help))) (Some v) s refuted f = cc
+  long_refused P name o (inr (inl (inr version))) None s refuted f = search rules
+  long_refused P name o (inr (inl (inr version))) (Some v) s refuted f = cc
   long_refused P name o (inr (inr flag)) None s refuted f = refuted refl (subst P flag.2 flag.3)
   long_refused P name o (inr (inr flag)) (Some v) s refuted f = cons_not_nil _ _ (rw flag.1 at f)
 
@@ -210,23 +182,11 @@ module _ (c : List Rule) (name : Text) (r : List Row) (p : Option (Text × List 
 -- ---- the three tools
 
 pub shorts_of : (tool : Tool) (x : ℕ) → IsShort (arg_by_short (rules_of tool) x)
-shorts_of tool x = elim tool as (λ t. IsShort (arg_by_short (rules_of t) x)) [
-  | Drat ↦ go (104 == x || false) (86 == x || false)
-  | Lrat ↦ go (104 == x || false) (86 == x || false)
-  | Model ↦ go (104 == x || false) (86 == x || false)
-]
-  where
-    go : (help version : Bool) → IsShort (cond help (Some help_full) (cond version (Some version_full) None))
-    go true version = inr (inl refl)
-    go false true = inr (inr refl)
-    go false false = inl refl
+shorts_of tool x = search rules
 
 -- the name of a flag of the tool
 abbrev pub IsName : Tool → Text → Type 0
 IsName tool name = is_flag tool (45 ∷ 45 ∷ name) ≡ true
-
-same_text : (a b : Text) → bytes_eq a b ≡ true → a ≡ b
-same_text a b e = (bytes_eq-Decides a b).0 e
 
 module _ (tool : Tool) (name : Text) where
   text_or_none : (help version : Bool) → IsLong [] [] [] None 0 (IsName tool) name (cond help (Some help_full) (cond version (Some version_full) None))
@@ -236,12 +196,7 @@ module _ (tool : Tool) (name : Text) where
 
   flag_or : (f : Text) → IsName tool f → (b : Bool) → (bytes_eq f name || false) ≡ b → (o : Option Rule) → IsLong [] [] [] None 0 (IsName tool) name o
       → IsLong [] [] [] None 0 (IsName tool) name (cond b (Some (flag_full f)) o)
-  flag_or f has true e o rest = inr (inr (f, refl, same_text f name (or_true (bytes_eq f name) e), has))
-    where
-      or_true : (b : Bool) → (b || false) ≡ true → b ≡ true
-      or_true true e = refl
-      or_true false e = e
-  flag_or f has false e o rest = rest
+  flag_or f h b h2 o h3 = search rules
 
 pub longs_of : (tool : Tool) (name : Text) → IsLong [] [] [] None 0 (IsName tool) name (arg_by_long (rules_of tool) name)
 longs_of Drat name =
@@ -251,8 +206,8 @@ longs_of Drat name =
     (flag_or Drat name (codes "pr") refl _ refl _
     (flag_or Drat name (codes "keep-units") refl _ refl _
     (text_or_none Drat name (bytes_eq (codes "help") name || false) (bytes_eq (codes "version") name || false))))))
-longs_of Lrat name = flag_or Lrat name (codes "trace") refl _ refl _ (text_or_none Lrat name (bytes_eq (codes "help") name || false) (bytes_eq (codes "version") name || false))
-longs_of Model name = text_or_none Model name (bytes_eq (codes "help") name || false) (bytes_eq (codes "version") name || false)
+longs_of Lrat name = search rules
+longs_of Model name = search rules
 
 -- the walk takes the word for a name
 abbrev pub IsTaken : Tool → List Row → Option (Text × List Text) → ℕ → Text → Type 0
