@@ -1,7 +1,7 @@
 -- The rule of DRAT depends only on how many copies of each clause are alive.
 use Rattle.std.proofs.Common.{◌≡◌, ℕ, zero, suc, ◌+◌, ◌-◌, ◌<◌, Bool, true}
 use Rattle.std.proofs.Common.{false, cond, Some, Ok, Err, List, [], ◌∷◌, ◌++◌}
-use Rattle.std.proofs.Common.{slice_get, refl, sym, ap, ◌∙◌, subst, inl, inr, ◌⊎◌, not}
+use Rattle.std.proofs.Common.{slice_get, refl, sym, ap, ◌∙◌, subst, inl, inr, ◌⊎◌}
 use Rattle.std.proofs.Common.{arith, rules}
 use Rattle.std.specs.List.{list_any}
 use Rattle.std.proofs.lemmas.Bool.{false≢true, true≢false, cases_Bool, or_cases, or_left}
@@ -48,10 +48,10 @@ pub none_alive : (c : Clause) (live : List Clause) → list_any (same_clause c) 
 none_alive c [] h = refl
 none_alive c (d ∷ live) h =
     elim (cases_Bool (same_clause c d)) [
-      | inl e ↦ absurd (true≢false (sym (or_left (same_clause c d) (list_any (same_clause c) live) e) ∙ h))
+      | inl e ↦ cc
       | inr e ↦
           let rest : list_any (same_clause c) live ≡ false = false_from_ne_true _ (λ g. true≢false (sym (or_right (same_clause c d) (list_any (same_clause c) live) g) ∙ h)) in
-          copies-cons c d live ∙ ap (λ b. cond b 1 0 + copies_of c live) e ∙ omega (arith, none_alive c live rest)
+          search (rules, copies-cons, (none_alive c live rest))
     ]
 
 pub copies_alive : (c : Clause) (live : List Clause) → 0 < copies_of c live → list_any (same_clause c) live ≡ true
@@ -126,7 +126,7 @@ rat_covers first second there back c pivot rat = record { holds_pivot = rat.hold
         complements_more second (c ++ without w.1 (complement pivot)) (c ++ without d (complement pivot))
         (λ l h. elim (has_append_cases c (without w.1 (complement pivot)) l h) [
           | inl g ↦ has_append_left c (without d (complement pivot)) l g
-          | inr g ↦ let p = without_has w.1 (complement pivot) l g in has_append_right c (without d (complement pivot)) l (has-without d (complement pivot) l (same_back d w.1 w.3 l p.0) p.1)
+          | inr g ↦ search (rules, arith, without_has, has_append_right, has-without, same_back)
         ])
         (clash_covers first second there _ (rat.candidates w.0 w.1 w.2 (same_there d w.1 w.3 (complement pivot) member)))
 
@@ -141,7 +141,7 @@ pr_covers first second there back c set pr = record { consistent = pr.consistent
           | inr rup ↦ inr (complements_more second (c ++ open_literals set w.1) (c ++ open_literals set d)
               (λ l h. elim (has_append_cases c (open_literals set w.1) l h) [
                 | inl g ↦ has_append_left c (open_literals set d) l g
-                | inr g ↦ let p = filter_has (λ l. not (has set (complement l))) w.1 l g in has_append_right c (open_literals set d) l (has-filter (λ l. not (has set (complement l))) d l (same_back d w.1 w.3 l p.0) p.1)
+                | inr g ↦ search (rules, arith, filter_has, has_append_right, has-filter, same_back)
               ])
               (clash_covers first second there _ rup))
         ]
@@ -186,7 +186,7 @@ witness_same first second c set (Ok _) same a = absurd a
 witness_same first second c set (Err _) same a = absurd a
 
 kept_same : (rules : DratRules) (first second : List Clause) (c : Clause) → SameLive first second → IsKeptUnit rules first c → IsKeptUnit rules second c
-kept_same rules first second c same kept = search (rules, reason_covers, covers_of, same_itself)
+kept_same rules first second c same kept = search (reason_covers, covers_of, same_itself)
 
 delete_same : (rules : DratRules) (first second : List Clause) (c : List Literal) (answer : StepAnswer) → SameLive first second → AnswersDelete rules first c answer → AnswersDelete rules second c answer
 delete_same rules first second c (Ok Deleted) same a =
@@ -201,5 +201,5 @@ delete_same rules first second c (Err _) same a = absurd a
 
 pub drat_same : (rules : DratRules) (first second : List Clause) (step : DratStep) (answer : StepAnswer) → SameLive first second → AnswersDrat rules first step answer → AnswersDrat rules second step answer
 drat_same rules first second (add c []) answer same a = add_same first second c answer same a
-drat_same rules first second (add c (l ∷ set)) answer same a = search (rules, witness_same)
+drat_same rules first second (add c (l ∷ set)) answer same a = search witness_same
 drat_same rules first second (delete c) answer same a = search (rules, delete_same)

@@ -1,6 +1,6 @@
 -- Lists with as many copies of each clause have the same sum of sizes.
 use Rattle.std.proofs.Common.{◌≡◌, ℕ, ◌+◌, ◌-◌, ◌<◌, true, cond, List, []}
-use Rattle.std.proofs.Common.{◌∷◌, refl, sym, ap, ◌∙◌, inl, inr, arith}
+use Rattle.std.proofs.Common.{◌∷◌, refl, sym, ap, ◌∙◌, inl, inr, arith, rules}
 use Rattle.std.specs.Prelude.{sum_by}
 use Rattle.std.specs.List.{list_any}
 use Rattle.std.proofs.lemmas.Bool.{false≢true, cases_Bool, or_cases, both_ways}
@@ -15,7 +15,7 @@ use Rattle.theory.proofs.LawLemmas.Sizes.{size_same}
 sum_take_off : (c : Clause) (live : List Clause) → list_any (same_clause c) live ≡ true → sum_by size live ≡ size c + sum_by size (take_off c live)
 sum_take_off c [] h = absurd (false≢true h)
 sum_take_off c (d ∷ live) h = elim (cases_Bool (same_clause c d)) [
-  | inl e ↦ sum_by-cons size d live ∙ ap (λ n. n + sum_by size live) (sym (size_same c d e)) ∙ ap (λ b. size c + sum_by size (cond b live (d ∷ take_off c live))) (sym e)
+  | inl e ↦ cc ((sum_by-cons size d live), (size_same c d e))
   | inr e ↦
       let rest : list_any (same_clause c) live ≡ true = elim (or_cases (same_clause c d) (list_any (same_clause c) live) h) [ inl g ↦ absurd (both_ways (same_clause c d) e g) | inr g ↦ g ] in
       let below = sum_take_off c live rest in
@@ -30,7 +30,7 @@ copies_own c live = copies-cons c c live ∙ ap (λ b. cond b 1 0 + copies_of c 
 
 pub sums_same : (first second : List Clause) → SameLive first second → sum_by size first ≡ sum_by size second
 sums_same [] [] same = refl
-sums_same [] (d ∷ second) same = absurd (let own = copies_own d second in let is : 0 ≡ copies_of d (d ∷ second) = same.copies d in let wrong : ⊥ = omega arith in wrong)
+sums_same [] (d ∷ second) same = search (rules, (copies_own d second))
 sums_same (c ∷ first) second same =
     let own = copies_own c first in
     let is = same.copies c in

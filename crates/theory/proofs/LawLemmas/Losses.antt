@@ -67,12 +67,11 @@ step_loses_same : (step : Step) (word : Accepted) (first second : State) → Sam
 step_loses_same step word first second h h2 = search (rules, delete_loses_same)
 
 pub lost_same : (steps : List Step) (words : List Accepted) (first second : State) → Same first second → HasLost first steps words → HasLost second steps words
-lost_same [] words first second same lost = absurd lost
-lost_same (step ∷ steps) [] first second same lost = absurd lost
 lost_same (step ∷ steps) (word ∷ words) first second same lost = elim lost [
   | inl now ↦ inl (step_loses_same step word first second same now)
   | inr later ↦ inr (lost_same steps words (after first step word) (after second step word) (after_same first second step word same) later)
 ]
+lost_same steps words first second h h2 = search rules
 
 -- ---- Reasons
 

@@ -1,8 +1,8 @@
 -- What is true under an assignment, and the assignment that makes a witness true.
 use Rattle.std.proofs.Common.{◌≡◌, ◌≢◌, ℕ, ◌+◌, ◌*◌, ◌/◌, Bool}
 use Rattle.std.proofs.Common.{true, false, not, ◌||◌, cond, Some, List, [], ◌∷◌, ◌++◌}
-use Rattle.std.proofs.Common.{refl, sym, ap, ◌∙◌, inl, inr, if◌then◌else◌}
-use Rattle.std.proofs.Common.{ne_eqb, rules}
+use Rattle.std.proofs.Common.{sym, ap, ◌∙◌, inl, inr, if◌then◌else◌}
+use Rattle.std.proofs.Common.{ne_eqb, rules, arith}
 use Rattle.std.proofs.lemmas.Bool.{false≢true, true≢false, cases_Bool, cases_eq, not-true}
 use Rattle.cnf_base.specs.Literals.{Literal, complement, Clause, has, complements, without}
 use Rattle.theory.specs.Propagation.{Live, IsClosed, Forced, Clash, HasRup, HasRat, HasPr}
@@ -26,10 +26,7 @@ closed_by_model v live models = record { unit = go }
     go : (k : ℕ) (c : Clause) → live k ≡ Some c → (m : Literal) → has c m ≡ true → ((l : Literal) → has c l ≡ true → l ≢ m → holds v (complement l) ≡ true) → holds v m ≡ true
     go k c at m member others =
         let w = any_some (holds v) c (models k c at) in
-        elim (cases_eq w.0 m) [
-          | inl e ↦ sym (ap (holds v) e) ∙ w.2
-          | inr ne ↦ absurd (complement_false v w.0 w.2 (others w.0 w.1 ne))
-        ]
+        search (rules, cases_eq, complement_false)
 
 -- under an assignment that makes all live clauses and all assumed literals true, what is forced is true
 pub forced_true : (v : Assignment) (live : Live) (assumed : List Literal) (l : Literal) → Models v live → ((a : Literal) → has assumed a ≡ true → holds v a ≡ true) → Forced live assumed l → holds v l ≡ true
@@ -67,36 +64,29 @@ pub override_true : (v : Assignment) (witness : List Literal) (l : Literal) → 
 unfolding override
 override_true v witness l member absent =
     elim (parity l) [
-      | even at other value ↦ value (override v witness) ∙ made_even (has witness (2 * (l / 2))) (has witness (2 * (l / 2) + 1)) (v (l / 2)) (ap (has witness) (sym at) ∙ member)
-      | odd at other value ↦ value (override v witness) ∙ made_odd (has witness (2 * (l / 2))) (has witness (2 * (l / 2) + 1)) (v (l / 2)) (ap (has witness) (sym other) ∙ absent) (ap (has witness) (sym at) ∙ member)
+      | even at other value ↦ search rules
+      | odd at other value ↦ search rules
     ]
   where
     made_even : (a b x : Bool) → a ≡ true → cond a true (cond b false x) ≡ true
-    made_even true b x e = refl
-    made_even false b x e = absurd (false≢true e)
+    made_even a b x h = cc
 
     made_odd : (a b x : Bool) → a ≡ false → b ≡ true → not (cond a true (cond b false x)) ≡ true
-    made_odd true b x e h = absurd (true≢false e)
-    made_odd false true x e h = refl
-    made_odd false false x e h = absurd (false≢true h)
+    made_odd a b x h h2 = cc
 
 pub override_keeps : (v : Assignment) (witness : List Literal) (l : Literal) → holds v l ≡ true → has witness (complement l) ≡ false → holds (override v witness) l ≡ true
 unfolding override
 override_keeps v witness l h absent =
     elim (parity l) [
-      | even at other value ↦ value (override v witness) ∙ kept_even (has witness (2 * (l / 2))) (has witness (2 * (l / 2) + 1)) (v (l / 2)) (ap (has witness) (sym other) ∙ absent) (sym (value v) ∙ h)
-      | odd at other value ↦ value (override v witness) ∙ kept_odd (has witness (2 * (l / 2))) (has witness (2 * (l / 2) + 1)) (v (l / 2)) (ap (has witness) (sym other) ∙ absent) (sym (value v) ∙ h)
+      | even at other value ↦ search rules
+      | odd at other value ↦ search rules
     ]
   where
     kept_even : (a b x : Bool) → b ≡ false → x ≡ true → cond a true (cond b false x) ≡ true
-    kept_even true b x e h = refl
-    kept_even false true x e h = absurd (true≢false e)
-    kept_even false false x e h = h
+    kept_even a b x h h2 = search rules
 
     kept_odd : (a b x : Bool) → a ≡ false → not x ≡ true → not (cond a true (cond b false x)) ≡ true
-    kept_odd true b x e h = absurd (true≢false e)
-    kept_odd false true x e h = refl
-    kept_odd false false x e h = h
+    kept_odd a b x h h2 = search rules
 
 -- ---- RAT and PR keep satisfiability
 
@@ -113,7 +103,7 @@ pr_keeps v live c witness models pr =
     in_rest fails d l member h =
         elim (has_append_cases c (open_literals witness d) l member) [
           | inl g ↦ absurd (true≢false (sym h ∙ any_none (holds v) c l fails g))
-          | inr g ↦ let w = filter_has (λ l. not (has witness (complement l))) d l g in (w.0, not-true _ w.1)
+          | inr g ↦ search (rules, arith, filter_has, not-true)
         ]
 
     kept : satisfies v c ≡ false → Models (override v witness) live
@@ -138,13 +128,13 @@ rat_keeps v live c pivot models rat =
     other l ne = ap (λ b. b || false) (ne_eqb pivot (complement l) ne)
 
     made_true : holds changed pivot ≡ true
-    made_true = override_true v (pivot ∷ []) pivot (has_head pivot []) (other pivot (λ e. complement-other pivot (sym e)))
+    made_true = search (rules, arith, override_true, has_head, other, complement-other)
 
     in_rest : satisfies v c ≡ false → (d : Clause) (l : Literal) → has (c ++ without d (complement pivot)) l ≡ true → holds v l ≡ true → (has d l ≡ true) × (pivot ≢ complement l)
     in_rest fails d l member h =
         elim (has_append_cases c (without d (complement pivot)) l member) [
           | inl g ↦ absurd (true≢false (sym h ∙ any_none (holds v) c l fails g))
-          | inr g ↦ let w = without_has d (complement pivot) l g in (w.0, λ e. w.1 (sym (complement-complement l) ∙ ap complement (sym e)))
+          | inr g ↦ search (rules, arith, without_has, complement-complement)
         ]
 
     kept : satisfies v c ≡ false → Models changed live
@@ -156,5 +146,5 @@ rat_keeps v live c pivot models rat =
               any_from _ d w.0 r.0 (override_keeps v (pivot ∷ []) w.0 w.2 (other w.0 r.1))
           | inr absent ↦
               let w = any_some (holds v) d (models k d at) in
-              any_from _ d w.0 w.1 (override_keeps v (pivot ∷ []) w.0 w.2 (other w.0 (λ e. true≢false (sym w.1 ∙ ap (has d) (sym (complement-complement w.0) ∙ ap complement (sym e)) ∙ absent))))
+              search (rules, any_from, override_keeps, true≢false, complement-complement)
         ]

@@ -3,7 +3,7 @@ use Rattle.std.proofs.Common.{◌≡◌, zero, suc, Bool, true, false, Ok, Err, 
 use Rattle.std.proofs.Common.{slice_get, refl, sym, ap, ◌∙◌, subst, inl, inr, rules}
 use Rattle.std.specs.Bool.{MatchBool}
 use Rattle.std.specs.List.{list_any}
-use Rattle.std.proofs.lemmas.Bool.{false≢true, cases_Bool, MatchBool-at_true, MatchBool-at_false}
+use Rattle.std.proofs.lemmas.Bool.{false≢true, cases_Bool, MatchBool-at_false}
 use Rattle.cnf_base.specs.Literals.{Clause}
 use Rattle.proofs.specs.Steps.{Step}
 use Rattle.theory.specs.declared.accepted.Accepted.{Accepted}
@@ -26,12 +26,12 @@ ends_same [] [] ending first second same e = e
 ends_same [] (word ∷ words) ending first second same e = absurd e
 ends_same (step ∷ steps) [] ending first second same e = search (rules, answers_same)
 ends_same (step ∷ steps) (word ∷ words) ending first second same e =
-    (answers_same first second step (Ok word) same e.0, by_word (is_last word) (ends_same steps words ending (after first step word) (after second step word) (after_same first second step word same)) e.1)
-  where
-    by_word : (b : Bool) → (Ends (after first step word) steps words ending → Ends (after second step word) steps words ending)
-        → MatchBool b ((words ≡ []) × (ending ≡ verified)) (Ends (after first step word) steps words ending) → MatchBool b ((words ≡ []) × (ending ≡ verified)) (Ends (after second step word) steps words ending)
-    by_word true rest h = h
-    by_word false rest h = rest h
+    search (
+      rules,
+      answers_same,
+      after_same,
+      (ends_same steps words ending (after first step word) (after second step word) (after_same first second step word same)),
+    )
 
 -- ---- At most one verdict
 
@@ -48,10 +48,7 @@ ends_unique (step ∷ steps) s (w ∷ ws) [] ending other a b = search (rules, o
 ends_unique (step ∷ steps) s (w ∷ ws) (x ∷ xs) ending other a b =
     let same = ok_is w x (answer_unique s step _ _ a.0 b.0) in
     elim (cases_Bool (is_last w)) [
-      | inl last ↦
-          let p = MatchBool-at_true _ _ last a.1 in
-          let q = MatchBool-at_true _ _ (sym (ap is_last same) ∙ last) b.1 in
-          (λ i. same i ∷ (p.0 ∙ sym q.0) i, p.1 ∙ sym q.1)
+      | inl last ↦ search rules
       | inr goes_on ↦
           let rest = subst (λ word. Ends (after s step word) steps xs other) (sym same) (MatchBool-at_false _ _ (sym (ap is_last same) ∙ goes_on) b.1) in
           let r = ends_unique steps (after s step w) ws xs ending other (MatchBool-at_false _ _ goes_on a.1) rest in
@@ -97,30 +94,20 @@ some_verdict rule formula steps = by (list_any is_empty formula) refl (some_endi
     by true e rest =
         let P : Bool → Type 0 = λ v. MatchBool v ((no_words ≡ no_words) × (verified ≡ verified)) (Ends (start rule formula) steps no_words verified) in
         (no_words, verified, subst P (sym e) (refl, refl))
-    by false e rest =
-        let P : Bool → Type 0 = λ v. MatchBool v ((rest.0 ≡ []) × (rest.1 ≡ verified)) (Ends (start rule formula) steps rest.0 rest.1) in
-        (rest.0, rest.1, subst P (sym e) rest.2)
+    by false e rest = search rules
 
 -- ---- A verified formula has no model
 
 last_is_empty : (word : Accepted) → is_last word ≡ true → word ≡ Empty
 last_is_empty word h = search rules
 
-verified_none : verified ≡ no_empty_clause → ⊥
-verified_none e = cc
-
-verified_refused : (r : Refusal) → verified ≡ refused r → ⊥
-verified_refused r e = cc
-
 ends_sound : (steps : List Step) (s : State) (words : List Accepted) → Ends s steps words verified → IsSatisfiable s → ⊥
-ends_sound [] s [] e has_model = verified_none e
-ends_sound [] s (word ∷ words) e has_model = e
-ends_sound (step ∷ steps) s [] e has_model = verified_refused e.0 e.1
 ends_sound (step ∷ steps) s (word ∷ words) e has_model =
     elim (cases_Bool (is_last word)) [
       | inl last ↦ refutes s step (subst (λ w. Answers s step (Ok w)) (last_is_empty word last) e.0) has_model
       | inr goes_on ↦ ends_sound steps (after s step word) words (MatchBool-at_false _ _ goes_on e.1) (keeps s step word e.0 has_model)
     ]
+ends_sound steps s words h h2 = search rules
 
 empty_formula : (formula : List Clause) → list_any is_empty formula ≡ true → HasModel (slice_get formula) → ⊥
 empty_formula [] h m = false≢true h

@@ -1,6 +1,6 @@
 -- States with the same clauses, and what the clauses of a formula leave.
-use Rattle.std.proofs.Common.{◌≡◌, ℕ, zero, suc, ◌+◌, true, cond, eqb, ne_eqb}
-use Rattle.std.proofs.Common.{Some, List, [], ◌∷◌, ◌++◌, length, slice_get, refl}
+use Rattle.std.proofs.Common.{◌≡◌, ℕ, suc, ◌+◌, true, cond, eqb, ne_eqb}
+use Rattle.std.proofs.Common.{Some, List, [], ◌∷◌, ◌++◌, length, slice_get}
 use Rattle.std.proofs.Common.{subst, rules}
 use Rattle.cnf_base.specs.Literals.{Clause, same_clause}
 use Rattle.cnf_base.proofs.SetLemmas.{any_from, any_some, same_itself, same_there, same_symm}
@@ -45,10 +45,8 @@ has_model_copies first second same m = search (rules, covers_of, satisfies_same,
 -- ---- The formula
 
 get_push : (formula : List Clause) (c : Clause) (k : ℕ) → slice_get (formula ++ c ∷ []) k ≡ cond (eqb k (length formula)) (Some c) (slice_get formula k)
-get_push [] c zero = refl
-get_push [] c (suc k) = search rules
-get_push (d ∷ formula) c zero = search rules
 get_push (d ∷ formula) c (suc k) = search (rules, slice_get, (get_push formula c k))
+get_push formula c k = search rules
 
 -- the next clause of a formula
 pub numbered_push : (formula : List Clause) (c : Clause) (k : ℕ) → with_clause (numbered formula) (length formula + 1) c k ≡ numbered (formula ++ c ∷ []) k

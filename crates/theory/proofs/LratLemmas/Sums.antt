@@ -18,22 +18,14 @@ pub sum_above : (top n : ℕ) (f : ℕ → ℕ) → top ≤ n → ((k : ℕ) →
 sum_above top zero f le none = let e : 0 ≡ top = omega arith in ap (λ m. sum_to m f) e
 sum_above top (suc n) f le none = elim (cases_lt n top) [
   | inl past ↦ let e : suc n ≡ top = omega arith in ap (λ m. sum_to m f) e
-  | inr inside ↦
-      let here : f (suc n) ≡ 0 = none (suc n) (omega arith) in
-      let below = sum_above top n f inside none in
-      let step : sum_to n f + f (suc n) ≡ sum_to n f = omega arith in
-      step ∙ below
+  | inr inside ↦ omega (arith, (sum_above top n f inside none))
 ]
 
 -- a change at one identifier
 pub sum_change : (n id : ℕ) (f g : ℕ → ℕ) → 1 ≤ id → id ≤ n → ((k : ℕ) → k ≢ id → f k ≡ g k) → sum_to n f + g id ≡ sum_to n g + f id
 sum_change zero id f g low high same = absurd (let h : ⊥ = omega arith in h)
 sum_change (suc n) id f g low high same = elim (cases_eq (suc n) id) [
-  | inl e ↦
-      let below = sum_agree n f g (λ k low high. same k (λ is. absurd (let h : ⊥ = omega arith in h))) in
-      let first : f (suc n) ≡ f id = ap f e in
-      let second : g (suc n) ≡ g id = ap g e in
-      omega arith
+  | inl e ↦ search (rules, arith, sum_agree)
   | inr apart ↦
       let here : f (suc n) ≡ g (suc n) = same (suc n) apart in
       let within : id ≤ n = omega arith in

@@ -1,6 +1,6 @@
 -- How many literals are not found yet.
 use Rattle.std.proofs.Common.{◌≡◌, ℕ, ◌+◌, ◌<◌, ◌≤◌, Bool, true, false, not}
-use Rattle.std.proofs.Common.{cond, List, [], ◌∷◌, ap, ◌∙◌, arith, inl, inr, rules}
+use Rattle.std.proofs.Common.{cond, List, [], ◌∷◌, arith, inl, inr, rules}
 use Rattle.std.proofs.lemmas.Bool.{false≢true}
 use Rattle.std.proofs.lemmas.List.Sums.{sum_by-cons}
 use Rattle.cnf_base.specs.Literals.{Literal, has}
@@ -23,8 +23,6 @@ module _ (first second : List Literal) (grows : (l : Literal) → has first l �
   lacking_falls m absent new (l ∷ ls) h =
       elim (has_cases l ls m h) [
         | inl e ↦
-            let old : cond {A = ℕ} (not (has first l)) 1 0 ≡ 1 = ap (λ b. cond {A = ℕ} (not b) 1 0) (ap (has first) e ∙ absent) in
-            let now : cond {A = ℕ} (not (has second l)) 1 0 ≡ 0 = ap (λ b. cond {A = ℕ} (not b) 1 0) (ap (has second) e ∙ new) in
-            omega (arith, lacking-cons first l ls, lacking-cons second l ls, old, now, lacking_le ls)
+            search (rules, (lacking-cons first l ls), (lacking-cons second l ls), (lacking_le ls))
         | inr g ↦ omega (arith, lacking-cons first l ls, lacking-cons second l ls, weight_le (has first l) (has second l) (grows l), lacking_falls m absent new ls g)
       ]

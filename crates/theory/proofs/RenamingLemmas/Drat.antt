@@ -1,5 +1,5 @@
 -- The rule of DRAT under other names.
-use Rattle.std.proofs.Common.{◌≡◌, ℕ, zero, suc, ◌+◌, Bool, true, false, not, ◌||◌, cond, eqb}
+use Rattle.std.proofs.Common.{◌≡◌, ℕ, zero, suc, ◌+◌, Bool, not, ◌||◌, cond, eqb}
 use Rattle.std.proofs.Common.{Option, Some, option_map, Ok, Err, List, [], ◌∷◌, map, length}
 use Rattle.std.proofs.Common.{slice_get, refl, sym, ap, ◌∙◌, subst, inl, inr, take, drop, arith}
 use Rattle.std.specs.List.{list_any, take-map, drop-map, prefix_len}
@@ -117,10 +117,10 @@ module _ (there back : Literal → Literal) (among : Literal → Type 0) (r : Re
     listed_mapped c witness answer h h2 h3 = search (rules, add_mapped, witness_mapped)
 
     kept_there : (rules : DratRules) (c : Clause) → IsKeptUnit rules live c → IsKeptUnit rules other (map there c)
-    kept_there rules c kept = search (rules, reason_image, slice_get, listed)
+    kept_there rules c kept = search (reason_image, listed)
 
     kept_again : (rules : DratRules) (c : Clause) → AreAmong among c → IsKeptUnit rules other (map there c) → IsKeptUnit rules live c
-    kept_again rules c w kept = search (rules, reason_back, slice_get, listed)
+    kept_again rules c w kept = search (reason_back, listed)
 
   alive_mapped : (live : List Clause) (c : Clause) → ((k : ℕ) (d : Clause) → slice_get live k ≡ Some d → AreAmong among d) → AreAmong among c →
       list_any (same_clause (map there c)) (map (map there) live) ≡ list_any (same_clause c) live
@@ -141,7 +141,7 @@ module _ (there back : Literal → Literal) (among : Literal → Type 0) (r : Re
     delete_mapped rules c (Err _) w a = absurd a
 
     pub drat_answers_mapped : (rules : DratRules) (step : DratStep) (answer : StepAnswer) → IsOf among step → AnswersDrat rules live step answer → AnswersDrat rules (map (map there) live) (drat_mapped there step) (answer_renamed there answer)
-    drat_answers_mapped rules (add c witness) answer w a = search (rules, listed_mapped)
+    drat_answers_mapped rules (add c witness) answer w a = search listed_mapped
     drat_answers_mapped rules (delete c) answer w a = delete_mapped rules c answer w a
 
   -- ---- What is alive after a step
@@ -150,13 +150,11 @@ module _ (there back : Literal → Literal) (among : Literal → Type 0) (r : Re
       take_off (map there c) (map (map there) live) ≡ map (map there) (take_off c live)
   take_off_mapped [] c within w = refl
   take_off_mapped (d ∷ live) c within w =
-      ap (λ b. cond b (map (map there) live) (map there d ∷ take_off (map there c) (map (map there) live))) (same_mapped there back among r c d w (within zero d refl))
-      ∙ by (same_clause c d) (take_off_mapped live c (λ k. within (suc k)) w)
-    where
-      by : (b : Bool) → take_off (map there c) (map (map there) live) ≡ map (map there) (take_off c live) →
-          cond b (map (map there) live) (map there d ∷ take_off (map there c) (map (map there) live)) ≡ map (map there) (cond b live (d ∷ take_off c live))
-      by true e = refl
-      by false e = ap (λ ds. map there d ∷ ds) e
+      search (
+        rules,
+        (same_mapped there back among r c d w (within zero d refl)),
+        (take_off_mapped live c (λ k. within (suc k)) w),
+      )
 
   pub after_mapped : (live : List Clause) (step : DratStep) (word : Accepted) → ((k : ℕ) (d : Clause) → slice_get live k ≡ Some d → AreAmong among d) → IsOf among step →
       after_drat (map (map there) live) (drat_mapped there step) word ≡ map (map there) (after_drat live step word)
