@@ -1,7 +1,7 @@
 -- What is kept where a clause was added.
-use Rattle.std.proofs.Common.{◌≡◌, ◌≢◌, ℕ, ◌+◌, ◌<◌, Bool, true, false, cond, eqb, eq-eqb, ne_eqb}
+use Rattle.std.proofs.Common.{◌≡◌, ◌≢◌, ℕ, ◌+◌, ◌<◌, Bool, true, false, cond, eqb, eq-eqb}
 use Rattle.std.proofs.Common.{Option, Some, None, is_some, List, [], ◌∷◌, ◌++◌, length, take, refl, sym}
-use Rattle.std.proofs.Common.{ap, ◌∙◌, subst, arith, inl, inr, ◌⊎◌}
+use Rattle.std.proofs.Common.{ap, ◌∙◌, subst, arith, inl, inr, ◌⊎◌, rules}
 use Rattle.std.specs.Ordering.{nat_cmp}
 use Rattle.std.specs.FinMap as maps
 use Rattle.std.specs.FinMap.{FinMap}
@@ -9,7 +9,7 @@ use Rattle.std.proofs.lemmas.Bool.{cases_eq, true≢false, false≢true}
 use Rattle.std.proofs.lemmas.Option.{none-some}
 use Rattle.std.proofs.lemmas.List.{length-append, take_all, take-append-le}
 use Rattle.cnf_base.specs.Literals.{Literal, complement, Clause, has}
-use Rattle.cnf_base.proofs.SetLemmas.{has_append_left, has_append_right, has_cases, has_head}
+use Rattle.cnf_base.proofs.SetLemmas.{has_append_left, has_append_right, has_head}
 use Rattle.tables.specs.Filled.{at}
 use Rattle.root_literals.specs.History.{IsHistory, IsNoted, sure_of, visits}
 use Rattle.root_literals.specs.Order.{in_order, each_in_order}
@@ -35,11 +35,7 @@ use Rattle.root_literals.proofs.RootLemmas.Uses.{counted_among, counted_longer, 
 
 only_one : (c : Clause) (m : Literal) → length c ≡ 1 → has c m ≡ true → (k : Literal) → has c k ≡ true → k ≡ m
 only_one [] m one there k h = absurd (false≢true h)
-only_one (a ∷ []) m one there k h =
-    elim (has_cases a [] k h) [
-      | inl e ↦ sym e ∙ elim (has_cases a [] m there) [ inl f ↦ f | inr none ↦ absurd (false≢true none) ]
-      | inr none ↦ absurd (false≢true none)
-    ]
+only_one (a ∷ []) m one there k h = search rules
 only_one (a ∷ b ∷ c) m one there k h = absurd (let wrong : ⊥ = omega (arith, one) in wrong)
 
 abbrev is_more : Left → Bool
@@ -47,16 +43,9 @@ is_more Nothing = false
 is_more (One l) = false
 is_more More = true
 
-met_short : (c : Clause) → length c < 2 → (l : Literal) (trues : List Literal) → IsMet c l trues
-met_short [] small l trues there = absurd (false≢true there)
-met_short (a ∷ []) small l trues there = absurd (false≢true there)
-met_short (a ∷ b ∷ c) small l trues there = absurd (let wrong : ⊥ = omega (arith, small) in wrong)
-
 -- what a clause watches is met at any place, unless it watches a literal that is false
 met_sure : (lits : List Literal) (c : Clause) (left : Left) → IsArranged lits c left → (left ≢ More → length c < 2) → (done more : List Literal) → IsPart done lits → (l : Literal) → has done (complement l) ≡ true → IsMet c l more
-met_sure lits c More first small done more part l h = met_open c lits done more part first l h
-met_sure lits c Nothing first small done more part l h = met_short c (small (λ e. false≢true (ap is_more e))) l more
-met_sure lits c (One m) first small done more part l h = met_short c (small (λ e. false≢true (ap is_more e))) l more
+met_sure lits c left h h2 done more h3 l h4 = search rules
 
 -- a clause is entered into the slot, of which this is left, where the others are kept
 pub record Entering (after : FinMap nat_cmp Clause) (slot : ℕ) (c : Clause) (roots : Roots) (lits : List Literal) (left : Left) (later : History) : Type 0 where
@@ -93,13 +82,12 @@ module _ {after : FinMap nat_cmp Clause} {slot : ℕ} {c : Clause} {roots : Root
   watched = watched_added (maps.remove after slot) after slot c (gone after slot slot refl) given.here (λ s ne. sym (elsewhere after slot s ne))
 
   units : (trues : List Literal) → HaveUnits (maps.get (maps.remove after slot)) trues → HasUnit c trues → HaveUnits (maps.get after) trues
-  units = units_added (maps.remove after slot) after slot c (gone after slot slot refl) given.here (λ s ne. sym (elsewhere after slot s ne))
+  units = search (rules, units_added, gone, elsewhere)
 
   -- the clauses that are not doubtful, where this one is met unless it is
   sure : (done trues : List Literal) → (has later.doubts.items slot ≡ false → (l : Literal) → has done (complement l) ≡ true → IsMet c l trues) → IsWatched (sure_of roots.history.doubts.items (maps.get (maps.remove after slot))) done trues →
       IsWatched (sure_of later.doubts.items (maps.get after)) done trues
-  sure done trues =
-      watched_sure_added (maps.remove after slot) after slot c (gone after slot slot refl) given.here (λ s ne. sym (elsewhere after slot s ne)) roots.history.doubts.items later.doubts.items done trues given.noted_is.others
+  sure done trues = search (rules, watched_sure_added, gone, elsewhere)
 
   history : IsHistory (sure_of later.doubts.items (maps.get after)) later lits
   history = elim (cases_eq (visits later) 0) [
@@ -130,13 +118,10 @@ module _ {after : FinMap nat_cmp Clause} {slot : ℕ} {c : Clause} {roots : Root
 
   -- it is the history that is kept
   history_now : (now : Roots) → now.history ≡ later → IsHistory (sure_of now.history.doubts.items (maps.get after)) now.history lits
-  history_now now history_is = subst (λ h. IsHistory (sure_of h.doubts.items (maps.get after)) h lits) (sym history_is) history
+  history_now now history_is = search (rules, history)
 
   idle : (k : Kept) → has_clash k ≡ true → IsKnown (maps.remove after slot) k lits → IsKnown after k lits
-  idle Cut is known = absurd (false≢true is)
-  idle Behind is known = absurd (false≢true is)
-  idle All is known = absurd (false≢true is)
-  idle (Clash s) is known = false_added (maps.remove after slot) after slot c (gone after slot slot refl) given.here (λ s ne. sym (elsewhere after slot s ne)) s lits known
+  idle k h h2 = search (rules, false≢true, false_added, gone, elsewhere)
 
   pub entered_idle : has_clash roots.kept ≡ true → (now : Roots) → now.kept ≡ roots.kept → now.history ≡ later → now.reasons ≡ roots.reasons → now.uses ≡ roots.uses → IsKept after now lits
   entered_idle is now kept_is history_is reasons_are uses_are = record {
@@ -152,22 +137,13 @@ module _ {after : FinMap nat_cmp Clause} {slot : ℕ} {c : Clause} {roots : Root
   settled : ((done : List Literal) → IsPart done lits → (l : Literal) → has done (complement l) ≡ true → IsMet c l lits) → HasUnit c lits → (k : Kept) → IsKnown (maps.remove after slot) k lits → IsKnown after k lits
   settled met unit Cut known = known
   settled met unit Behind known = units lits known unit
-  settled met unit All known = (watched lits lits known.0 (met lits (λ l h. h)), units lits known.1 unit)
+  settled met unit All known = search (rules, watched, units)
   settled met unit (Clash s) known = idle (Clash s) refl known
 
   entered_settled : ((done : List Literal) → IsPart done lits → (l : Literal) → has done (complement l) ≡ true → IsMet c l lits) → HasUnit c lits → (now : Roots) → now.kept ≡ roots.kept → now.history ≡ later →
       AreNoted (maps.get (each_in_order after)) (at now.reasons) → AreReasoned (maps.get (each_in_order after)) (at now.reasons) lits → AreCounted (maps.get after) (at now.reasons) lits now.uses → IsKept after now lits
-  entered_settled met unit now kept_is history_is now_noted now_reasoned now_counted = record {
-    noted = now_noted;
-    reasoned = now_reasoned;
-    known = subst (λ k. IsKnown after k lits) (sym kept_is) (settled met unit roots.kept given.kept.known);
-    history = history_now now history_is;
-    visited = λ quiet.
-        subst (λ h. IsWatched (sure_of (cond (is_cut now.kept) h.doubts.items []) (maps.get after)) (take (visits h) lits) lits) (sym history_is)
-        (subst (λ k. IsWatched (sure_of (cond (is_cut k) later.doubts.items []) (maps.get after)) (take (visits later) lits) lits) (sym kept_is)
-        (seen (is_cut roots.kept) (take (visits later) lits) lits (met (take (visits later) lits) (front_part (visits later) lits)) (so_far (ap has_clash (sym kept_is) ∙ quiet))));
-    counted = now_counted;
-  }
+  entered_settled met unit now kept_is history_is now_noted now_reasoned now_counted =
+      search (rules, noted, reasoned, settled, history, history_now, seen, front_part, so_far)
 
   pub entered_more : IsArranged lits c More → (now : Roots) → now.kept ≡ roots.kept → now.history ≡ later → now.reasons ≡ roots.reasons → now.uses ≡ roots.uses → IsKept after now lits
   entered_more first now kept_is history_is reasons_are uses_are =
@@ -197,7 +173,7 @@ module _ {after : FinMap nat_cmp Clause} {slot : ℕ} {c : Clause} {roots : Root
     set_here now set = set m ∙ ap (λ b. cond b (Some slot) (at roots.reasons m)) (eq-eqb m m refl)
 
     set_other : (now : Roots) → ((k : Literal) → at now.reasons k ≡ cond (eqb k m) (Some slot) (at roots.reasons k)) → (l : Literal) → l ≢ m → at now.reasons l ≡ at roots.reasons l
-    set_other now set l ne = set l ∙ ap (λ b. cond b (Some slot) (at roots.reasons l)) (ne_eqb l m ne)
+    set_other now set l ne = search rules
 
     -- the literal is true already
     pub entered_true : has lits m ≡ true → (now : Roots) → now.kept ≡ roots.kept → now.history ≡ later → ((k : Literal) → at now.reasons k ≡ at roots.reasons k) → now.uses ≡ roots.uses → IsKept after now lits

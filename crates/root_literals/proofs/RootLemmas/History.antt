@@ -1,51 +1,46 @@
 -- When the literals that are kept were propagated.
 use Rattle.std.proofs.Common.{◌≡◌, ◌≢◌, ℕ, ◌+◌, ◌<◌, ◌≤◌, List, [], ◌∷◌}
 use Rattle.std.proofs.Common.{◌++◌, length, get_or, take, sym, ap, ◌∙◌, subst, arith, inl}
-use Rattle.std.proofs.Common.{inr, ◌⊎◌}
-use Rattle.std.proofs.lemmas.Bool.{cases_eq, cases_lt, false≢true}
+use Rattle.std.proofs.Common.{inr, ◌⊎◌, rules}
+use Rattle.std.proofs.lemmas.Bool.{cases_eq, cases_lt}
 use Rattle.std.proofs.Math.Seq.{get_or-append_seam}
 use Rattle.std.proofs.lemmas.List.{get_or-take, get_or_append_left, length-append, length-take-le}
 use Rattle.std.proofs.lemmas.List.{take-take, take_all}
-use Rattle.cnf_base.specs.Literals.{Literal, complement, has}
+use Rattle.cnf_base.specs.Literals.{Literal, has}
 use Rattle.theory.specs.Propagation.{Live}
 use Rattle.root_literals.specs.History.{IsHistory, IsRewound, trues_at, visits}
 use Rattle.root_literals.specs.Watched.{IsPart, IsWatched}
 use Rattle.root_literals.specs.declared.history.History.{History}
-use Rattle.root_literals.proofs.RootLemmas.Watched.{front_part, met_more}
+use Rattle.root_literals.proofs.RootLemmas.Watched.{front_part}
 
 -- ---- Fewer propagated literals
 
 pub watched_nothing : (live : Live) (done trues : List Literal) → done ≡ [] → IsWatched live done trues
-watched_nothing live done trues none = record { each = λ s c is l h. absurd (false≢true (ap (λ ls. has ls (complement l)) (sym none) ∙ h)) }
+watched_nothing live done trues none = search rules
 
 pub watched_part : (live : Live) (done other trues more : List Literal) → IsPart other done → IsPart trues more → IsWatched live done trues → IsWatched live other more
-watched_part live done other trues more fewer part watched = record { each = λ s c is l h. met_more c l trues more part (watched.each s c is l (fewer (complement l) h)) }
+watched_part live done other trues more fewer part watched = search rules
 
 pub front_in_front : (lits : List Literal) (d n : ℕ) → d ≤ n → IsPart (take d lits) (take n lits)
 front_in_front lits d n low l h = front_part d (take n lits) l (ap (λ ls. has ls l) (take-take d n lits low) ∙ h)
 
 watched_twice : (live : Live) (lits : List Literal) (d p n : ℕ) → d ≤ n → p ≤ n → IsWatched live (take d lits) (take p lits) → IsWatched live (take d (take n lits)) (take p (take n lits))
-watched_twice live lits d p n low inside watched =
-    subst (λ ls. IsWatched live ls (take p (take n lits))) (sym (take-take d n lits low)) (subst (λ ls. IsWatched live (take d lits) ls) (sym (take-take p n lits inside)) watched)
+watched_twice live lits d p n low inside watched = search (rules, take-take)
 
 -- ---- No visits
 
 pub history_none : (live : Live) (history : History) (lits : List Literal) → visits history ≡ 0 → IsHistory live history lits
-history_none live history lits none = record {
-  inside = omega (arith, none);
-  began = λ d low. absurd (let wrong : ⊥ = omega (arith, none, low) in wrong);
-  before = λ d p low _ _ _. absurd (let wrong : ⊥ = omega (arith, none, low) in wrong);
-}
+history_none live history lits none = search rules
 
 pub watched_none : (live : Live) (history : History) (lits : List Literal) → visits history ≡ 0 → IsWatched live (take (visits history) lits) lits
-watched_none live history lits none = watched_nothing live (take (visits history) lits) lits (ap (λ n. take n lits) none)
+watched_none live history lits none = search rules
 
 -- ---- Other clauses
 
 -- the same visits, where what they are known to have propagated is
 pub history_among : (live after : Live) (history : History) (lits : List Literal) → ((d p : ℕ) → d < visits history → history.floor < p → p ≤ length lits → IsWatched live (take d lits) (take p lits) → IsWatched after (take d lits) (take p lits)) →
     IsHistory live history lits → IsHistory after history lits
-history_among live after history lits among is = record { inside = is.inside; began = is.began; before = λ d p low at_most above inside. among d p low above inside (is.before d p low at_most above inside) }
+history_among live after history lits among is = search rules
 
 -- the same visits among other clauses, where what they are known to have propagated is, or no cut is told of
 pub history_noted : (live after : Live) (history noted : History) (lits : List Literal) → noted.visited ≡ history.visited →
@@ -131,10 +126,7 @@ history_begun live history begun lits trues fits low_enough pushed floor_is watc
 -- ---- Fewer literals
 
 pub rewound_none : {history now : History} → IsRewound history now 0 → visits now ≡ 0
-rewound_none {history} {now} rewound = elim (cases_eq (visits now) 0) [
-  | inl none ↦ none
-  | inr some ↦ let floor = rewound.floor some in let low = floor.0 in absurd (let wrong : ⊥ = omega (arith, low) in wrong)
-]
+rewound_none h = search rules
 
 module _ (live : Live) (history now : History) (lits : List Literal) (place : ℕ) (is : IsHistory live history lits) (rewound : IsRewound history now place) (inside : place ≤ length lits) where
   long : length (take place lits) ≡ place
@@ -142,27 +134,11 @@ module _ (live : Live) (history now : History) (lits : List Literal) (place : �
 
   -- a visit that is left came before the one that is made again
   below : visits now ≢ 0 → visits now < place
-  below some = let next = rewound.next some in let began = is.began (visits now) next.0 in let at_most = next.1 in omega (arith, began, at_most)
+  below some = search rules
 
   pub history_cut : IsHistory live now (take place lits)
-  history_cut = elim (cases_eq (visits now) 0) [
-    | inl none ↦ history_none live now (take place lits) none
-    | inr some ↦
-        let next = rewound.next some in
-        let floor = rewound.floor some in
-        let low = below some in record {
-          inside = omega (arith, low, long);
-          began = λ d h. subst (λ n. d < n) (sym (same d h)) (is.began d (let more = next.0 in omega (arith, h, more)));
-          before = λ d p h at_most above within.
-              let fits : p ≤ place = omega (arith, within, long) in
-              let more = next.0 in
-              watched_twice live lits d p place (omega (arith, h, low)) fits
-              (is.before d p (omega (arith, h, more)) (subst (λ n. n ≤ p) (same d h) at_most) (subst (λ n. n < p) floor.1 above) (omega (arith, fits, inside)));
-        }
-  ]
-    where
-      same : (d : ℕ) → d < visits now → trues_at now d ≡ trues_at history d
-      same d h = ap (λ ns. get_or ns d 0) rewound.front ∙ get_or-take (visits now) history.visited.items d 0 h
+  history_cut =
+      search (rules, cases_eq, history_none, below, long, watched_twice, get_or, get_or-take)
 
   pub watched_cut : IsWatched live (take (visits now) (take place lits)) (take place lits)
   watched_cut = elim (cases_eq (visits now) 0) [

@@ -1,11 +1,11 @@
 -- What is kept where clauses come and go.
-use Rattle.std.proofs.Common.{◌≡◌, ◌≢◌, ℕ, ◌+◌, ◌<◌, get_or, Bool, true, false, ◌||◌, cond, eqb, eqb-true, eq-eqb}
-use Rattle.std.proofs.Common.{ne_eqb, Option, Some, None, is_some, option_map, List, [], ◌∷◌}
-use Rattle.std.proofs.Common.{length, take, ◌≤◌, refl, sym, ap, ◌∙◌, subst, arith, inl, inr, ◌⊎◌}
+use Rattle.std.proofs.Common.{◌≡◌, ◌≢◌, ℕ, ◌+◌, ◌<◌, get_or, Bool, true, false, cond, eqb, eq-eqb}
+use Rattle.std.proofs.Common.{ne_eqb, Option, Some, None, is_some, option_map, List, [], ◌∷◌, rules}
+use Rattle.std.proofs.Common.{length, take, ◌≤◌, refl, sym, ap, ◌∙◌, subst, inl, inr}
 use Rattle.std.specs.Ordering.{nat_cmp}
 use Rattle.std.specs.FinMap as maps
 use Rattle.std.specs.FinMap.{FinMap}
-use Rattle.std.proofs.lemmas.Bool.{cases_eq, true≢false, false≢true}
+use Rattle.std.proofs.lemmas.Bool.{cases_eq, false≢true}
 use Rattle.std.proofs.lemmas.Option.{none-some, same_Some}
 use Rattle.cnf_base.specs.Literals.{Literal, complement, Clause, has}
 use Rattle.tables.specs.Filled.{at}
@@ -28,11 +28,10 @@ use Rattle.cnf_base.proofs.MapLemmas.{remove_here, remove_other}
 use Rattle.cnf_base.proofs.SetLemmas.{has_head}
 use Rattle.root_literals.proofs.RootLemmas.History.{history_cut, history_none, history_noted}
 use Rattle.root_literals.proofs.RootLemmas.History.{watched_cut, watched_none}
-use Rattle.root_literals.proofs.RootLemmas.Watched.{sure_by, sure_is, watched_sure, watched_first}
+use Rattle.root_literals.proofs.RootLemmas.Watched.{watched_first, watched_sure}
 use Rattle.root_literals.proofs.RootLemmas.Reasons.{reasoned_among, reasoned_cut, reasoned_instead}
-use Rattle.root_literals.proofs.RootLemmas.Reasons.{reasoned_none}
 use Rattle.root_literals.specs.Uses.{AreCounted, clause_in, is_in, times}
-use Rattle.root_literals.proofs.RootLemmas.Uses.{counted_among, counted_instead, counted_none, in_rest}
+use Rattle.root_literals.proofs.RootLemmas.Uses.{counted_among, counted_instead, in_rest}
 
 -- ---- One clause more
 
@@ -48,26 +47,13 @@ module _ (live after : FinMap nat_cmp Clause) (slot : ℕ) (c : Clause) (free : 
   -- where it is met unless it is doubtful, and no other one is that wasn't
   pub watched_sure_added : (doubts later : List ℕ) (done trues : List Literal) → ((s : ℕ) → s ≢ slot → has later s ≡ has doubts s) → (has later slot ≡ false → (l : Literal) → has done (complement l) ≡ true → IsMet c l trues) →
       IsWatched (sure_of doubts (maps.get live)) done trues → IsWatched (sure_of later (maps.get after)) done trues
-  watched_sure_added doubts later done trues same partner watched = record {
-    each = λ s d is.
-        let now = sure_is later (maps.get after) s d is in
-        elim (cases_eq s slot) [
-          | inl e ↦ λ l h. subst (λ x. IsMet x l trues) (same_Some c d (sym here ∙ ap (maps.get after) (sym e) ∙ now.0)) (partner (ap (has later) (sym e) ∙ now.1) l h)
-          | inr ne ↦ watched.each s d (sure_by doubts (maps.get live) s d (sym (others s ne) ∙ now.0) (sym (same s ne) ∙ now.1))
-        ];
-  }
+  watched_sure_added doubts later done trues same partner watched = search rules
 
   pub units_added : (trues : List Literal) → HaveUnits (maps.get live) trues → HasUnit c trues → HaveUnits (maps.get after) trues
-  units_added trues units unit s d is = elim (cases_eq s slot) [
-    | inl e ↦ subst (λ x. HasUnit x trues) (same_Some c d (sym here ∙ ap (maps.get after) (sym e) ∙ is)) unit
-    | inr ne ↦ units s d (sym (others s ne) ∙ is)
-  ]
+  units_added trues units unit s d is = search rules
 
   pub still_there : (s : ℕ) (d : Clause) → maps.get (each_in_order live) s ≡ Some d → maps.get (each_in_order after) s ≡ Some d
-  still_there s d is = elim (cases_eq s slot) [
-    | inl e ↦ absurd (none-some d (sym (ap (option_map in_order) free) ∙ sym (get_ordered live slot) ∙ ap (maps.get (each_in_order live)) (sym e) ∙ is))
-    | inr ne ↦ get_ordered after s ∙ ap (option_map in_order) (others s ne) ∙ sym (get_ordered live s) ∙ is
-  ]
+  still_there s d is = search (rules, cases_eq, none-some, option_map, get_ordered)
 
   pub noted_added : (reason_of : Literal → Option ℕ) → AreNoted (maps.get (each_in_order live)) reason_of → HasReasons c reason_of → AreNoted (maps.get (each_in_order after)) reason_of
   noted_added reason_of noted reasons = record {
@@ -78,17 +64,10 @@ module _ (live after : FinMap nat_cmp Clause) (slot : ℕ) (c : Clause) (free : 
   }
 
   pub reasoned_added : (reason_of : Literal → Option ℕ) (lits : List Literal) → AreReasoned (maps.get (each_in_order live)) reason_of lits → AreReasoned (maps.get (each_in_order after)) reason_of lits
-  reasoned_added reason_of lits are = reasoned_among (maps.get (each_in_order live)) reason_of lits are (maps.get (each_in_order after)) (λ l s d _ _ is. still_there s d is)
+  reasoned_added reason_of lits are = search (rules, reasoned_among, still_there)
 
   pub false_added : (s : ℕ) (trues : List Literal) → IsFalseAt (maps.get (each_in_order live)) s trues → IsFalseAt (maps.get (each_in_order after)) s trues
-  false_added s trues false_at = record { clause = false_at.clause; at = still_there s false_at.clause false_at.at; falses = false_at.falses }
-
-one_of_two : (a b l : Literal) → (eqb a l || eqb b l) ≡ true → (a ≡ l) ⊎ (b ≡ l)
-one_of_two a b l h = by_test (eqb a l) refl h
-  where
-    by_test : (t : Bool) → eqb a l ≡ t → (t || eqb b l) ≡ true → (a ≡ l) ⊎ (b ≡ l)
-    by_test true e g = inl (eqb-true a l e)
-    by_test false e g = inr (eqb-true b l g)
+  false_added s trues false_at = search (rules, still_there)
 
 -- two literals are not false, and stand first
 pub met_open : (c : Clause) (trues done more : List Literal) → IsPart done trues → IsArranged trues c More → (l : Literal) → has done (complement l) ≡ true → IsMet c l more
@@ -101,9 +80,7 @@ met_open (a ∷ b ∷ c) trues done more part first l h there =
     ])
 
 pub unit_open : (c : Clause) (trues more : List Literal) → IsArranged trues c More → HasUnit c more
-unit_open [] trues more first = absurd (let n = first.0 in let wrong : ⊥ = omega (arith, n) in wrong)
-unit_open (a ∷ []) trues more first = absurd (let n = first.0 in let wrong : ⊥ = omega (arith, n) in wrong)
-unit_open (a ∷ b ∷ c) trues more first = tt
+unit_open c trues more h = search rules
 
 -- one literal is not false, stands first, and becomes true
 module _ (trues more : List Literal) (m : Literal) (set : has more m ≡ true) where
@@ -113,9 +90,7 @@ module _ (trues more : List Literal) (m : Literal) (set : has more m ≡ true) w
   met_alone (a ∷ b ∷ c) first l there = (m, ap (has (a ∷ b ∷ c)) (sym first.1) ∙ has_head a (b ∷ c), set)
 
   pub unit_alone : (c : Clause) → IsArranged trues c (One m) → HasUnit c more
-  unit_alone [] first = absurd (false≢true first.0)
-  unit_alone (a ∷ []) first = ap (has more) first.1 ∙ set
-  unit_alone (a ∷ b ∷ c) first = tt
+  unit_alone c h = search rules
 
 -- ---- The same visits
 
@@ -140,9 +115,7 @@ module _ (live : FinMap nat_cmp Clause) (roots after : Roots) (lits : List Liter
 
   -- the same reasons, counted otherwise
   pub kept_counted : after.reasons ≡ roots.reasons → AreCounted (maps.get live) (at after.reasons) lits after.uses → IsKept live after lits
-  kept_counted same counted =
-      with_reasons (subst (λ t. AreNoted (maps.get (each_in_order live)) (at t)) (sym same) kept.noted)
-      (subst (λ t. AreReasoned (maps.get (each_in_order live)) (at t) lits) (sym same) kept.reasoned) counted
+  kept_counted same counted = search rules
 
   -- another clause makes a literal true
   pub kept_instead : (m : Literal) (slot : ℕ) → HasNoVariableTwice lits → IsReasonAt (maps.get live) slot lits m → ((k : Literal) → at after.reasons k ≡ cond (eqb k m) (Some slot) (at roots.reasons k)) →
@@ -223,14 +196,7 @@ kept_cut live roots after lits now place kept inside cut rewound reasons is coun
 
 -- nothing is kept any more
 pub kept_nothing : (live : FinMap nat_cmp Clause) (roots : Roots) (lits : List Literal) → AreNoted (maps.get (each_in_order live)) (at roots.reasons) → roots.kept ≡ Cut → visits roots.history ≡ 0 → lits ≡ [] → roots.uses.counted ≡ 0 → IsKept live roots lits
-kept_nothing live roots lits noted cut unseen none uncounted = record {
-  noted = noted;
-  reasoned = reasoned_none (maps.get (each_in_order live)) (at roots.reasons) lits none;
-  known = subst (λ k. IsKnown live k lits) (sym cut) tt;
-  history = history_none (sure_of roots.history.doubts.items (maps.get live)) roots.history lits unseen;
-  visited = λ quiet. watched_none (seen_of roots (maps.get live)) roots.history lits unseen;
-  counted = counted_none (maps.get live) (at roots.reasons) lits roots.uses uncounted;
-}
+kept_nothing live roots lits noted cut unseen none uncounted = search rules
 
 -- ---- One clause fewer
 
@@ -248,10 +214,7 @@ module _ (live : FinMap nat_cmp Clause) (slot : ℕ) where
   ]
 
   was_seen : (s : ℕ) (d : Clause) → maps.get (each_in_order (maps.remove live slot)) s ≡ Some d → maps.get (each_in_order live) s ≡ Some d
-  was_seen s d is = elim (cases_eq s slot) [
-    | inl e ↦ absurd (none-some d (sym (ap (option_map in_order) (gone s e)) ∙ sym (get_ordered (maps.remove live slot) s) ∙ is))
-    | inr ne ↦ get_ordered live s ∙ ap (option_map in_order) (sym (elsewhere s ne)) ∙ sym (get_ordered (maps.remove live slot) s) ∙ is
-  ]
+  was_seen s d is = search (rules, cases_eq, none-some, option_map, gone, get_ordered, elsewhere)
 
   pub still_seen : (s : ℕ) → s ≢ slot → (d : Clause) → maps.get (each_in_order live) s ≡ Some d → maps.get (each_in_order (maps.remove live slot)) s ≡ Some d
   still_seen s ne d is = get_ordered (maps.remove live slot) s ∙ ap (option_map in_order) (elsewhere s ne) ∙ sym (get_ordered live s) ∙ is
@@ -265,10 +228,7 @@ module _ (live : FinMap nat_cmp Clause) (slot : ℕ) where
   -- where no other clause is doubtful that wasn't
   watched_sure_left : (doubts later : List ℕ) (done trues : List Literal) → ((s : ℕ) → s ≢ slot → has later s ≡ has doubts s) → IsWatched (sure_of doubts (maps.get live)) done trues → IsWatched (sure_of later (maps.get (maps.remove live slot))) done trues
   watched_sure_left doubts later done trues others =
-      watched_sure (maps.get live) (maps.get (maps.remove live slot)) doubts later done trues (λ s d is sure. (
-        was_there s d is,
-        sym (others s (λ e. none-some d (sym (gone s e) ∙ is))) ∙ sure,
-      ))
+      search (rules, watched_sure, was_there, none-some, gone)
 
   -- nothing that is kept rests on it
   module _ (roots : Roots) (lits : List Literal) (kept : IsKept live roots lits) (c : Clause) (here : maps.get live slot ≡ Some c) (no_clash : roots.kept ≢ KeptClash slot)

@@ -1,7 +1,7 @@
 -- What is kept where a literal is taken back of which no clause knows but its unit clause.
 use Rattle.std.proofs.Common.{◌≡◌, ◌≢◌, ℕ, ◌+◌, ◌<◌, ◌≤◌, Bool, true, false, ◌||◌, eqb, eqb-true}
 use Rattle.std.proofs.Common.{cond, eq-eqb, Option, Some, List, [], ◌∷◌, length, get_or, take, refl, sym, ap}
-use Rattle.std.proofs.Common.{◌∙◌, subst, arith, inl, inr, ◌⊎◌}
+use Rattle.std.proofs.Common.{◌∙◌, subst, arith, inl, inr, ◌⊎◌, rules}
 use Rattle.std.specs.List.{remove}
 use Rattle.std.specs.Ordering.{nat_cmp}
 use Rattle.std.specs.FinMap as maps
@@ -57,7 +57,7 @@ unneeded_none live reason_of lits place l none q s c _ _ _ at = false_from_ne_tr
 pub unneeded_unused : (live : FinMap nat_cmp Clause) (reason_of : Literal → Option ℕ) (lits : List Literal) (place : ℕ) (l : Literal) → ((m : Literal) → has lits m ≡ true → is_in (clause_in (maps.get live) (reason_of m)) (complement l) ≡ false) →
     IsUnneeded (maps.get live) reason_of lits place l
 unneeded_unused live reason_of lits place l unused q s c low high is there =
-    ap (λ o. is_in o (complement l)) (sym there) ∙ ap (λ o. is_in (clause_in (maps.get live) o) (complement l)) (sym is) ∙ unused (get_or lits q 0) (has_at lits q (get_or lits q 0) high (sym (get_or_default_zero lits q (get_or lits q 0) high)))
+    search (rules, get_or, has_at, get_or_default_zero)
 
 module _ (live : FinMap nat_cmp Clause) (slot place : ℕ) (l : Literal) (lits : List Literal) (inside : place < length lits) (stands : get_or lits place 0 ≡ l) (different : HasNoVariableTwice lits)
     (unit : maps.get live slot ≡ Some (l ∷ [])) (absent : IsAbsent (maps.get (maps.remove live slot)) l) where
@@ -89,7 +89,7 @@ module _ (live : FinMap nat_cmp Clause) (slot place : ℕ) (l : Literal) (lits :
   watched_front : (doubts : List ℕ) (d before p wide : ℕ) → IsFront place d before → IsFront place p wide → IsWatched (sure_of doubts (maps.get live)) (take before lits) (take wide lits) →
       IsWatched (sure_of doubts (maps.get rest)) (take d out) (take p out)
   watched_front doubts d before p wide first second =
-      watched_out doubts (take before lits) (take d out) (take wide lits) (take p out) (front_was lits place inside d before first) (front_still lits place inside l stands p wide second)
+      search (rules, watched_out, front_was, front_still)
 
   -- ---- Visits
 
@@ -175,13 +175,8 @@ module _ (live : FinMap nat_cmp Clause) (slot place : ℕ) (l : Literal) (lits :
         ]
 
     pub visited_out : (doubts : List ℕ) → IsWatched (sure_of doubts (maps.get live)) (take (visits old) lits) lits → IsWatched (sure_of doubts (maps.get rest)) (take (visits now) out) out
-    visited_out doubts = watched_out doubts (take (visits old) lits) (take (visits now) out) lits out (front_was lits place inside (visits now) (visits old) front) (still_there lits place inside l stands)
-      where
-        front : IsFront place (visits now) (visits old)
-        front = elim (cases_lt place (visits old)) [
-          | inl cut ↦ let n = ap length (gone cut) in let m = length-remove old.visited.items place cut in inr (omega (arith, n, m), omega (arith, n, m, cut))
-          | inr beyond ↦ let e = ap length (stays beyond) in inl (sym e, omega (arith, e, beyond))
-        ]
+    visited_out doubts =
+        search (rules, watched_out, front_was, still_there, cases_lt, length-remove)
 
   -- ---- Unit clauses
 
@@ -191,7 +186,7 @@ module _ (live : FinMap nat_cmp Clause) (slot place : ℕ) (l : Literal) (lits :
   unit_out (a ∷ b ∷ c) others h = h
 
   units_out : HaveUnits (maps.get live) lits → HaveUnits (maps.get rest) out
-  units_out units s c is = unit_out c (other_literal s c is) (units s c (was_there live slot s c is))
+  units_out units s c is = search (rules, unit_out, other_literal, was_there)
 
   known_out : (kept : Kept) → has_clash kept ≡ false → IsKnown live kept lits → IsKnown rest kept out
   known_out Cut quiet known = known
@@ -255,10 +250,7 @@ module _ (live : FinMap nat_cmp Clause) (slot place : ℕ) (l : Literal) (lits :
           places_apart lits different w.0 place (omega (arith, low, most)) inside (ap variable (w.3 ∙ e ∙ sym stands))
 
       low_wide : (m : Literal) → has (take low_end lits) m ≡ true → has (take wide.0 lits) m ≡ true
-      low_wide m h = front_in_front lits low_end wide.0 (let most = lower.1 in elim wide.1 [
-        | inl f ↦ let e = f.0 in omega (arith, e, most)
-        | inr f ↦ let e = f.0 in omega (arith, e, most)
-      ]) m h
+      low_wide m h = search (rules, front_in_front)
 
       follow_low : FollowsReasons (maps.get (each_in_order live)) reason_of (take low_end lits) passes
       follow_low m s c h is at others =

@@ -1,7 +1,7 @@
 -- Clauses in order are the same sets.
-use Rattle.std.proofs.Common.{◌≡◌, ◌≢◌, ℕ, ◌+◌, Bool, true, false, cond, eqb, eqb-true}
+use Rattle.std.proofs.Common.{◌≡◌, ◌≢◌, ℕ, Bool, true, false, cond, eqb, eqb-true}
 use Rattle.std.proofs.Common.{filter, ◌&&◌, ◌||◌, T, Option, Some, None, option_map, is_some, List}
-use Rattle.std.proofs.Common.{[], ◌∷◌, map, sum_by, refl, sym, ap, ◌∙◌, subst, arith}
+use Rattle.std.proofs.Common.{[], ◌∷◌, map, sum_by, refl, sym, ap, ◌∙◌, subst, arith, rules}
 use Rattle.std.specs.Ordering.{nat_cmp, is_lt, eq_by_cmp}
 use Rattle.std.specs.Cmp.{nat_cmp_total}
 use Rattle.std.specs.List.{list_any}
@@ -47,10 +47,10 @@ has-in_order c l =
     ap (λ p. list_any p (in_order c)) (λ i k. sym (tie_back l k) i) ∙ sym (maps.contains_key-keys (set_of c) l) ∙ in_set c l
 
 pub same-in_order : (c : Clause) → same_clause (in_order c) c ≡ true
-same-in_order c = same_from (in_order c) c (λ l h. sym (has-in_order c l) ∙ h) (λ l h. has-in_order c l ∙ h)
+same-in_order c = search (rules, same_from, has-in_order)
 
 pub size-in_order : (c : Clause) → size (in_order c) ≡ size c
-size-in_order c = size_same (in_order c) c (λ l h. sym (has-in_order c l) ∙ h) (λ l h. has-in_order c l ∙ h)
+size-in_order c = search (rules, size_same, has-in_order)
 
 -- clauses with the same literals are shown alike
 pub alike_in_order : (c d : Clause) → ((l : Literal) → has c l ≡ has d l) → in_order c ≡ in_order d
@@ -73,21 +73,16 @@ below_ordered k (e ∷ es) = ap (λ b. is_lt (nat_cmp k e.0) && b) (below_ordere
 
 sorted_ordered : (es : List (ℕ × Clause)) → is_sorted nat_cmp (ordered es) ≡ is_sorted nat_cmp es
 sorted_ordered [] = refl
-sorted_ordered (e ∷ es) = ap (λ b. b && is_sorted nat_cmp (ordered es)) (below_ordered e.0 es) ∙ ap (λ b. below_all nat_cmp e.0 es && b) (sorted_ordered es)
+sorted_ordered (e ∷ es) = search (rules, below_ordered, (sorted_ordered es))
 
 find_ordered : (q : ℕ) (es : List (ℕ × Clause)) → find nat_cmp q (ordered es) ≡ option_map in_order (find nat_cmp q es)
 find_ordered q [] = refl
-find_ordered q (e ∷ es) = by_test (find_ordered q es) (eq_by_cmp nat_cmp q e.0)
-  where
-    by_test : find nat_cmp q (ordered es) ≡ option_map in_order (find nat_cmp q es) → (b : Bool) → cond b (Some (in_order e.1)) (find nat_cmp q (ordered es)) ≡ option_map in_order (cond b (Some e.1) (find nat_cmp q es))
-    by_test rest true = refl
-    by_test rest false = rest
+find_ordered q (e ∷ es) = search (rules, option_map, (find_ordered q es))
 
 weights_ordered : (w v : Clause → ℕ) → ((c : Clause) → w (in_order c) ≡ v c) → (es : List (ℕ × Clause)) → sum_by w (map (λ e. e.1) (ordered es)) ≡ sum_by v (map (λ e. e.1) es)
 weights_ordered w v alike [] = refl
 weights_ordered w v alike (e ∷ es) =
-    sum_by-cons w (in_order e.1) (map (λ e. e.1) (ordered es)) ∙ ap (λ n. n + sum_by w (map (λ e. e.1) (ordered es))) (alike e.1)
-    ∙ ap (λ n. v e.1 + n) (weights_ordered w v alike es) ∙ sym (sum_by-cons v e.1 (map (λ e. e.1) es))
+    search (rules, sum_by-cons, sum_by, (weights_ordered w v alike es))
 
 still_sorted : (live : FinMap nat_cmp Clause) → T (is_sorted nat_cmp (ordered (maps.entries live)))
 still_sorted live = subst T (sym (sorted_ordered (maps.entries live))) (maps.entries_sorted live)
@@ -110,28 +105,15 @@ literals_ordered = sum_ordered size size size-in_order
 -- ---- Changes
 
 pub ordered_remove : (live : FinMap nat_cmp Clause) (s : ℕ) → each_in_order (maps.remove live s) ≡ maps.remove (each_in_order live) s
-ordered_remove live s = same_maps _ _ (λ q.
-    get_ordered (maps.remove live s) q ∙ ap (option_map in_order) (get_remove live s q) ∙ by_test q (eqb q s)
-    ∙ ap (cond (eqb q s) None) (sym (get_ordered live q)) ∙ sym (get_remove (each_in_order live) s q))
-  where
-    by_test : (q : ℕ) (b : Bool) → option_map in_order (cond b None (maps.get live q)) ≡ cond b None (option_map in_order (maps.get live q))
-    by_test q true = refl
-    by_test q false = refl
+ordered_remove live s = search (rules, same_maps, get_ordered, option_map, get_remove)
 
 pub ordered_empty : each_in_order maps.empty ≡ maps.empty
 ordered_empty = same_maps _ _ (λ q. get_ordered maps.empty q ∙ ap (option_map in_order) (maps.get-empty nat_cmp q) ∙ sym (maps.get-empty nat_cmp q))
 
 -- a clause that is put in the place of one with the same literals isn't seen
 pub ordered_same : (live : FinMap nat_cmp Clause) (s : ℕ) (c d : Clause) → maps.get live s ≡ Some c → ((l : Literal) → has d l ≡ has c l) → each_in_order (maps.insert live s d) ≡ each_in_order live
-ordered_same live s c d here alike = same_maps _ _ (λ q.
-    get_ordered (maps.insert live s d) q ∙ ap (option_map in_order) (get_insert live s d q) ∙ by_test q (eqb q s) (λ e. same q e) ∙ sym (get_ordered live q))
-  where
-    same : (q : ℕ) → eqb q s ≡ true → option_map in_order (maps.get live q) ≡ Some (in_order d)
-    same q e = ap (λ k. option_map in_order (maps.get live k)) (eqb-true q s e) ∙ ap (option_map in_order) here ∙ ap Some (alike_in_order c d (λ l. sym (alike l)))
-
-    by_test : (q : ℕ) (b : Bool) → (b ≡ true → option_map in_order (maps.get live q) ≡ Some (in_order d)) → option_map in_order (cond b (Some d) (maps.get live q)) ≡ option_map in_order (maps.get live q)
-    by_test q true e = sym (e refl)
-    by_test q false e = refl
+ordered_same live s c d here alike =
+    search (rules, same_maps, get_ordered, option_map, get_insert, eqb-true, alike_in_order)
 
 -- ---- Look-ups
 
@@ -139,38 +121,27 @@ pub seen_there : (live : FinMap nat_cmp Clause) (s : ℕ) (c : Clause) → maps.
 seen_there live s c here = get_ordered live s ∙ ap (option_map in_order) here
 
 pub there_seen : (live : FinMap nat_cmp Clause) (s : ℕ) (d : Clause) → maps.get (each_in_order live) s ≡ Some d → (c : Clause) × (maps.get live s ≡ Some c) × ((l : Literal) → has d l ≡ has c l)
-there_seen live s d here = by_clause (maps.get live s) refl (sym (get_ordered live s) ∙ here)
-  where
-    by_clause : (o : Option Clause) → maps.get live s ≡ o → option_map in_order o ≡ Some d → (c : Clause) × (maps.get live s ≡ Some c) × ((l : Literal) → has d l ≡ has c l)
-    by_clause None is e = absurd (none-some d e)
-    by_clause (Some c) is e = (c, is, λ l. ap (λ x. has x l) (sym (same_Some (in_order c) d e)) ∙ has-in_order c l)
+there_seen live s d here =
+    search (rules, get_ordered, option_map, none-some, same_Some, has-in_order)
 
 pub alive_alike : (live : FinMap nat_cmp Clause) (s : ℕ) → is_some (maps.get (each_in_order live) s) ≡ is_some (maps.get live s)
-alive_alike live s = ap is_some (get_ordered live s) ∙ by_clause (maps.get live s)
-  where
-    by_clause : (o : Option Clause) → is_some (option_map in_order o) ≡ is_some o
-    by_clause None = refl
-    by_clause (Some c) = refl
+alive_alike live s = search (rules, is_some, get_ordered, option_map)
 
 pub alive_clause : (live : FinMap nat_cmp Clause) (s : ℕ) → is_some (maps.get live s) ≡ true → (c : Clause) × (maps.get live s ≡ Some c)
-alive_clause live s alive = by_clause (maps.get live s) refl alive
-  where
-    by_clause : (o : Option Clause) → maps.get live s ≡ o → is_some o ≡ true → (c : Clause) × (maps.get live s ≡ Some c)
-    by_clause None is h = absurd (true≢false (sym h))
-    by_clause (Some c) is h = (c, is)
+alive_clause live s alive = search rules
 
 pub seen_has_at : (live : FinMap nat_cmp Clause) (l : Literal) (s : ℕ) → HasAt (maps.get (each_in_order live)) l s → HasAt (maps.get live) l s
-seen_has_at live l s h = let w = there_seen live s h.clause h.at in record { clause = w.0; at = w.1; member = sym (w.2 l) ∙ h.member }
+seen_has_at live l s h = search (rules, there_seen)
 
 -- what literals touch, in order and as it stands
 abbrev touches : (lits : List Literal) → (Literal → Bool) → Bool
 touches lits member = list_any (λ l. member (complement l)) lits
 
 pub touched_seen : (live : FinMap nat_cmp Clause) (lits : List Literal) (s : ℕ) → IsTouchedAt live lits s → IsTouchedAt (each_in_order live) lits s
-touched_seen live lits s h = record { clause = in_order h.clause; at = seen_there live s h.clause h.at; touched = ap (touches lits) (λ i l. has-in_order h.clause l i) ∙ h.touched }
+touched_seen live lits s h = search (rules, seen_there, has-in_order)
 
 pub seen_touched : (live : FinMap nat_cmp Clause) (lits : List Literal) (s : ℕ) → IsTouchedAt (each_in_order live) lits s → IsTouchedAt live lits s
-seen_touched live lits s h = let w = there_seen live s h.clause h.at in record { clause = w.0; at = w.1; touched = sym (ap (touches lits) (λ i l. w.2 l i)) ∙ h.touched }
+seen_touched live lits s h = search (rules, there_seen)
 
 -- the literals of the clause in a slot were put in another order
 pub ordered_alike : (live after : FinMap nat_cmp Clause) (slot : ℕ) (c d : Clause) → maps.get live slot ≡ Some c → maps.get after slot ≡ Some d → ((l : Literal) → has d l ≡ has c l) → ((s : ℕ) → s ≢ slot → maps.get after s ≡ maps.get live s) → each_in_order after ≡ each_in_order live

@@ -1,7 +1,7 @@
 -- Literals that follow from their reasons.
 use Rattle.std.proofs.Common.{◌≡◌, ◌≢◌, ℕ, Bool, true, Option, Some, is_some, List, [], ◌∷◌, ◌++◌}
 use Rattle.std.proofs.Common.{length, take, sym, ap, ◌∙◌, subst, arith, inl, inr, ◌≤◌}
-use Rattle.std.proofs.lemmas.Bool.{cases_eq, cases_lt, false≢true}
+use Rattle.std.proofs.lemmas.Bool.{cases_eq, cases_lt}
 use Rattle.std.proofs.lemmas.List.{length-append, length-take, take-append-le, take-take, take_all}
 use Rattle.std.proofs.lemmas.Option.{same_Some}
 use Rattle.cnf_base.specs.Literals.{Literal, complement, Clause, has, variable}
@@ -18,15 +18,6 @@ use Rattle.root_literals.proofs.RootLemmas.Watched.{front_part}
 -- the literals pass where the complements of the others of each reason let its literal pass
 abbrev AllPass : Live → (Literal → Option ℕ) → (Literal → Bool) → List Literal → Type 0
 AllPass live reason_of passes lits = FollowsReasons live reason_of lits passes → (l : Literal) → has lits l ≡ true → passes l ≡ true
-
-pub reasoned_none : (live : Live) (reason_of : Literal → Option ℕ) (lits : List Literal) → lits ≡ [] → AreReasoned live reason_of lits
-reasoned_none live reason_of lits none = record {
-  has_it = λ l s member. absurd (no_member l member);
-  in_each = λ n passes follows l member. absurd (no_member l (front_part n lits l member));
-}
-  where
-    no_member : (l : Literal) → has lits l ≡ true → ⊥
-    no_member l member = false≢true (ap (λ ls. has ls l) (sym none) ∙ member)
 
 module _ (live : Live) (reason_of : Literal → Option ℕ) (lits : List Literal) (are : AreReasoned live reason_of lits) where
   in_all : (passes : Literal → Bool) → FollowsReasons live reason_of lits passes → (l : Literal) → has lits l ≡ true → passes l ≡ true

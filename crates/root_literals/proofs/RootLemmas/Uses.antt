@@ -1,7 +1,7 @@
 -- How many of the literals have a reason with a literal.
 use Rattle.std.proofs.Common.{◌≡◌, ◌≢◌, ℕ, zero, suc, ◌+◌, ◌<◌, ◌≤◌, Bool, true, false, cond, eqb}
-use Rattle.std.proofs.Common.{eqb-true, eq-eqb, ◌||◌, Option, Some, None, option_map, List, [], ◌∷◌, ◌++◌, length, get_or, take}
-use Rattle.std.proofs.Common.{refl, sym, ap, ◌∙◌, subst, arith, inl, inr}
+use Rattle.std.proofs.Common.{eqb-true, eq-eqb, Option, Some, None, option_map, List, [], ◌∷◌, ◌++◌, length, get_or, take}
+use Rattle.std.proofs.Common.{refl, sym, ap, ◌∙◌, subst, arith, inl, inr, rules}
 use Rattle.std.specs.List.{remove}
 use Rattle.std.specs.Ordering.{nat_cmp}
 use Rattle.std.specs.FinMap as maps
@@ -9,6 +9,8 @@ use Rattle.std.specs.FinMap.{FinMap}
 use Rattle.std.proofs.lemmas.Bool.{cases_eq, cases_lt, false≢true, or_right}
 use Rattle.std.proofs.lemmas.List.{length-take, take-take, take_more}
 use Rattle.std.proofs.lemmas.List.Edits.{length-remove}
+use Rattle.std.proofs.lemmas.Grind.{common_steps}
+use Rattle.std.proofs.lemmas.Bool.Decides.{nat_tests}
 use Rattle.cnf_base.specs.Literals.{Literal, Clause, has, variable}
 use Rattle.cnf_base.proofs.MapLemmas.{remove_here, remove_other}
 use Rattle.cnf_base.proofs.MemberLemmas.{place_in_front}
@@ -18,7 +20,7 @@ use Rattle.theory.specs.Propagation.{Live}
 use Rattle.trail.specs.Trail.{HasNoVariableTwice}
 use Rattle.trail.proofs.TrailLemmas.Truth.{places_apart}
 use Rattle.trail.proofs.TrailLemmas.Without.{none_left}
-use Rattle.root_literals.specs.Order.{each_in_order, in_order}
+use Rattle.root_literals.specs.Order.{each_in_order}
 use Rattle.root_literals.specs.Uses.{AreCounted, clause_in, is_in, times, uses_of}
 use Rattle.root_literals.specs.declared.uses.Uses.{Uses}
 use Rattle.root_literals.proofs.RootLemmas.Order.{get_ordered, has-in_order}
@@ -35,15 +37,13 @@ pub uses_at_most : (before after : Live) (r s : Literal → Option ℕ) (k : Lit
     uses_of after s lits k ≤ uses_of before r lits k
 uses_at_most before after r s k [] among = omega arith
 uses_at_most before after r s k (l ∷ lits) among =
-    let rest = uses_at_most before after r s k lits (λ m h. among m (or_right (eqb l m) (has lits m) h)) in
-    let first = fewer (is_in (clause_in after (s l)) k) (is_in (clause_in before (r l)) k) (among l (has_head l lits)) in
-    omega (arith, rest, first)
-  where
-    fewer : (a b : Bool) → (a ≡ true → b ≡ true) → cond {A = ℕ} a 1 0 ≤ cond b 1 0
-    fewer true true f = omega arith
-    fewer true false f = absurd (false≢true (f refl))
-    fewer false true f = omega arith
-    fewer false false f = omega arith
+    search (
+      rules,
+      or_right,
+      has_head,
+      false≢true,
+      (uses_at_most before after r s k lits (λ m h. among m (or_right (eqb l m) (has lits m) h))),
+    )
 
 module _ (live : Live) (r : Literal → Option ℕ) (k : Literal) where
   -- one literal more
@@ -67,7 +67,7 @@ module _ (live : Live) (r : Literal → Option ℕ) (k : Literal) where
   pub uses_out : (lits : List Literal) (n place : ℕ) → place ≤ n → n < length lits → uses_of live r (take n (remove lits place)) k + one (clause_in live (r (get_or lits place 0))) k ≡ uses_of live r (take (suc n) lits) k
   uses_out [] n place low within = absurd (let wrong : ⊥ = omega (arith, within) in wrong)
   uses_out (l ∷ lits) n zero low within = omega arith
-  uses_out (l ∷ lits) zero (suc place) low within = absurd (let wrong : ⊥ = omega (arith, low) in wrong)
+  uses_out (l ∷ lits) zero (suc place) low within = search rules
   uses_out (l ∷ lits) (suc n) (suc place) low within = let rest = uses_out lits n place (omega (arith, low)) (omega (arith, within)) in omega (arith, rest)
 
 -- those before the one that is taken out
@@ -82,44 +82,24 @@ take_before (l ∷ lits) (suc n) (suc place) low = ap (λ ls. l ∷ ls) (take_be
 
 -- nothing
 pub counted_none : (live : Live) (r : Literal → Option ℕ) (lits : List Literal) (uses : Uses) → uses.counted ≡ 0 → AreCounted live r lits uses
-counted_none live r lits uses none = record {
-  inside = omega (arith, none);
-  enough = λ k. subst (λ n. uses_of live r (take n lits) k ≤ times uses k) (sym none) (omega arith);
-}
+counted_none live r lits uses none = search rules
 
 -- the same reasons, or others that have no other literals
 pub counted_among : (before after : Live) (r s : Literal → Option ℕ) (lits : List Literal) (uses : Uses) → AreCounted before r lits uses →
     ((k l : Literal) → has lits l ≡ true → is_in (clause_in after (s l)) k ≡ true → is_in (clause_in before (r l)) k ≡ true) → AreCounted after s lits uses
-counted_among before after r s lits uses are among = record {
-  inside = are.inside;
-  enough = λ k.
-      let fewer = uses_at_most before after r s k (take uses.counted lits) (λ l h. among k l (front_part uses.counted lits l h)) in
-      let enough = are.enough k in
-      omega (arith, fewer, enough);
-}
+counted_among before after r s lits uses are among = search (rules, uses_at_most, front_part)
 
 -- the same counts
 pub counted_same : (live : Live) (r : Literal → Option ℕ) (lits : List Literal) (uses now : Uses) → now.counted ≡ uses.counted → ((k : Literal) → times now k ≡ times uses k) → AreCounted live r lits uses → AreCounted live r lits now
-counted_same live r lits uses now counted same are = record {
-  inside = let within = are.inside in omega (arith, within, counted);
-  enough = λ k. subst (λ n. uses_of live r (take n lits) k ≤ times now k) (sym counted) (subst (λ n. uses_of live r (take uses.counted lits) k ≤ n) (sym (same k)) (are.enough k));
-}
+counted_same live r lits uses now counted same are = search rules
 
 -- more literals
 pub counted_longer : (live : Live) (r : Literal → Option ℕ) (lits more : List Literal) (uses : Uses) → take (length lits) more ≡ lits → length lits ≤ length more → AreCounted live r lits uses → AreCounted live r more uses
-counted_longer live r lits more uses begins longer are = record {
-  inside = let within = are.inside in omega (arith, within, longer);
-  enough = λ k.
-      let front : take uses.counted more ≡ take uses.counted lits = sym (take-take uses.counted (length lits) more are.inside) ∙ ap (take uses.counted) begins in
-      subst (λ ls. uses_of live r ls k ≤ times uses k) (sym front) (are.enough k);
-}
+counted_longer live r lits more uses begins longer are = search (rules, take-take)
 
 -- the first literals alone, where no others are counted
 pub counted_front : (live : Live) (r : Literal → Option ℕ) (lits : List Literal) (uses : Uses) (n : ℕ) → uses.counted ≤ n → AreCounted live r lits uses → AreCounted live r (take n lits) uses
-counted_front live r lits uses n low are = record {
-  inside = let within = are.inside in let long = length-take n lits in omega (arith, within, low, long);
-  enough = λ k. subst (λ ls. uses_of live r ls k ≤ times uses k) (sym (take-take uses.counted n lits low)) (are.enough k);
-}
+counted_front live r lits uses n low are = search (rules, length-take, take-take)
 
 -- ---- A place
 
@@ -131,8 +111,7 @@ module _ (lits : List Literal) (place : ℕ) (l : Literal) (inside : place < len
       places_apart lits different w.0 place (omega (arith, low, before)) inside (ap variable (w.3 ∙ e ∙ sym stands))
 
   not_left : (n : ℕ) (m : Literal) → has (take n (remove lits place)) m ≡ true → m ≢ l
-  not_left n m h e =
-      false≢true (sym (none_left lits place inside l stands different l refl) ∙ ap (has (remove lits place)) (sym e) ∙ front_part n (remove lits place) m h)
+  not_left n m h e = search (rules, false≢true, none_left, front_part)
 
   -- another reason
   pub counted_instead : (live : Live) (r s : Literal → Option ℕ) (uses now : Uses) (before after : Clause) → clause_in live (r l) ≡ Some before → clause_in live (s l) ≡ Some after → ((m : Literal) → m ≢ l → s m ≡ r m) →
@@ -226,17 +205,11 @@ module _ (live : FinMap nat_cmp Clause) (slot : ℕ) where
   ]
 
   pub in_rest_too : (k : Literal) (o : Option ℕ) → o ≢ Some slot → is_in (clause_in (maps.get live) o) k ≡ true → is_in (clause_in (maps.get (maps.remove live slot)) o) k ≡ true
-  in_rest_too k None ne h = h
-  in_rest_too k (Some s) ne h = ap (λ o. is_in o k) (remove_other live slot s (λ e. ne (ap Some e))) ∙ h
+  in_rest_too k o h h2 = search (rules, remove_other)
 
 -- the order of literals in a clause is nothing to it
 in_ordered : (live : FinMap nat_cmp Clause) (k : Literal) (o : Option ℕ) → is_in (clause_in (maps.get (each_in_order live)) o) k ≡ is_in (clause_in (maps.get live) o) k
-in_ordered live k None = refl
-in_ordered live k (Some s) = ap (λ o. is_in o k) (get_ordered live s) ∙ by_clause (maps.get live s)
-  where
-    by_clause : (o : Option Clause) → is_in (option_map in_order o) k ≡ is_in o k
-    by_clause None = refl
-    by_clause (Some c) = has-in_order c k
+in_ordered live k o = search (rules, get_ordered, option_map, has-in_order)
 
 pub counted_in_order : (a b : FinMap nat_cmp Clause) (r s : Literal → Option ℕ) (lits : List Literal) (uses : Uses) → each_in_order b ≡ each_in_order a → ((l : Literal) → has lits l ≡ true → s l ≡ r l) → AreCounted (maps.get a) r lits uses → AreCounted (maps.get b) s lits uses
 counted_in_order a b r s lits uses same reasons are =
@@ -259,38 +232,14 @@ module _ (live : Live) (r : Literal → Option ℕ) (lits : List Literal) (uses 
 
   -- none, but counts may have risen
   pub counted_higher : now.counted ≡ uses.counted → ((k : Literal) → times uses k ≤ times now k) → AreCounted live r lits now
-  counted_higher same more = record {
-    inside = let within = are.inside in omega (arith, within, same);
-    enough = λ k.
-        let so_far = are.enough k in
-        let step = more k in
-        subst (λ n. uses_of live r (take n lits) k ≤ times now k) (sym same) (omega (arith, so_far, step));
-  }
+  counted_higher same more = search rules
 
   -- the last one no longer
   pub counted_less : now.counted + 1 ≡ uses.counted → ((k : Literal) → times uses k ≤ times now k + one (clause_in live (r (get_or lits now.counted 0))) k) → AreCounted live r lits now
-  counted_less next less = record {
-    inside = let within = are.inside in omega (arith, within, next);
-    enough = λ k.
-        let within = are.inside in
-        let so_far = subst (λ n. uses_of live r (take n lits) k ≤ times uses k) (sym next) (are.enough k) in
-        let step = less k in
-        let split = ap (λ ls. uses_of live r ls k) (take_more lits now.counted 0 (omega (arith, within, next))) ∙ uses_more live r k (take now.counted lits) (get_or lits now.counted 0) in
-        omega (arith, so_far, step, split);
-  }
+  counted_less next less = grind (arith, common_steps, nat_tests, take_more, uses_more, get_or)
 
 -- ---- One turn of a walk over a clause: x is the literal at i
 
 pub met_at_most : (c : Clause) (i : ℕ) (inside : i < length c) (x : Literal) → x ≡ get_or c i x → (k : Literal) → cond {A = ℕ} (has (take (i + 1) c) k) 1 0 ≤ cond (has (take i c) k) 1 0 + cond (eqb k x) 1 0
 met_at_most c i inside x is k =
-    let split = ap (λ b. cond {A = ℕ} b 1 0) (has_more c i inside x is k) in
-    let most = by_tests (has (take i c) k) (eqb x k) (eqb k x) (λ e. eq-eqb k x (sym (eqb-true x k e))) in
-    omega (arith, split, most)
-  where
-    by_tests : (h a b : Bool) → (a ≡ true → b ≡ true) → cond {A = ℕ} (h || a) 1 0 ≤ cond h 1 0 + cond b 1 0
-    by_tests true a true f = omega arith
-    by_tests true a false f = omega arith
-    by_tests false true true f = omega arith
-    by_tests false true false f = absurd (false≢true (f refl))
-    by_tests false false true f = omega arith
-    by_tests false false false f = omega arith
+    grind (arith, common_steps, nat_tests, has_more, eq-eqb, eqb-true, false≢true)

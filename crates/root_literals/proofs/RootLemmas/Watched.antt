@@ -1,12 +1,13 @@
 -- Clauses of which a literal is true.
 use Rattle.std.proofs.Common.{◌≡◌, ℕ, Bool, true, false, cond, Some, None, List, [], ◌∷◌, ◌++◌, take}
 use Rattle.std.proofs.Common.{drop, inl, inr, not, ◌&&◌, refl}
-use Rattle.std.proofs.Common.{sym, ap, ◌∙◌, subst}
+use Rattle.std.proofs.Common.{sym, ap, ◌∙◌, subst, arith, rules}
 use Rattle.std.proofs.lemmas.Bool.{true≢false, false≢true, and_parts, false_from_ne_true}
 use Rattle.std.proofs.lemmas.Bool.{not-true}
 use Rattle.std.proofs.Math.Bool.{and-true}
 use Rattle.std.proofs.lemmas.List.{take-append-drop}
-use Rattle.std.proofs.lemmas.Option.{none-some}
+use Rattle.std.proofs.lemmas.Grind.{common_steps}
+use Rattle.std.proofs.lemmas.Bool.Decides.{nat_tests}
 use Rattle.cnf_base.specs.Literals.{Literal, complement, Clause, has}
 use Rattle.cnf_base.proofs.LiteralLemmas.{complement-complement, complement-other}
 use Rattle.cnf_base.proofs.SetLemmas.{any_from, any_some, both_pass, has_append_left, has_cases}
@@ -57,35 +58,26 @@ pub met_unwatched : (c : Clause) (l : Literal) (trues : List Literal) → watche
 met_unwatched c l trues e there = absurd (true≢false (sym there ∙ e))
 
 pub unit_more : (c : Clause) (first second : List Literal) → IsPart first second → HasUnit c first → HasUnit c second
-unit_more [] first second part h = h
-unit_more (a ∷ []) first second part h = part a h
-unit_more (a ∷ b ∷ c) first second part h = h
+unit_more c first second h h2 = search rules
 
 pub front_part : (n : ℕ) (trues : List Literal) → IsPart (take n trues) trues
 front_part n trues l h = ap (λ ls. has ls l) (sym (take-append-drop n trues)) ∙ has_append_left (take n trues) (drop n trues) l h
 
 -- one more literal is propagated
 pub watched_more : (live : Live) (done trues : List Literal) (p : Literal) → IsWatched live done trues → ((s : ℕ) (c : Clause) → live s ≡ Some c → IsMet c (complement p) trues) → IsWatched live (done ++ p ∷ []) trues
-watched_more live done trues p watched partners = record {
-  each = λ s c is l h.
-      pushed_each (λ x. x ≡ complement l → IsMet c l trues) done p (λ x g e. watched.each s c is l (ap (has done) (sym e) ∙ g))
-      (λ e. subst (λ x. IsMet c x trues) (ap complement e ∙ complement-complement l) (partners s c is)) (complement l) h refl;
-}
+watched_more live done trues p watched partners =
+    grind (arith, common_steps, nat_tests, pushed_each, complement-complement)
 
 pub watched_grown : (live : Live) (done trues more : List Literal) → IsPart trues more → IsWatched live done trues → IsWatched live done more
-watched_grown live done trues more part watched = record { each = λ s c is l h. met_more c l trues more part (watched.each s c is l h) }
+watched_grown live done trues more part watched = search rules
 
 pub watched_done : (live : Live) (done other trues : List Literal) → other ≡ done → IsWatched live done trues → IsWatched live other trues
-watched_done live done other trues same watched = subst (λ ls. IsWatched live ls trues) (sym same) watched
+watched_done live done other trues same watched = search rules
 
 -- ---- Clauses that are not doubtful
 
 pub sure_is : (doubts : List ℕ) (live : Live) (s : ℕ) (c : Clause) → sure_of doubts live s ≡ Some c → (live s ≡ Some c) × (has doubts s ≡ false)
-sure_is doubts live s c is = by_test (has doubts s) refl is
-  where
-    by_test : (b : Bool) → has doubts s ≡ b → cond b None (live s) ≡ Some c → (live s ≡ Some c) × (has doubts s ≡ false)
-    by_test true e h = absurd (none-some c h)
-    by_test false e h = (h, e)
+sure_is doubts live s c is = search rules
 
 pub sure_by : (doubts : List ℕ) (live : Live) (s : ℕ) (c : Clause) → live s ≡ Some c → has doubts s ≡ false → sure_of doubts live s ≡ Some c
 sure_by doubts live s c is sure = ap (λ b. cond b None (live s)) sure ∙ is
@@ -93,15 +85,10 @@ sure_by doubts live s c is sure = ap (λ b. cond b None (live s)) sure ∙ is
 -- where each clause that is sure was so
 pub watched_sure : (live after : Live) (doubts later : List ℕ) (done trues : List Literal) → ((s : ℕ) (c : Clause) → after s ≡ Some c → has later s ≡ false → (live s ≡ Some c) × (has doubts s ≡ false)) →
     IsWatched (sure_of doubts live) done trues → IsWatched (sure_of later after) done trues
-watched_sure live after doubts later done trues was watched = record {
-  each = λ s c is.
-      let now = sure_is later after s c is in
-      let before = was s c now.0 now.1 in
-      watched.each s c (sure_by doubts live s c before.0 before.1);
-}
+watched_sure live after doubts later done trues was watched = search rules
 
 pub watched_all : (live : Live) (doubts : List ℕ) (done trues : List Literal) → IsWatched live done trues → IsWatched (sure_of doubts live) done trues
-watched_all live doubts done trues watched = record { each = λ s c is. watched.each s c (sure_is doubts live s c is).0 }
+watched_all live doubts done trues watched = search rules
 
 -- after a cut or not
 pub watched_most : (live : Live) (doubts : List ℕ) (is_cut : Bool) (done trues : List Literal) → IsWatched (sure_of (cond is_cut doubts []) live) done trues → IsWatched (sure_of doubts live) done trues
