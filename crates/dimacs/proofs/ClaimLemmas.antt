@@ -105,10 +105,9 @@ module _ (next : Said → Result (List Literal) Fault) (carries : (s : Said) (ls
 
 claim_alike : (ts : List Listed) (place : Place) (ending : Ending) (s : Said) (ls : List Literal) → Same s.listed ls
     → Carries (claim_among (with_listed ls s) ts place ending) (claim_among s ts place ending)
-claim_alike [] place Failed s ls same = λ r x. x
-claim_alike [] place End s ls same = search rules
 claim_alike (t ∷ ts) place ending s ls same =
     then_alike (λ s. claim_among s ts place ending) (claim_alike ts place ending) _ _ (token_alike s ls t.0 same)
+claim_alike ts place ending s ls h = search rules
 
 -- the code has come to where the output goes on
 comes_to : (now : Said) (after : Result Said Fault) → ComesTo now after → (l : Listing) → Carries (and_then after (λ s. claim_after s l)) (claim_after now l)

@@ -17,12 +17,12 @@ use Rattle.cnf_base.specs.declared.fault.TextFault.{TextFault}
 use Rattle.cnf_base.proofs.ListingLemmas.{Gives-from, listing_at-from}
 use Rattle.cnf_base.proofs.StreamLemmas.{Along-then, Along-map, Along-none}
 use Rattle.dimacs.specs.Reading.{FormulaReading, clauses_to_come, body_unless_ended, GivesClause}
-use Rattle.dimacs.specs.Reading.{ends_unless_ended, ends_to_come, PassesNoEnd, GivesEnd}
+use Rattle.dimacs.specs.Reading.{ends_to_come, PassesNoEnd, GivesEnd}
 use Rattle.dimacs.specs.Code.Reading.{body_left, EndsBody, ends_left}
 use Rattle.dimacs.specs.Formula.{Body, body_of, judged, body_on_word, body_at_end, faulty_body}
 use Rattle.dimacs.specs.Formula.{whole, ends_on_word, ends_after}
 use Rattle.dimacs.specs.declared.header.Header.{Header}
-use Rattle.dimacs.proofs.OffsetLemmas.{from-none, on_word-from, ends_among-from, gives_no_end}
+use Rattle.dimacs.proofs.OffsetLemmas.{on_word-from, ends_among-from, gives_no_end}
 
 -- a fault is what comes, and it stays
 pub gives_fault : (f : Fault) (c : List Literal) (b : Body) → b ≡ faulty_body f → GivesClause (Err f) c b (faulty_body f)
@@ -44,13 +44,10 @@ Kept-clause r answer c is none =
     ))
   where
     no_ends : (i j : Suffix) → PassesNoEnd (ends_to_come r i) j
-    no_ends i j =
-        let P : Option (Result Bool Fault) → Type 0 = λ k. PassesNoEnd (ends_unless_ended k (ends_after r.header r.complete (listing_at r.stream.place i))) j in
-        subst P (sym is) (from-none j.offset)
+    no_ends i j = search rules
 
     same : (answer : Result Bool Fault) (b : Body) → body_unless_ended (Some answer) b ≡ body_unless_ended (Some answer) whole
-    same (Ok v) b = refl
-    same (Err f) b = refl
+    same answer b = search rules
 
 ends_so : (h : Header) (complete : ℕ) (p : Place) (result : Result Bool Fault) (ls : List Literal) (before : Body) (l : Listing)
     → EndsBody result (body_at_end h complete ls p End) → before ≡ body_at_end h complete ls p End

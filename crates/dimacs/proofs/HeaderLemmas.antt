@@ -1,5 +1,5 @@
 -- A header's parts, one after another.
-use Rattle.std.proofs.Common.{◌≡◌, ℕ, cond, Bool, List, [], ◌∷◌, refl, sym, ap, subst}
+use Rattle.std.proofs.Common.{◌≡◌, ℕ, cond, Bool, List, ◌∷◌, refl, sym, ap, subst}
 use Rattle.std.proofs.Common.{◌∙◌, rules}
 use Rattle.std.specs.Prelude.{if◌then◌else◌, Result, Ok, Err}
 use Rattle.cnf_base.specs.Stream.{Suffix, Stream, Along}
@@ -26,10 +26,8 @@ use Rattle.dimacs.proofs.OffsetLemmas.{AreFrom}
 -- ---- No token's end was passed
 
 drop_line_ends-from : (n : ℕ) (ts : List Listed) → EndFrom n ts → EndFrom n (drop_line_ends ts)
-drop_line_ends-from n [] ends = tt
 drop_line_ends-from n ((token.LineEnd p, offset) ∷ ts) ends = drop_line_ends-from n ts ends.1
-drop_line_ends-from n ((token.Word p w, offset) ∷ ts) ends = ends
-drop_line_ends-from n ((token.End p, offset) ∷ ts) ends = ends
+drop_line_ends-from n ts h = search rules
 
 first_end-from : (n : ℕ) (ts : List Listed) → EndFrom n ts → AreFrom n (first_end ts)
 first_end-from n ts h = search rules

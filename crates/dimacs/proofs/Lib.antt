@@ -9,3 +9,4 @@ pub mod PrintExamples
 pub mod GrammarWords
 pub mod FormulaGrammar
 pub mod ModelGrammar
+pub mod ReadBack

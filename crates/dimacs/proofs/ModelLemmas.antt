@@ -1,17 +1,12 @@
 -- A set of literals, where none is there with its complement.
 use Rattle.std.proofs.Common.{◌≡◌, ℕ, eqb, false, cond, Option, Some}
-use Rattle.std.proofs.Common.{is_some, List, [], ◌∷◌, ◌++◌, refl}
+use Rattle.std.proofs.Common.{is_some, List, ◌∷◌}
 use Rattle.std.proofs.Common.{ne_eqb, rules}
 use Rattle.std.proofs.lemmas.Bool.{both_ways, or_from}
 use Rattle.cnf_base.specs.Literals.{Literal, complement, has}
 use Rattle.cnf_base.proofs.LiteralLemmas.{complement-complement, complement-other}
 use Rattle.cnf_base.proofs.SetLemmas.{has_cases}
 use Rattle.dimacs.specs.Claim.{IsConsistent}
-
--- at the end or in front
-pub has_pushed : (ls : List ℕ) (x k : ℕ) → has (ls ++ x ∷ []) k ≡ has (x ∷ ls) k
-has_pushed [] x k = refl
-has_pushed (y ∷ ls) x k = search (rules, (has_pushed ls x k))
 
 -- the table has one more key
 pub listed_more : {T : Type 0} (listed after : ℕ → Option T) (ls : List ℕ) (x : ℕ) (value : T) → ((l : ℕ) → is_some (listed l) ≡ has ls l) →

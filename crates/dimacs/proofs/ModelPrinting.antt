@@ -7,7 +7,7 @@ use Rattle.std.specs.List.{concat, flat_map, list_all}
 use Rattle.std.proofs.lemmas.List.{append-nil, reverse-append}
 use Rattle.std.proofs.lemmas.List.Folds.{list_all-append}
 use Rattle.cnf_base.specs.Literals.{Literal, complement, has}
-use Rattle.cnf_base.specs.Printing.{input_of, is_literal, literal_text, literal_words}
+use Rattle.cnf_base.specs.Printing.{is_literal, literal_text, literal_words}
 use Rattle.cnf_base.specs.Stream.{suffix}
 use Rattle.cnf_base.specs.Code.Text.{col_along}
 use Rattle.cnf_base.specs.Text.{Listing, listing_at}
@@ -26,9 +26,9 @@ use Rattle.cnf_base.proofs.TextLemmas.{listing_at-end}
 use Rattle.cnf_base.proofs.PrintLemmas.{line_from, along_from_one, past, past_from_one, Begins}
 use Rattle.cnf_base.proofs.PrintLemmas.{next_word, next_line, first_word, both, fixed_plain}
 use Rattle.cnf_base.proofs.PrintLemmas.{zero_plain, literal_word, literal_plain, literal_taken}
-use Rattle.dimacs.specs.Claim.{at_line_start, in_values, Said, nothing, on_value, on_literal}
-use Rattle.dimacs.specs.Claim.{claim_after, claim_of, IsConsistent}
-use Rattle.dimacs.specs.Printing.{value_line, literals_line, model_text, IsModel}
+use Rattle.dimacs.specs.Claim.{at_line_start, in_values, Said, on_value, on_literal}
+use Rattle.dimacs.specs.Claim.{claim_after, IsConsistent}
+use Rattle.dimacs.specs.Printing.{value_line, literals_line}
 
 -- what was said in a `v` line, and before one
 abbrev said_in_line : List Literal → Said
@@ -65,13 +65,6 @@ takes_line_end acc b = rw b.is refl
 takes_v : {l m : Listing} {p : Place} {n : ℕ} (acc : List Literal) → Begins l (token.Word p words.V) n m
     → claim_after (said_before_line acc) l ≡ claim_after (said_in_line acc) m
 takes_v acc b = rw b.is refl
-
--- the status line
-takes_status : {l0 l1 l2 l3 : Listing} {p0 p1 p2 : Place} {n0 n1 n2 : ℕ}
-    → Begins l0 (token.Word p0 words.S) n0 l1 → Begins l1 (token.Word p1 words.Satisfiable) n1 l2
-    → Begins l2 (token.LineEnd p2) n2 l3
-    → claim_after nothing l0 ≡ claim_after (said_before_line []) l3
-takes_status b0 b1 b2 = rw (b0.is, b1.is, b2.is) refl
 
 -- the `0`, the line's end, and the output's
 takes_end : {l m o : Listing} {p q r : Place} {n f : ℕ} (acc : List Literal)
@@ -149,21 +142,3 @@ module _ (whole : List Literal) (consistent : IsConsistent whole) where
       (λ k h. among k (has_append_right ls rest k h))
       ∙ ap Ok (ap (λ t. reverse rest ++ t) is ∙ sym (append_assoc (reverse rest) (reverse ls) acc)
       ∙ ap (λ t. t ++ acc) (sym (reverse-append ls rest) ∙ ap reverse (sym split))))
-
--- a printed model is read back
-pub model_read : (lines : List (List Literal)) (last : List Literal) → IsModel (concat lines ++ last)
-    → claim_of (input_of (model_text lines last)) ≡ Ok (reverse (concat lines ++ last))
-model_read lines last fits =
-    let p : Place = record { line = 1; col = 1 } in
-    let q : Place = past (col_along p (codes "s")) (codes "SATISFIABLE") in
-    let n : ℕ = 0 + length (codes "s") in
-    let m : ℕ = suc n + length (codes "SATISFIABLE") in
-    let values : List ℕ = flat_map literals_line lines ++ value_line (literal_words last) in
-    takes_status
-    (first_word p 0 (codes "s") (codes "SATISFIABLE" ∷ []) values refl (fixed_plain 115 [] refl))
-    (next_word (col_along p (codes "s")) n (codes "SATISFIABLE") [] values (omega arith)
-    (fixed_plain 83 (codes "ATISFIABLE") refl))
-    (next_line q m values)
-    ∙ lines_read (concat lines ++ last) fits.consistent lines last [] (line_after q) (suc m) (omega arith) fits.literals
-    (λ k h. absurd (let bad : false ≡ true = h in cc)) (λ k h. h)
-    ∙ ap Ok (append_nil (reverse (concat lines ++ last)))

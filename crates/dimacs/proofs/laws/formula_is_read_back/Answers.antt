@@ -1,4 +1,4 @@
-use Rattle.dimacs.proofs.FormulaPrinting.{formula_read}
+use Rattle.dimacs.proofs.ReadBack.{formula_read}
 use Rattle.dimacs.proofs.laws.formula_is_read_back.Goals as goal
 
 pub returns : goal.returns

@@ -1,4 +1,4 @@
-use Rattle.dimacs.proofs.ModelPrinting.{model_read}
+use Rattle.dimacs.proofs.ReadBack.{model_read}
 use Rattle.dimacs.proofs.laws.model_is_read_back.Goals as goal
 
 pub returns : goal.returns

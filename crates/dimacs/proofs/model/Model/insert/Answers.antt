@@ -1,13 +1,14 @@
-use Rattle.std.proofs.Common.{◌≡◌, ℕ, ◌∷◌, [], ◌++◌, Some, cond, eqb, unwrap_or, ap, ◌∙◌, sym}
-use Rattle.std.proofs.Common.{subst, rules}
+use Rattle.std.proofs.Common.{◌≡◌, ℕ, ◌∷◌, Some, cond, eqb, unwrap_or, ◌∙◌, sym}
+use Rattle.std.proofs.Common.{subst, rules, arith}
+use Rattle.std.proofs.lemmas.Grind.{common_steps}
 use Rattle.cnf_base.specs.Literals.{Literal, has}
 use Rattle.tables.specs.Table.{at}
-use Rattle.dimacs.proofs.ModelLemmas.{has_pushed, listed_more, IsConsistent-put}
+use Rattle.dimacs.proofs.ModelLemmas.{listed_more, IsConsistent-put}
 use Rattle.dimacs.proofs.model.Model.insert.Goals as goal
 
 -- the listed literals
 listed_now : (c : goal.After-push_reserved) (k : Literal) → has c.push_reserved.new.self.items k ≡ has (c.args.lit ∷ c.self.inside.lits.items) k
-listed_now c k = ap (λ ls. has ls k) (c.push_reserved.ensures.items ∙ ap (λ ls. ls ++ c.args.lit ∷ []) c.reserve.ensures.items) ∙ has_pushed c.self.inside.lits.items c.args.lit k
+listed_now c k = grind (arith, common_steps)
 
 pub invariant_of-self-then-not-holds : goal.invariant_of-self-then-not-holds
 invariant_of-self-then-not-holds c =

@@ -1,0 +1,185 @@
+-- A formula and a model that were printed are read back, since their lines are the grammar's.
+use Rattle.std.proofs.Common.{◌≡◌, ℕ, ◌≤◌, ◌==◌, true, false, List, [], ◌∷◌, ◌++◌}
+use Rattle.std.proofs.Common.{map, filter, refl, sym, ap, ◌∙◌, append_assoc, subst}
+use Rattle.std.proofs.Common.{arith}
+use Rattle.std.specs.Prelude.{codes}
+use Rattle.std.specs.Fmt.{decimal}
+use Rattle.std.specs.List.{concat, flat_map, list_all, slice_split, onto_first}
+use Rattle.std.proofs.lemmas.Bool.Decides.{nat_tests}
+use Rattle.std.proofs.lemmas.List.Folds.{list_all-append}
+use Rattle.std.proofs.lemmas.List.{append-nil, map-append}
+use Rattle.cnf_base.specs.Grammar.{is_word, words_in, word_lines}
+use Rattle.cnf_base.specs.Literals.{Literal, Clause}
+use Rattle.cnf_base.specs.Printing.{words_line, is_literal, literal_text, literal_words}
+use Rattle.cnf_base.specs.Text.{is_separator, is_comment, lines_of}
+use Rattle.cnf_base.proofs.LineLemmas.{append_nil}
+use Rattle.cnf_base.proofs.PrintLemmas.{after_word, words_line-cons, IsPlain, fixed_plain, both}
+use Rattle.cnf_base.proofs.PrintLemmas.{decimal_plain, zero_plain, literal_plain, literal_no_comment}
+use Rattle.cnf_base.proofs.TextLemmas.{Each, none, more, split-append}
+use Rattle.dimacs.specs.Grammar.{filled_lines, all_words}
+use Rattle.dimacs.specs.Printing.{header_words, clause_line, formula_text}
+use Rattle.dimacs.specs.Printing.{status_words, value_words, value_line, literals_line, model_text}
+use Rattle.dimacs.specs.Printing.{FormulaIsReadBack, ModelIsReadBack}
+use Rattle.dimacs.proofs.FormulaGrammar.{formula_grammar}
+use Rattle.dimacs.proofs.ModelGrammar.{model_grammar}
+
+-- ---- A line of words
+
+data ArePlain : List (List ℕ) → Type 0 where
+  no_words : ArePlain []
+  one_more : (w : List ℕ) (ws : List (List ℕ)) → IsPlain w → ArePlain ws → ArePlain (w ∷ ws)
+
+-- the words of a line after its first, each with the space before it
+abbrev spaced : List (List ℕ) → List ℕ
+spaced [] = []
+spaced (w ∷ ws) = 32 ∷ w ++ spaced ws
+
+no_feed : (w : List ℕ) → Each is_separator w → Each (λ b. b == 10) w
+no_feed [] e = none
+no_feed (b ∷ bs) (more _ _ is e) = more b bs (grind (arith, nat_tests)) (no_feed bs e)
+
+after_line : (ws : List (List ℕ)) (rest : List ℕ) → ArePlain ws
+    → lines_of (after_word ws rest) ≡ spaced ws ∷ lines_of rest
+after_line [] rest plain = refl
+after_line (w ∷ ws) rest (one_more _ _ p plain) =
+    ap (onto_first 32) (split-append (λ b. b == 10) w (after_word ws rest) (spaced ws) (lines_of rest)
+    (no_feed w p.each) (after_line ws rest plain))
+
+split_spaced : (ws : List (List ℕ)) → ArePlain ws → slice_split is_separator (spaced ws) ≡ [] ∷ ws
+split_spaced [] plain = refl
+split_spaced (w ∷ ws) (one_more _ _ p plain) =
+    ap (λ x. [] ∷ x) (split-append is_separator w (spaced ws) [] ws p.each (split_spaced ws plain)
+    ∙ ap (λ x. x ∷ ws) (append_nil w))
+
+split_first : (w : List ℕ) (ws : List (List ℕ)) → IsPlain w → ArePlain ws
+    → slice_split is_separator (w ++ spaced ws) ≡ w ∷ ws
+split_first w ws p plain =
+    split-append is_separator w (spaced ws) [] ws p.each (split_spaced ws plain)
+    ∙ ap (λ x. x ∷ ws) (append_nil w)
+
+kept_words : (ws : List (List ℕ)) → ArePlain ws → filter is_word ws ≡ ws
+kept_words [] plain = refl
+kept_words ([] ∷ ws) (one_more _ _ p plain) = let some = p.some in absurd (omega arith)
+kept_words ((b ∷ bs) ∷ ws) (one_more _ _ p plain) = ap (λ x. (b ∷ bs) ∷ x) (kept_words ws plain)
+
+-- a printed line is read as its words
+line_words : (w : List ℕ) (ws : List (List ℕ)) (rest : List ℕ) → is_comment w ≡ false → IsPlain w
+    → ArePlain ws → word_lines (words_line (w ∷ ws) ++ rest) ≡ (w ∷ ws) ∷ word_lines rest
+line_words [] ws rest no_comment p plain = let some = p.some in absurd (omega arith)
+line_words (b ∷ bs) ws rest no_comment p plain =
+    let w : List ℕ = b ∷ bs in
+    let cut : lines_of (words_line (w ∷ ws) ++ rest) ≡ (w ++ spaced ws) ∷ lines_of rest =
+    ap lines_of (words_line-cons w ws rest) ∙ split-append (λ b. b == 10) w (after_word ws rest)
+    (spaced ws) (lines_of rest) (no_feed w p.each) (after_line ws rest plain) in
+    let words : words_in (w ++ spaced ws) ≡ w ∷ ws = ap (filter is_word) (split_first w ws p plain)
+    ∙ kept_words (w ∷ ws) (one_more w ws p plain) in
+    rw (cut, no_comment, words) refl
+
+-- ---- Literals
+
+literals_plain : (greatest : ℕ) (ls : List Literal) (last : List (List ℕ)) → greatest ≤ 268435455
+    → list_all (is_literal greatest) ls ≡ true → ArePlain last
+    → ArePlain (map literal_text ls ++ last)
+literals_plain greatest [] last small are plain = plain
+literals_plain greatest (l ∷ ls) last small are plain =
+    let r = both (is_literal greatest l) (list_all (is_literal greatest) ls) are in
+    one_more _ _ (literal_plain greatest l small r.0) (literals_plain greatest ls last small r.1 plain)
+
+ended : ArePlain (codes "0" ∷ [])
+ended = one_more _ _ zero_plain no_words
+
+-- ---- A formula
+
+clause_words : (greatest : ℕ) (c : Clause) (rest : List ℕ) → greatest ≤ 268435455
+    → list_all (is_literal greatest) c ≡ true
+    → word_lines (clause_line c ++ rest) ≡ literal_words c ∷ word_lines rest
+clause_words greatest [] rest small are = line_words (codes "0") [] rest refl zero_plain no_words
+clause_words greatest (l ∷ ls) rest small are =
+    let r = both (is_literal greatest l) (list_all (is_literal greatest) ls) are in
+    line_words (literal_text l) (literal_words ls) rest (literal_no_comment greatest l small r.0)
+    (literal_plain greatest l small r.0) (literals_plain greatest ls _ small r.1 ended)
+
+clauses_lines : (greatest : ℕ) (clauses : List Clause) → greatest ≤ 268435455
+    → list_all (list_all (is_literal greatest)) clauses ≡ true
+    → filled_lines (word_lines (flat_map clause_line clauses)) ≡ map literal_words clauses
+clauses_lines greatest [] small are = refl
+clauses_lines greatest (c ∷ cs) small are =
+    let r = both (list_all (is_literal greatest) c) _ are in
+    ap filled_lines (clause_words greatest c (flat_map clause_line cs) small r.0)
+    ∙ filled_clause c (word_lines (flat_map clause_line cs))
+    ∙ ap (λ x. literal_words c ∷ x) (clauses_lines greatest cs small r.1)
+  where
+    filled_clause : (c : Clause) (lines : List (List (List ℕ)))
+        → filled_lines (literal_words c ∷ lines) ≡ literal_words c ∷ filled_lines lines
+    filled_clause [] lines = refl
+    filled_clause (l ∷ ls) lines = refl
+
+mapped_words : (clauses : List Clause)
+    → all_words (map literal_words clauses) ≡ flat_map literal_words clauses
+mapped_words [] = refl
+mapped_words (c ∷ cs) = ap (λ x. literal_words c ++ x) (mapped_words cs)
+
+pub formula_read : FormulaIsReadBack
+formula_read h clauses f =
+    let counts : ArePlain (codes "cnf" ∷ decimal h.vars ∷ decimal h.clauses ∷ []) =
+    let vars = f.vars in let most = f.most in
+    one_more _ _ (fixed_plain 99 (110 ∷ 102 ∷ []) refl)
+    (one_more _ _ (decimal_plain h.vars (omega arith))
+    (one_more _ _ (decimal_plain h.clauses (omega arith)) no_words)) in
+    formula_grammar.written_is_read (formula_text h clauses) h clauses f (record {
+      body = map literal_words clauses;
+      header_first = ap filled_lines (line_words (codes "p") _ (flat_map clause_line clauses) refl
+          (fixed_plain 112 [] refl) counts)
+          ∙ ap (λ x. header_words h ∷ x) (clauses_lines h.vars clauses f.vars f.literals);
+      clauses_after = mapped_words clauses;
+    })
+
+-- ---- A model
+
+value_words_read : (ws : List (List ℕ)) (rest : List ℕ) → ArePlain ws
+    → word_lines (value_line ws ++ rest) ≡ value_words ws ∷ word_lines rest
+value_words_read ws rest plain = line_words (codes "v") ws rest refl (fixed_plain 118 [] refl) plain
+
+-- the words of the lines of values
+abbrev printed : List (List Literal) → List Literal → List (List (List ℕ))
+printed [] last = literal_words last ∷ []
+printed (ls ∷ lines) last = map literal_text ls ∷ printed lines last
+
+values_lines : (lines : List (List Literal)) (last : List Literal)
+    → list_all (is_literal 268435455) (concat lines ++ last) ≡ true
+    → filled_lines (word_lines (flat_map literals_line lines ++ value_line (literal_words last)))
+    ≡ map value_words (printed lines last)
+values_lines [] last are =
+    ap (λ x. filled_lines (word_lines x)) (sym (append_nil (value_line (literal_words last))))
+    ∙ ap filled_lines (value_words_read (literal_words last) []
+    (literals_plain 268435455 last _ (omega arith) are ended))
+values_lines (ls ∷ lines) last are =
+    let rest : List ℕ = flat_map literals_line lines ++ value_line (literal_words last) in
+    let r = both (list_all (is_literal 268435455) ls) _
+    (sym (list_all-append (is_literal 268435455) ls (concat lines ++ last))
+    ∙ ap (list_all (is_literal 268435455)) (sym (append_assoc ls (concat lines) last)) ∙ are) in
+    ap (λ x. filled_lines (word_lines x)) (append_assoc (literals_line ls) _ _)
+    ∙ ap filled_lines (value_words_read (map literal_text ls) rest (subst ArePlain
+    (append-nil (map literal_text ls)) (literals_plain 268435455 ls [] (omega arith) r.0 no_words)))
+    ∙ ap (λ x. value_words (map literal_text ls) ∷ x) (values_lines lines last r.1)
+
+printed_words : (lines : List (List Literal)) (last : List Literal)
+    → all_words (printed lines last) ≡ literal_words (concat lines ++ last)
+printed_words [] last = append-nil (literal_words last)
+printed_words (ls ∷ lines) last =
+    ap (λ x. map literal_text ls ++ x) (printed_words lines last)
+    ∙ sym (append_assoc (map literal_text ls) (map literal_text (concat lines ++ last)) _)
+    ∙ ap (λ x. x ++ codes "0" ∷ []) (sym (map-append literal_text ls (concat lines ++ last)))
+    ∙ ap literal_words (sym (append_assoc ls (concat lines) last))
+
+pub model_read : ModelIsReadBack
+model_read lines last fits =
+    model_grammar.written_is_read (model_text lines last) (concat lines ++ last) fits (record {
+      before = [];
+      after = printed lines last;
+      one_status = ap filled_lines (line_words (codes "s") (codes "SATISFIABLE" ∷ [])
+          (flat_map literals_line lines ++ value_line (literal_words last)) refl
+          (fixed_plain 115 [] refl) (one_more _ _ (fixed_plain 83 (codes "ATISFIABLE") refl) no_words))
+          ∙ ap (λ x. status_words ∷ x) (values_lines lines last fits.literals);
+      values = printed_words lines last;
+    })
