@@ -1,30 +1,27 @@
 -- A solver's output, one token at a time.
 use Rattle.std.proofs.Common.{◌≡◌, eqb, refl, sym, ap, subst, ◌∙◌, rules}
-use Rattle.std.specs.Prelude.{◌||◌, cond, Bool, true, false, List, [], ◌∷◌, Option, None}
-use Rattle.std.specs.Prelude.{Some, Result, Ok, Err}
 use Rattle.std.proofs.lemmas.Bool.{true≢false, false≢true}
+use Rattle.std.specs.Prelude.{◌||◌, cond, Bool, true, false, List, [], ◌∷◌, Option, None, Some}
+use Rattle.std.specs.Prelude.{Result, Ok, Err}
 use Rattle.cnf_base.specs.Literals.{Literal, has}
 use Rattle.cnf_base.specs.Stream.{Stream, Along, tells_failure}
 use Rattle.cnf_base.specs.Text.{Listed, Listing, listing_at, Gives}
-use Rattle.cnf_base.specs.declared.input.Ending.{Ending}
-use Rattle.cnf_base.specs.declared.input.Ending.TheVariants.{End, Failed}
-use Rattle.cnf_base.specs.declared.input.ReadFailed.{ReadFailed as Cut}
-use Rattle.cnf_base.specs.declared.place.Place.{Place}
-use Rattle.cnf_base.specs.declared.word.Word.{Word}
-use Rattle.cnf_base.specs.declared.word.Word.TheVariants as words
-use Rattle.cnf_base.specs.declared.token.Token as tokens
-use Rattle.cnf_base.specs.declared.token.Token.TheVariants as token
-use Rattle.cnf_base.specs.declared.fault.Fault.{Fault}
+use Rattle.cnf_base.specs.declared.input.Ending.{Ending, TheVariants.End, TheVariants.Failed}
+use Rattle.cnf_base.specs.declared.{input.ReadFailed.ReadFailed as Cut, place.Place.Place}
+use Rattle.cnf_base.specs.declared.{word.Word.Word, fault.Fault.Fault}
 use Rattle.cnf_base.specs.declared.fault.Fault.TheVariants.{Text, ReadFailed}
 use Rattle.cnf_base.specs.declared.fault.TextFault.TheVariants.{BadToken, BadLine, SecondStatus}
 use Rattle.cnf_base.specs.declared.fault.TextFault.TheVariants.{NotClaimed, AfterEnd, Complement}
 use Rattle.cnf_base.specs.declared.fault.TextFault.TheVariants.{LiteralTooLarge}
+use Rattle.cnf_base.specs.declared.word.Word.TheVariants as words
+use Rattle.cnf_base.specs.declared.token.Token as tokens
+use Rattle.cnf_base.specs.declared.token.Token.TheVariants as token
 use Rattle.cnf_base.proofs.StreamLemmas.{Along-then, Along-map, Along-still}
 use Rattle.dimacs.specs.Formula.{and_then}
 use Rattle.dimacs.specs.Claim.{LinePosition, at_line_start, after_s, after_status, in_values, Said}
 use Rattle.dimacs.specs.Claim.{on_first, on_status, on_literal, on_value, claim_on_word}
-use Rattle.dimacs.specs.Claim.{on_line_end, placed, claim_on_token, on_end}
-use Rattle.dimacs.specs.Claim.{claim_among, claim_after, IsClaim}
+use Rattle.dimacs.specs.Claim.{on_line_end, placed, claim_on_token, on_end, claim_among}
+use Rattle.dimacs.specs.Claim.{claim_after, IsClaim}
 use Rattle.dimacs.specs.Code.Claiming.{with_listed, ComesTo, Takes}
 
 -- ---- Only the set of the listed literals counts
@@ -65,8 +62,7 @@ module _ (place : Place) (xs ls : List Literal) (same : Same xs ls) where
   literal_alike p h e (Some l) = search (rules, listed_alike)
 
   number_alike : (p : LinePosition) (h e fits ended : Bool) (o : Option Literal)
-      → Alike (placed place (cond fits (cond ended (Err AfterEnd) (on_literal (said p h e xs) o)) (Err LiteralTooLarge)))
-      (placed place (cond fits (cond ended (Err AfterEnd) (on_literal (said p h e ls) o)) (Err LiteralTooLarge)))
+      → Alike (placed place (cond fits (cond ended (Err AfterEnd) (on_literal (said p h e xs) o)) (Err LiteralTooLarge))) (placed place (cond fits (cond ended (Err AfterEnd) (on_literal (said p h e ls) o)) (Err LiteralTooLarge)))
   number_alike p h e false ended o = neither (Text LiteralTooLarge place)
   number_alike p h e true true o = neither (Text AfterEnd place)
   number_alike p h e true false o = literal_alike p h e o

@@ -2,41 +2,29 @@
 use Rattle.std.proofs.Common.{◌≡◌, ℕ, ◌+◌, ◌≤◌, nat_le, cond, Bool, true, false, List, [], ◌∷◌}
 use Rattle.std.proofs.Common.{◌++◌, length, map, Option, None, Some, Result, Ok, Err, refl, sym, ap}
 use Rattle.std.proofs.Common.{ap₂, subst, ◌∙◌, append_assoc, arith, rules}
+use Rattle.std.proofs.lemmas.{Bool.Decides.nat_tests, List.map-append, List.Folds.list_all-append}
 use Rattle.std.specs.Prelude.{◌&&◌, if◌then◌else◌, codes}
-use Rattle.std.specs.Fmt.{decimal}
-use Rattle.std.specs.List.{flat_map, list_all}
-use Rattle.std.proofs.lemmas.Bool.Decides.{nat_tests}
-use Rattle.std.proofs.lemmas.List.{map-append}
-use Rattle.std.proofs.lemmas.List.Folds.{list_all-append}
+use Rattle.std.specs.{Fmt.decimal, List.flat_map, List.list_all}
 use Rattle.cnf_base.specs.Literals.{Literal, Clause, variable}
 use Rattle.cnf_base.specs.Printing.{input_of, is_literal, literal_text, literal_words}
-use Rattle.cnf_base.specs.Grammar.{word_lines}
-use Rattle.cnf_base.specs.Text.{Listed, Listing, listing_of}
+use Rattle.cnf_base.specs.{Grammar.word_lines, Text.Listed, Text.Listing, Text.listing_of}
 use Rattle.cnf_base.specs.Words.{number, number_literal, word_of}
-use Rattle.cnf_base.specs.declared.input.Ending.{Ending}
-use Rattle.cnf_base.specs.declared.input.Ending.TheVariants.{End}
-use Rattle.cnf_base.specs.declared.place.Place.{Place}
-use Rattle.cnf_base.specs.declared.word.Word.{Word}
+use Rattle.cnf_base.specs.declared.input.Ending.{Ending, TheVariants.End}
+use Rattle.cnf_base.specs.declared.{place.Place.Place, word.Word.Word}
+use Rattle.cnf_base.specs.declared.fault.{Fault.Fault, TextFault.TextFault}
+use Rattle.cnf_base.specs.declared.fault.TextFault.TheVariants.{NumberTooLarge, BadToken}
+use Rattle.cnf_base.specs.declared.fault.TextFault.TheVariants.{LiteralOutOfRange, TooManyClauses}
 use Rattle.cnf_base.specs.declared.word.Word.TheVariants as words
 use Rattle.cnf_base.specs.declared.token.Token as tokens
 use Rattle.cnf_base.specs.declared.token.Token.TheVariants as token
-use Rattle.cnf_base.specs.declared.fault.Fault.{Fault}
-use Rattle.cnf_base.specs.declared.fault.TextFault.{TextFault}
-use Rattle.cnf_base.specs.declared.fault.TextFault.TheVariants.{NumberTooLarge, BadToken}
-use Rattle.cnf_base.specs.declared.fault.TextFault.TheVariants.{LiteralOutOfRange, TooManyClauses}
 use Rattle.cnf_base.proofs.GrammarLemmas.{listing_says, number_spelled, p_spelled, cnf_spelled}
 use Rattle.cnf_base.proofs.PrintLemmas.{both, count_word}
-use Rattle.dimacs.specs.Formula.{is_p, is_cnf, fixed}
-use Rattle.dimacs.specs.Formula.{count, line_end}
-use Rattle.dimacs.specs.Formula.{part, header_of}
-use Rattle.dimacs.specs.Formula.{judged, Body, body_at_end}
-use Rattle.dimacs.specs.Formula.{body_among, body_of, Formula}
-use Rattle.dimacs.specs.Formula.{formula_with, formula_of}
+use Rattle.dimacs.specs.Formula.{is_p, is_cnf, fixed, count, line_end, part, header_of, judged}
+use Rattle.dimacs.specs.Formula.{Body, body_at_end, body_among, body_of, Formula, formula_with}
+use Rattle.dimacs.specs.Formula.{formula_of}
 use Rattle.dimacs.specs.Grammar.{filled_lines, all_words, FormulaText, FormulaIsGrammar}
-use Rattle.dimacs.specs.Printing.{header_words, IsFormula}
-use Rattle.dimacs.specs.declared.header.Header.{Header}
-use Rattle.dimacs.proofs.FormulaPrinting.{judged_literal}
-use Rattle.dimacs.proofs.HeaderLemmas.{after_p}
+use Rattle.dimacs.specs.{Printing.header_words, Printing.IsFormula, declared.header.Header.Header}
+use Rattle.dimacs.proofs.{FormulaPrinting.judged_literal, HeaderLemmas.after_p}
 use Rattle.dimacs.proofs.GrammarWords.{Lines, and_so, went_on, some_parts, line_then, said_by}
 use Rattle.dimacs.proofs.GrammarWords.{IsSaid, AreSaid, text_lines, filled_words, literal_spelled}
 use Rattle.dimacs.proofs.GrammarWords.{zero_spelled}
@@ -99,8 +87,7 @@ module _ (h : Header) (p : Place) where
 
   -- the clauses of a line's words and of the lines after it
   line_clauses : (ts : List Listed) (line : List (List ℕ)) (lines : Lines) (k : ℕ)
-      (acc : List Literal)
-      → AreSaid ts (line_then line (said_by lines))
+      (acc : List Literal) → AreSaid ts (line_then line (said_by lines))
       → clean (body_among h k acc ts p End) ≡ clauses_in h k acc (line ++ all_words lines)
   line_clauses [] [] [] k acc s = at_end h k acc p
   line_clauses [] [] ([] ∷ lines) k acc s = absurd s
@@ -109,8 +96,7 @@ module _ (h : Header) (p : Place) where
   line_clauses (t ∷ ts) [] [] k acc s = search (rules, on_line_end, nothing_said)
   line_clauses (t ∷ ts) [] (line ∷ lines) k acc s =
       search (rules, on_line_end, (line_clauses ts line lines k acc s.1))
-  line_clauses (t ∷ ts) (w ∷ ws) lines k acc s =
-      on_word h k acc ts p t.1
+  line_clauses (t ∷ ts) (w ∷ ws) lines k acc s = on_word h k acc ts p t.1
       (λ k acc. clauses_in h k acc (ws ++ all_words lines))
       (λ k acc. line_clauses ts ws lines k acc s.1) t.0 (word_of w) s.0
 
@@ -143,8 +129,7 @@ end_in (w ∷ ws) = None
 
 -- the header that a line is, and the lines after it
 abbrev line_header : Lines → List (List ℕ) → Option (Header × Lines)
-line_header lines line =
-    and_so (fixed_in is_p line) (λ line. and_so (fixed_in is_cnf line)
+line_header lines line = and_so (fixed_in is_p line) (λ line. and_so (fixed_in is_cnf line)
     (λ line. and_so (count_in 268435455 line) (λ vars. and_so (count_in 4294967295 vars.1)
     (λ clauses. and_so (end_in clauses.1)
     (λ u. Some (record { vars = vars.0; clauses = clauses.0 }, lines))))))
@@ -165,9 +150,8 @@ Agree R (Err f) (Some b) = ⊥
 
 agree_part : {A B C D : Type 0} (R : A → B → Type 0) (S : C → D → Type 0)
     (test : Listing → Result A Fault) (l : Listing) (y : Option B)
-    (f : A → Result C (Fault × List ℕ)) (g : B → Option D)
-    → Agree R (test l) y → ((a : A) (b : B) → R a b → Agree S (f a) (g b))
-    → Agree S (part test l f) (and_so y g)
+    (f : A → Result C (Fault × List ℕ)) (g : B → Option D) → Agree R (test l) y
+    → ((a : A) (b : B) → R a b → Agree S (f a) (g b)) → Agree S (part test l f) (and_so y g)
 agree_part R S test l y f g h h2 = search rules
 
 -- a text in the midst of a line, and after one
@@ -190,9 +174,8 @@ module _ (lines : Lines) (l : Listing) (line : List (List ℕ)) (is : IsIn lines
       → Agree (λ x y. (x.0 ≡ y.0) × IsIn lines x.1 y.1) (count limit l) (count_in limit line)
   count_agrees limit = search rules
 
-end_agrees : (lines : Lines) (ts : List Listed) (p : Place) (e : Ending) (line : List (List ℕ))
-    → e ≡ End
-    → AreSaid ts (line_then line (said_by lines))
+end_agrees : (lines : Lines) (ts : List Listed) (p : Place) (e : Ending) (line : List (List ℕ)) → e
+    ≡ End → AreSaid ts (line_then line (said_by lines))
     → Agree (λ m u. IsAfter lines m) (line_end (listing ts p e)) (end_in line)
 end_agrees lines ts p e line h h2 = search rules
 
@@ -228,8 +211,7 @@ header_agrees ([] ∷ lines) [] p s = no_more lines s
     no_more ((w ∷ ws) ∷ lines) s = absurd s
 header_agrees ([] ∷ lines) (t ∷ ts) p s = search (rules, (header_agrees lines ts p s.1))
 header_agrees ((w ∷ ws) ∷ lines) [] p s = absurd s
-header_agrees ((w ∷ ws) ∷ lines) (t ∷ ts) p s =
-    by t.0 s.0
+header_agrees ((w ∷ ws) ∷ lines) (t ∷ ts) p s = by t.0 s.0
     (line_agrees lines (listing (t ∷ ts) p End) (w ∷ ws) (record { said = s; ending = refl }))
   where
     by : (u : tokens.Token) → IsSaid u (Some (word_of w))
@@ -299,11 +281,9 @@ line_spelled lines line h rest e0 =
     (some_parts (record { vars = c.0.0; clauses = d.0.0 }, lines) (h, rest) z.2)
   where
     finish : (p q : List ℕ) (a b : List (List ℕ)) (vars : ℕ) (c : List (List ℕ)) (clauses : ℕ)
-        (d : List (List ℕ))
-        → line ≡ p ∷ a → p ≡ codes "p" → a ≡ q ∷ b → q ≡ codes "cnf"
-        → b ≡ decimal vars ∷ c → vars ≤ 268435455 → c ≡ decimal clauses ∷ d → clauses ≤ 4294967295
-        → d ≡ []
-        → (record { vars = vars; clauses = clauses } ≡ h) × (lines ≡ rest)
+        (d : List (List ℕ)) → line ≡ p ∷ a → p ≡ codes "p" → a ≡ q ∷ b → q ≡ codes "cnf" → b
+        ≡ decimal vars ∷ c → vars ≤ 268435455 → c ≡ decimal clauses ∷ d → clauses ≤ 4294967295 → d
+        ≡ [] → (record { vars = vars; clauses = clauses } ≡ h) × (lines ≡ rest)
         → (line ≡ header_words h) × IsHeader h × (rest ≡ lines)
     finish p q a b vars c clauses d e f g i j low k high m same =
         let vars_same : vars ≡ h.vars = ap (λ x. x.vars) same.0 in
@@ -412,8 +392,7 @@ module _ (h : Header) (small : h.vars ≤ 268435455) where
           → list_all (is_literal h.vars) (acc ++ l ∷ []) ≡ true
           → AreClauses k (acc ++ l ∷ []) ws cs)
           → ((more : List Clause) → clauses_in h (k + 1) [] ws ≡ Some more → k + 1 ≤ h.clauses
-          → true ≡ true → AreClauses (k + 1) [] ws more)
-          → AreClauses k acc (w ∷ ws) cs
+          → true ≡ true → AreClauses (k + 1) [] ws more) → AreClauses k acc (w ∷ ws) cs
       by (Ok (Some l)) is e go_on next =
           let j = literal_judged k w l is in
           let all : list_all (is_literal h.vars) (acc ++ l ∷ []) ≡ true =
@@ -423,8 +402,7 @@ module _ (h : Header) (small : h.vars ≤ 268435455) where
           record {
             words = ap (λ t. map literal_text acc ++ t ∷ ws) j.is
                 ∙ sym (append_assoc (map literal_text acc) (literal_text l ∷ []) ws)
-                ∙ ap (λ t. t ++ ws) (sym (map-append literal_text acc (l ∷ [])))
-                ∙ a.words;
+                ∙ ap (λ t. t ++ ws) (sym (map-append literal_text acc (l ∷ []))) ∙ a.words;
             count = a.count;
             literals = a.literals;
           }
@@ -433,9 +411,8 @@ module _ (h : Header) (small : h.vars ≤ 268435455) where
           let missing = j.missing in
           rest (clauses_in h (k + 1) [] ws) refl e
         where
-          rest : (o : Option (List Clause)) → clauses_in h (k + 1) [] ws ≡ o
-              → first_clause acc o ≡ Some cs
-              → AreClauses k acc (w ∷ ws) cs
+          rest : (o : Option (List Clause)) → clauses_in h (k + 1) [] ws ≡ o → first_clause acc o
+              ≡ Some cs → AreClauses k acc (w ∷ ws) cs
           rest None o e = absurd (let bad : None ≡ Some cs = e in cc)
           rest (Some more) o e =
               let j = zero_judged k w is in
@@ -488,8 +465,7 @@ text_clauses : (h : Header) (l : Listing) (lines : Lines) → IsAfter lines l
 text_clauses h l lines is = search (rules, lines_clauses)
 
 formula_words : (h : Header) (clauses : List Clause) (r : Result (Header × Listing) (Fault × List ℕ))
-    (o : Option (Header × Lines))
-    → Agree IsHead r o → formula_with r ≡ faultless_formula h clauses
+    (o : Option (Header × Lines)) → Agree IsHead r o → formula_with r ≡ faultless_formula h clauses
     → (rest : Lines) × (o ≡ Some (h, rest)) × (clauses_in h 0 [] (all_words rest) ≡ Some clauses)
 formula_words h clauses (Err f) None a e = search rules
 formula_words h clauses (Err f) (Some y) a e = absurd a
@@ -500,15 +476,13 @@ formula_words h clauses (Ok x) (Some y) a e =
     let given : y.0 ≡ h = sym a.0 ∙ same in (
       y.1,
       ap (λ g. Some (g, y.1)) given,
-      sym (text_clauses h x.1 y.1 a.1)
-          ∙ ap (λ g. clean (body_of g 0 [] x.1)) (sym same)
+      sym (text_clauses h x.1 y.1 a.1) ∙ ap (λ g. clean (body_of g 0 [] x.1)) (sym same)
           ∙ ap (λ f. faultless f.fault f.clauses) e,
     )
 
-formula_taken : (h : Header) (clauses : List Clause) (r : Result (Header × Listing) (Fault × List ℕ))
-    (o : Option (Header × Lines))
-    (rest : Lines) → Agree IsHead r o → o ≡ Some (h, rest) → clauses_in h 0 [] (all_words rest)
-    ≡ Some clauses
+formula_taken : (h : Header) (clauses : List Clause)
+    (r : Result (Header × Listing) (Fault × List ℕ)) (o : Option (Header × Lines)) (rest : Lines)
+    → Agree IsHead r o → o ≡ Some (h, rest) → clauses_in h 0 [] (all_words rest) ≡ Some clauses
     → formula_with r ≡ faultless_formula h clauses
 formula_taken h clauses (Err f) None rest a o e = absurd (let bad : None ≡ Some (h, rest) = o in cc)
 formula_taken h clauses (Err f) (Some y) rest a o e = absurd a
@@ -536,8 +510,7 @@ text_header : (bytes : List ℕ)
 text_header bytes =
     let l : Listing = listing_of (input_of bytes) in
     subst (λ e. Agree IsHead (header_of (listing l.tokens l.end e))
-    (lines_header (word_lines bytes)))
-    (sym (listing_says bytes).ending)
+    (lines_header (word_lines bytes))) (sym (listing_says bytes).ending)
     (header_agrees (word_lines bytes) l.tokens l.end (text_lines bytes))
 
 read_is_written : (bytes : List ℕ) (h : Header) (clauses : List Clause)
@@ -545,8 +518,7 @@ read_is_written : (bytes : List ℕ) (h : Header) (clauses : List Clause)
     → IsFormula h clauses × FormulaText (word_lines bytes) h clauses
 read_is_written bytes h clauses e =
     let r = formula_words h clauses (header_of (listing_of (input_of bytes)))
-    (lines_header (word_lines bytes))
-    (text_header bytes) e in
+    (lines_header (word_lines bytes)) (text_header bytes) e in
     let s = header_spelled (word_lines bytes) h r.0 r.1 in
     let c = clauses_spelled h s.1.vars (all_words r.0) 0 [] clauses r.2 (omega arith) refl in
     let count = c.count in (
@@ -554,8 +526,7 @@ read_is_written bytes h clauses e =
       record {
         body = filled_lines r.0;
         header_first = s.0;
-        clauses_after = filled_words r.0
-            ∙ c.words;
+        clauses_after = filled_words r.0 ∙ c.words;
       },
     )
 
@@ -569,8 +540,7 @@ written_is_read bytes h clauses f text =
     sym (filled_words s.0) ∙ ap all_words s.2 ∙ text.clauses_after in
     let count = f.count in
     formula_taken h clauses (header_of (listing_of (input_of bytes)))
-    (lines_header (word_lines bytes)) s.0
-    (text_header bytes) s.1
+    (lines_header (word_lines bytes)) s.0 (text_header bytes) s.1
     (ap (clauses_in h 0 []) ws ∙ clauses_taken h f.vars clauses 0 (omega arith) f.literals)
 
 -- a formula is read exactly where its text is the grammar's

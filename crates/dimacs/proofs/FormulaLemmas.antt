@@ -1,19 +1,16 @@
 -- A formula's tokens, one at a time.
-use Rattle.std.proofs.Common.{◌≡◌, ℕ, ◌<◌, ◌≤◌, List, [], ◌∷◌, ◌++◌, Option, None, Some}
-use Rattle.std.proofs.Common.{refl, sym, ap, ◌∙◌, subst, arith, rules}
+use Rattle.std.proofs.Common.{◌≡◌, ℕ, ◌<◌, ◌≤◌, List, [], ◌∷◌, ◌++◌, Option, None, Some, refl, sym}
+use Rattle.std.proofs.Common.{ap, ◌∙◌, subst, arith, rules}
 use Rattle.std.specs.Prelude.{Bool, true, Result, Ok, Err}
 use Rattle.cnf_base.specs.Literals.{Literal}
 use Rattle.cnf_base.specs.Stream.{Suffix, Stream, Along, most_to_come, tells_failure}
 use Rattle.cnf_base.specs.Text.{Listing, listing_at, Gives}
 use Rattle.cnf_base.specs.declared.input.Ending.TheVariants.{End, Failed}
-use Rattle.cnf_base.specs.declared.input.ReadFailed.{ReadFailed as Cut}
-use Rattle.cnf_base.specs.declared.place.Place.{Place}
-use Rattle.cnf_base.specs.declared.word.Word.{Word}
-use Rattle.cnf_base.specs.declared.token.Token.{Token}
-use Rattle.cnf_base.specs.declared.token.Token.TheVariants as token
-use Rattle.cnf_base.specs.declared.fault.Fault.{Fault}
+use Rattle.cnf_base.specs.declared.{input.ReadFailed.ReadFailed as Cut, place.Place.Place}
+use Rattle.cnf_base.specs.declared.{word.Word.Word, token.Token.Token, fault.Fault.Fault}
 use Rattle.cnf_base.specs.declared.fault.Fault.TheVariants.{Text, ReadFailed, OutOfMemory}
 use Rattle.cnf_base.specs.declared.fault.TextFault.{TextFault}
+use Rattle.cnf_base.specs.declared.token.Token.TheVariants as token
 use Rattle.cnf_base.proofs.ListingLemmas.{Gives-from, listing_at-from}
 use Rattle.cnf_base.proofs.StreamLemmas.{Along-then, Along-map, Along-none}
 use Rattle.dimacs.specs.Reading.{FormulaReading, clauses_to_come, body_unless_ended, GivesClause}
@@ -60,8 +57,7 @@ ends_no_clause result b h h2 = search rules
 
 -- from one moment to another literals of one clause were read
 pub record Between (h : Header) (complete : ℕ) (old now : Stream) (before at_hand : List Literal) : Type 0 where
-  pub text : Along old now (λ i j. (body_of h complete before (listing_at old.place i) ≡ body_of h complete at_hand (listing_at now.place j))
-      × (ends_after h complete (listing_at old.place i) ≡ ends_after h complete (listing_at now.place j)))
+  pub text : Along old now (λ i j. (body_of h complete before (listing_at old.place i) ≡ body_of h complete at_hand (listing_at now.place j)) × (ends_after h complete (listing_at old.place i) ≡ ends_after h complete (listing_at now.place j)))
   pub fewer : most_to_come now ≤ most_to_come old
   pub mark : tells_failure now.reader ≡ tells_failure old.reader
 
@@ -97,8 +93,7 @@ module _ (h : Header) (complete : ℕ) (old now new : Stream) (before at_hand : 
     abbrev ends : Suffix → Result (Option Literal) TextFault → List ℕ
     ends j r = ends_on_word complete j.offset r (λ c. ends_after h c (listing_at new.place j))
 
-    word_text : Along old new (λ i j. (body_of h complete before (listing_at old.place i) ≡ follows j (judged h complete w))
-        × (ends_after h complete (listing_at old.place i) ≡ ends j (judged h complete w)))
+    word_text : Along old new (λ i j. (body_of h complete before (listing_at old.place i) ≡ follows j (judged h complete w)) × (ends_after h complete (listing_at old.place i) ≡ ends j (judged h complete w)))
     word_text = Along-then old now new _ _ _ so_far.text gives (λ i j k m q r. (q.0 ∙ ap (body_of h complete at_hand) r, q.1 ∙ ap (ends_after h complete) r))
 
     -- whatever the word is, no end that was to come was passed
@@ -121,8 +116,7 @@ module _ (h : Header) (complete : ℕ) (old now new : Stream) (before at_hand : 
   -- and none before the rest
   rest-from : (result : Result Token Cut) (i j k : Suffix) → Gives result (listing_at now.place j) (listing_at new.place k) k
       → ends_after h complete (listing_at old.place i) ≡ ends_after h complete (listing_at now.place j) → PassesNoEnd (ends_after h complete (listing_at old.place i)) k
-  rest-from result i j k gives is =
-      passes _ (ends_after h complete (listing_at now.place j)) k is
+  rest-from result i j k gives is = passes _ (ends_after h complete (listing_at now.place j)) k is
       (ends_among-from h k.offset complete _ (Gives-from result (listing_at now.place j) new.place k gives))
 
   pub Between-end : (p : Place) (result : Result Bool Fault) → Along now new (λ i j. Gives (Ok (token.End p)) (listing_at now.place i) (listing_at new.place j) j)

@@ -1,18 +1,13 @@
 -- A formula that was printed, as it is read.
-use Rattle.std.proofs.Common.{◌≡◌, ℕ, ◌≤◌, nat_le, cond, true, false}
-use Rattle.std.proofs.Common.{Option, Some, Ok, Err, refl, ap, ◌∙◌}
-use Rattle.std.proofs.Common.{arith}
+use Rattle.std.proofs.Common.{◌≡◌, ℕ, ◌≤◌, nat_le, cond, true, false, Option, Some, Ok, Err, refl}
+use Rattle.std.proofs.Common.{ap, ◌∙◌, arith}
 use Rattle.std.proofs.lemmas.Bool.Decides.{nat_tests}
-use Rattle.cnf_base.specs.Literals.{Literal, variable}
-use Rattle.cnf_base.specs.Printing.{is_literal, literal_text}
-use Rattle.cnf_base.specs.Words.{number_literal, word_of}
+use Rattle.cnf_base.specs.{Literals.Literal, Literals.variable, Printing.is_literal}
+use Rattle.cnf_base.specs.{Printing.literal_text, Words.number_literal, Words.word_of}
 use Rattle.cnf_base.specs.declared.fault.TextFault.TheVariants.{NumberTooLarge, LiteralOutOfRange}
 use Rattle.cnf_base.specs.declared.fault.TextFault.TheVariants.{TooManyClauses}
-use Rattle.cnf_base.proofs.PrintLemmas.{literal_number}
-use Rattle.cnf_base.proofs.PrintLemmas.{literal_range, literal_word}
-use Rattle.cnf_base.proofs.PrintLemmas.{literal_taken}
-use Rattle.dimacs.specs.Formula.{judged}
-use Rattle.dimacs.specs.declared.header.Header.{Header}
+use Rattle.cnf_base.proofs.PrintLemmas.{literal_number, literal_range, literal_word, literal_taken}
+use Rattle.dimacs.specs.{Formula.judged, declared.header.Header.Header}
 
 -- ---- The header
 

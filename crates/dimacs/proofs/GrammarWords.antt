@@ -2,19 +2,13 @@
 use Rattle.std.proofs.Common.{◌≡◌, ◌⊎◌, inl, inr, ℕ, ◌+◌, ◌*◌, ◌/◌, ◌%◌, ◌==◌, ◌≤◌, nat_le, cond}
 use Rattle.std.proofs.Common.{Bool, true, false, List, [], ◌∷◌, ◌++◌, Option, None, Some, refl, sym}
 use Rattle.std.proofs.Common.{ap, subst, ◌∙◌, arith, rules}
+use Rattle.std.proofs.lemmas.{Bool.Decides.nat_tests, Fmt.decimal_digit}
 use Rattle.std.specs.Prelude.{◌&&◌, codes}
-use Rattle.std.specs.Bool.{then_some}
-use Rattle.std.specs.Fmt.{decimal}
-use Rattle.std.specs.List.{flat_map, list_all}
-use Rattle.std.proofs.lemmas.Bool.Decides.{nat_tests}
-use Rattle.std.proofs.lemmas.Fmt.{decimal_digit}
-use Rattle.cnf_base.specs.Literals.{Literal, variable}
-use Rattle.cnf_base.specs.Grammar.{word_lines}
-use Rattle.cnf_base.specs.Printing.{input_of, literal_text}
-use Rattle.cnf_base.specs.Text.{Listed, listing_of}
+use Rattle.std.specs.{Bool.then_some, Fmt.decimal, List.flat_map, List.list_all}
+use Rattle.cnf_base.specs.{Literals.Literal, Literals.variable, Grammar.word_lines}
+use Rattle.cnf_base.specs.{Printing.input_of, Printing.literal_text, Text.Listed, Text.listing_of}
 use Rattle.cnf_base.specs.Words.{number, number_literal, word_of}
-use Rattle.cnf_base.specs.declared.word.Number.{Number}
-use Rattle.cnf_base.specs.declared.word.Word.{Word}
+use Rattle.cnf_base.specs.declared.word.{Number.Number, Word.Word}
 use Rattle.cnf_base.specs.declared.word.Word.TheVariants as words
 use Rattle.cnf_base.specs.declared.token.Token as tokens
 use Rattle.cnf_base.specs.declared.token.Token.TheVariants as token
@@ -122,8 +116,7 @@ limited : (n x l : ℕ) → then_some (nat_le 1 n && nat_le n 268435455) x ≡ S
 limited n x l e = search rules
 
 pub literal_spelled : (w : List ℕ) (n : Number) (l : Literal) → word_of w ≡ words.Number n
-    → number_literal n ≡ Some l
-    → IsLiteralNumber w n l
+    → number_literal n ≡ Some l → IsLiteralNumber w n l
 literal_spelled w n l is e = by n.is_negative n.size is e
   where
     by : (s : Bool) (m : ℕ) → word_of w ≡ words.Number (number s m)
@@ -158,8 +151,7 @@ literal_spelled w n l is e = by n.is_negative n.size is e
 
 -- the only number within the limit that names no literal
 pub zero_spelled : (w : List ℕ) (n : Number) → word_of w ≡ words.Number n → n.size ≤ 268435455
-    → number_literal n ≡ None
-    → w ≡ codes "0"
+    → number_literal n ≡ None → w ≡ codes "0"
 zero_spelled w n is high e = by n.is_negative n.size is high e
   where
     none_within : (a b : Bool) (x : ℕ) → b ≡ true → then_some (a && b) x ≡ None → a ≡ false

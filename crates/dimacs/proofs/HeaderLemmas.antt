@@ -1,26 +1,19 @@
 -- A header's parts, one after another.
-use Rattle.std.proofs.Common.{◌≡◌, ℕ, cond, Bool, List, ◌∷◌, refl, sym, ap, subst}
-use Rattle.std.proofs.Common.{◌∙◌, rules}
+use Rattle.std.proofs.Common.{◌≡◌, ℕ, cond, Bool, List, ◌∷◌, refl, sym, ap, subst, ◌∙◌, rules}
 use Rattle.std.specs.Prelude.{if◌then◌else◌, Result, Ok, Err}
-use Rattle.cnf_base.specs.Stream.{Suffix, Stream, Along}
-use Rattle.cnf_base.specs.Text.{Listed, Listing, listing_at, Gives}
-use Rattle.cnf_base.specs.declared.input.ReadFailed.{ReadFailed as Cut}
-use Rattle.cnf_base.specs.declared.place.Place.{Place}
-use Rattle.cnf_base.specs.declared.word.Word.{Word}
-use Rattle.cnf_base.specs.declared.token.Token.{Token}
-use Rattle.cnf_base.specs.declared.token.Token.TheVariants as token
-use Rattle.cnf_base.specs.declared.fault.Fault.{Fault}
-use Rattle.cnf_base.specs.declared.fault.Fault.TheVariants.{Text, ReadFailed}
+use Rattle.cnf_base.specs.{Stream.Suffix, Stream.Stream, Stream.Along, Text.Listed, Text.Listing}
+use Rattle.cnf_base.specs.{Text.listing_at, Text.Gives, declared.input.ReadFailed.ReadFailed as Cut}
+use Rattle.cnf_base.specs.declared.{place.Place.Place, word.Word.Word, token.Token.Token}
+use Rattle.cnf_base.specs.declared.fault.Fault.{Fault, TheVariants.Text, TheVariants.ReadFailed}
 use Rattle.cnf_base.specs.declared.fault.TextFault.TheVariants.{BadHeader}
+use Rattle.cnf_base.specs.declared.token.Token.TheVariants as token
 use Rattle.cnf_base.proofs.ListingLemmas.{EndFrom, Gives-from}
 use Rattle.cnf_base.proofs.StreamLemmas.{Along-then, Along-map, Along-none}
-use Rattle.dimacs.specs.Formula.{drop_line_ends, skip_blank, next_word, is_p, is_cnf}
-use Rattle.dimacs.specs.Formula.{fixed, count_of, count, line_end, and_then, part}
-use Rattle.dimacs.specs.Code.Reading.{first_end, and_then_at}
-use Rattle.dimacs.specs.Formula.{header_of, formula_with, formula_at, ends_with, ends_at}
-use Rattle.dimacs.specs.Reading.{PassesNoEnd, unopened}
-use Rattle.dimacs.specs.Code.Reading.{GivesHeader, GivesPart}
-use Rattle.dimacs.specs.declared.header.Header.{Header}
+use Rattle.dimacs.specs.Formula.{drop_line_ends, skip_blank, next_word, is_p, is_cnf, fixed}
+use Rattle.dimacs.specs.Formula.{count_of, count, line_end, and_then, part, header_of, formula_with}
+use Rattle.dimacs.specs.Formula.{formula_at, ends_with, ends_at}
+use Rattle.dimacs.specs.Code.Reading.{first_end, and_then_at, GivesHeader, GivesPart}
+use Rattle.dimacs.specs.{Reading.PassesNoEnd, Reading.unopened, declared.header.Header.Header}
 use Rattle.dimacs.proofs.OffsetLemmas.{AreFrom}
 
 -- ---- No token's end was passed
@@ -103,12 +96,11 @@ module _ {A : Type 0} (old now new : Stream) (test : Listing → Result A Fault)
   -- or wrong
   pub Heads-fault : (f : Fault) → Part now new start test (λ l. Err f)
       → Along old new (λ i j. GivesHeader (Err f) (header_of (listing_at old.place i)) (listing_at new.place j) j)
-  Heads-fault f run =
-      Along-then old now new _ _ _ so_far run (λ i j k m p q. (
-        first_end (start (listing_at now.place j)).tokens,
-        p ∙ ap (λ r. and_then_at (first_end (start (listing_at now.place j)).tokens) r next) q.0,
-        q.1,
-      ))
+  Heads-fault f run = Along-then old now new _ _ _ so_far run (λ i j k m p q. (
+    first_end (start (listing_at now.place j)).tokens,
+    p ∙ ap (λ r. and_then_at (first_end (start (listing_at now.place j)).tokens) r next) q.0,
+    q.1,
+  ))
 
 -- ---- Blank lines
 

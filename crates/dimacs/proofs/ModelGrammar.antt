@@ -2,35 +2,26 @@
 use Rattle.std.proofs.Common.{◌≡◌, ℕ, ◌≤◌, ◌==◌, nat_le, cond, Bool, true, false, List, [], ◌∷◌}
 use Rattle.std.proofs.Common.{◌++◌, map, reverse, Option, None, Some, Result, Ok, Err, refl, sym}
 use Rattle.std.proofs.Common.{ap, ap₂, subst, ◌∙◌, append_assoc, arith, inl, inr, ◌⊎◌, rules}
-use Rattle.std.specs.Prelude.{◌&&◌, if◌then◌else◌, codes}
-use Rattle.std.specs.List.{list_all}
-use Rattle.std.proofs.lemmas.Bool.{true≢false}
-use Rattle.std.proofs.lemmas.Bool.Decides.{nat_tests}
-use Rattle.std.proofs.lemmas.List.{reverse-append, reverse-reverse}
-use Rattle.std.proofs.lemmas.List.Sorted.{IsPermutation-reverse, list_any-IsPermutation}
-use Rattle.std.proofs.lemmas.Grind.{common_steps}
-use Rattle.cnf_base.specs.Grammar.{word_lines}
-use Rattle.cnf_base.specs.Literals.{Literal, complement, has, variable}
-use Rattle.cnf_base.specs.Printing.{input_of, is_literal, literal_words}
-use Rattle.cnf_base.specs.Text.{Listed, Listing, listing_of}
+use Rattle.std.proofs.lemmas.{Bool.true≢false, Bool.Decides.nat_tests, List.reverse-append}
+use Rattle.std.proofs.lemmas.{List.reverse-reverse, List.Sorted.IsPermutation-reverse}
+use Rattle.std.proofs.lemmas.{List.Sorted.list_any-IsPermutation, Grind.common_steps}
+use Rattle.std.specs.{Prelude.◌&&◌, Prelude.if◌then◌else◌, Prelude.codes, List.list_all}
+use Rattle.cnf_base.specs.{Grammar.word_lines, Literals.Literal, Literals.complement, Literals.has}
+use Rattle.cnf_base.specs.{Literals.variable, Printing.input_of, Printing.is_literal}
+use Rattle.cnf_base.specs.{Printing.literal_words, Text.Listed, Text.Listing, Text.listing_of}
 use Rattle.cnf_base.specs.Words.{number_literal, word_of}
-use Rattle.cnf_base.specs.declared.fault.Fault.{Fault}
-use Rattle.cnf_base.specs.declared.fault.TextFault.{TextFault}
-use Rattle.cnf_base.specs.declared.input.Ending.TheVariants.{End}
-use Rattle.cnf_base.specs.declared.place.Place.{Place}
-use Rattle.cnf_base.specs.declared.word.Word.{Word}
+use Rattle.cnf_base.specs.declared.fault.{Fault.Fault, TextFault.TextFault}
+use Rattle.cnf_base.specs.declared.{input.Ending.TheVariants.End, place.Place.Place, word.Word.Word}
 use Rattle.cnf_base.specs.declared.word.Word.TheVariants as words
 use Rattle.cnf_base.specs.declared.token.Token as tokens
 use Rattle.cnf_base.specs.declared.token.Token.TheVariants as token
 use Rattle.cnf_base.proofs.GrammarLemmas.{listing_says, s_spelled, v_spelled, satisfiable_spelled}
-use Rattle.cnf_base.proofs.LineLemmas.{append_nil}
-use Rattle.cnf_base.proofs.PrintLemmas.{both, literal_word, literal_taken}
-use Rattle.cnf_base.proofs.SetLemmas.{has_tail}
+use Rattle.cnf_base.proofs.{LineLemmas.append_nil, PrintLemmas.both, PrintLemmas.literal_word}
+use Rattle.cnf_base.proofs.{PrintLemmas.literal_taken, SetLemmas.has_tail}
 use Rattle.dimacs.specs.Formula.{and_then}
 use Rattle.dimacs.specs.Claim.{LinePosition, at_line_start, after_s, after_status, in_values, Said}
-use Rattle.dimacs.specs.Claim.{on_status, on_value, claim_on_word}
-use Rattle.dimacs.specs.Claim.{on_line_end, claim_at_end, placed, claim_on_token, on_end}
-use Rattle.dimacs.specs.Claim.{claim_among, claim_of, IsConsistent}
+use Rattle.dimacs.specs.Claim.{on_status, on_value, claim_on_word, on_line_end, claim_at_end}
+use Rattle.dimacs.specs.Claim.{placed, claim_on_token, on_end, claim_among, claim_of, IsConsistent}
 use Rattle.dimacs.specs.Grammar.{filled_lines, all_words, ModelText, ModelIsGrammar}
 use Rattle.dimacs.specs.Printing.{status_words, value_words, IsModel}
 use Rattle.dimacs.proofs.ModelLemmas.{IsConsistent-put}
@@ -78,10 +69,8 @@ module _ (p : Place) where
           → ((s : Said) → known (claim_among s ts p End) ≡ claim_says s ss)
           → known (and_then (claim_on_token s k) (λ s. claim_among s ts p End)) ≡ claim_says s
           (Some v ∷ ss)
-      by (token.Word q w) e later =
-          placed_then q (claim_on_word s w) (λ s. claim_among s ts p End)
-          (λ s. claim_says s ss) later
-          ∙ ap (λ w. claim_says s (Some w ∷ ss)) e
+      by (token.Word q w) e later = placed_then q (claim_on_word s w) (λ s. claim_among s ts p End)
+          (λ s. claim_says s ss) later ∙ ap (λ w. claim_says s (Some w ∷ ss)) e
       by (token.LineEnd q) e later = absurd e
       by (token.End q) e later = absurd e
   among_said (t ∷ ts) (None ∷ ss) s is = by t.0 is.0 (λ s. among_said ts ss s is.1)
@@ -95,9 +84,8 @@ module _ (p : Place) where
           placed_then q (on_line_end s) (λ s. claim_among s ts p End) (λ s. claim_says s ss) later
       by (token.End q) e later = absurd e
 
-text_claim : (bytes : List ℕ)
-    → known (claim_of (input_of bytes)) ≡ claim_says (at at_line_start false false [])
-    (said_by (word_lines bytes))
+text_claim : (bytes : List ℕ) → known (claim_of (input_of bytes))
+    ≡ claim_says (at at_line_start false false []) (said_by (word_lines bytes))
 text_claim bytes =
     let l : Listing = listing_of (input_of bytes) in
     ap (λ e. known (claim_among (at at_line_start false false []) l.tokens l.end e))
@@ -134,8 +122,7 @@ values_append (w ∷ ws) us e ls = by (value_in e ls (word_of w)) (λ x. values_
   where
     by : (o : Option (HeardSo))
         → ((x : HeardSo) → values_in x.0 x.1 (ws ++ us) ≡ and_so (values_in x.0 x.1 ws)
-        (λ x. values_in x.0 x.1 us))
-        → and_so o (λ x. values_in x.0 x.1 (ws ++ us))
+        (λ x. values_in x.0 x.1 us)) → and_so o (λ x. values_in x.0 x.1 (ws ++ us))
         ≡ and_so (and_so o (λ x. values_in x.0 x.1 ws)) (λ x. values_in x.0 x.1 us)
     by None later = refl
     by (Some x) later = later x
@@ -180,8 +167,7 @@ record IsStatusLine (h e : Bool) (ls : List Literal) (w : List ℕ) (ws : List (
   pub later : claim_says (at after_s false e ls) (line_then ws (said_by lines)) ≡ Some r
 
 line_read : (h e : Bool) (ls : List Literal) (w : List ℕ) (ws : List (List ℕ)) (lines : Lines)
-    (r : List Literal)
-    → claim_says (at at_line_start h e ls) (said_by ((w ∷ ws) ∷ lines)) ≡ Some r
+    (r : List Literal) → claim_says (at at_line_start h e ls) (said_by ((w ∷ ws) ∷ lines)) ≡ Some r
     → IsValueLine h e ls w ws lines r ⊎ IsStatusLine h e ls w ws lines r
 line_read h e ls w ws lines r is =
     search (rules, and_so, line_then, said_by, s_spelled, went_on, values_said, v_spelled)
@@ -245,15 +231,13 @@ status_read e ls [] later r is = absurd (let bad : None ≡ Some r = is in cc)
 status_read e ls (w ∷ ws) later r is = by (word_of w) refl is
   where
     alone : (us : List (List ℕ)) → claim_says (at after_status true e ls) (line_then us later)
-        ≡ Some r
-        → (us ≡ []) × (claim_says (at at_line_start true e ls) later ≡ Some r)
+        ≡ Some r → (us ≡ []) × (claim_says (at at_line_start true e ls) later ≡ Some r)
     alone [] is = (refl, is)
     alone (u ∷ us) is = absurd (let bad : None ≡ Some r = is in cc)
 
     by : (v : Word) → word_of w ≡ v
         → and_so (known (on_status (at after_s false e ls) v))
-        (λ s. claim_says s (line_then ws later)) ≡ Some r
-        → IsStatus e ls (w ∷ ws) later r
+        (λ s. claim_says s (line_then ws later)) ≡ Some r → IsStatus e ls (w ∷ ws) later r
     by words.Satisfiable v is =
         let x = alone ws is in
         record { words = ap₂ (λ w ws. w ∷ ws) (satisfiable_spelled w v) x.0; later_says = x.1 }
@@ -308,8 +292,7 @@ lines_taken ((w ∷ ws) ∷ lines) (b ∷ before) after e ls r is values =
     let later : filled_lines lines ≡ map value_words before ++ status_words ∷ map value_words
     after = cc in
     let x = went_on (values_in e ls b) (λ x. values_in x.0 x.1 (all_words (before ++ after)))
-    (true, r)
-    (sym (values_append b (all_words (before ++ after)) e ls) ∙ values) in
+    (true, r) (sym (values_append b (all_words (before ++ after)) e ls) ∙ values) in
     ap (λ line. claim_says (at at_line_start false e ls) (line_then line (said_by lines))) first
     ∙ values_said false b e ls (said_by lines)
     ∙ ap (λ o. and_so o (λ x. claim_says (at at_line_start false x.0 x.1) (said_by lines))) x.1
@@ -345,8 +328,7 @@ values_spelled (w ∷ ws) acc r ok is = by (word_of w) refl is (λ l. values_spe
     by : (v : Word) → word_of w ≡ v → and_so (value_in false acc v) (λ x. values_in x.0 x.1 ws)
         ≡ Some (true, r)
         → ((l : Literal) → IsConsistent (l ∷ acc) → values_in false (l ∷ acc) ws ≡ Some (true, r)
-        → AreLiterals (l ∷ acc) ws r)
-        → AreLiterals acc (w ∷ ws) r
+        → AreLiterals (l ∷ acc) ws r) → AreLiterals acc (w ∷ ws) r
     by (words.Number n) v is next = number (nat_le n.size 268435455) (number_literal n) refl refl is
       where
         literal : (l : Literal) (b : Bool) → has acc (complement l) ≡ b → number_literal n ≡ Some l
@@ -371,10 +353,9 @@ values_spelled (w ∷ ws) acc r ok is = by (word_of w) refl is (λ l. values_spe
               consistent = x.consistent;
             }
 
-        number : (b : Bool) (o : Option Literal) → nat_le n.size 268435455 ≡ b
-            → number_literal n ≡ o
-            → and_so (cond b (literal_in acc o) None) (λ x. values_in x.0 x.1 ws) ≡ Some (true, r)
-            → AreLiterals acc (w ∷ ws) r
+        number : (b : Bool) (o : Option Literal) → nat_le n.size 268435455 ≡ b → number_literal n
+            ≡ o → and_so (cond b (literal_in acc o) None) (λ x. values_in x.0 x.1 ws)
+            ≡ Some (true, r) → AreLiterals acc (w ∷ ws) r
         number false o t e is = absurd (none_given (true, r) is)
         number true None t e is =
             let x = ended_values ws acc r is in
@@ -401,8 +382,7 @@ module _ (whole : List Literal) (consistent : IsConsistent whole) where
       ∙ literal_taken 268435455 l (omega arith) r.0 (literal_in acc) None
       ∙ ap (λ v. more_listed v acc l) (no_complement whole consistent acc ls l before after))
       ∙ values_taken ls (l ∷ acc) r.1 (among_more whole consistent acc ls l before after)
-      (λ k h. after k (has_tail l ls k h))
-      ∙ ap (λ t. Some (true, t)) (reverse_cons l ls acc)
+      (λ k h. after k (has_tail l ls k h)) ∙ ap (λ t. Some (true, t)) (reverse_cons l ls acc)
 
 -- ---- A whole output
 
@@ -416,9 +396,8 @@ consistent_reverse ls ok l h = search (rules, has_reverse)
 known_is : {A E : Type 0} (r : Result A E) (x : A) → known r ≡ Some x → r ≡ Ok x
 known_is r x h = search rules
 
-model_is_written : (bytes : List ℕ) (literals : List Literal)
-    → claim_of (input_of bytes) ≡ Ok (reverse literals)
-    → IsModel literals × ModelText (word_lines bytes) literals
+model_is_written : (bytes : List ℕ) (literals : List Literal) → claim_of (input_of bytes)
+    ≡ Ok (reverse literals) → IsModel literals × ModelText (word_lines bytes) literals
 model_is_written bytes literals e =
     let x = lines_read (word_lines bytes) false [] (reverse literals)
     (sym (text_claim bytes) ∙ ap (λ r. known r) e) in
@@ -442,18 +421,13 @@ model_is_written bytes literals e =
     no_literal : false ≡ true → ⊥
     no_literal h = cc
 
-model_is_read : (bytes : List ℕ) (literals : List Literal)
-    → IsModel literals → ModelText (word_lines bytes) literals
-    → claim_of (input_of bytes) ≡ Ok (reverse literals)
-model_is_read bytes literals m text =
-    known_is (claim_of (input_of bytes)) (reverse literals)
-    (text_claim bytes
-    ∙ lines_taken (word_lines bytes) text.before text.after false []
-    (reverse literals) text.one_status
-    (ap (values_in false []) text.values
+model_is_read : (bytes : List ℕ) (literals : List Literal) → IsModel literals
+    → ModelText (word_lines bytes) literals → claim_of (input_of bytes) ≡ Ok (reverse literals)
+model_is_read bytes literals m text = known_is (claim_of (input_of bytes)) (reverse literals)
+    (text_claim bytes ∙ lines_taken (word_lines bytes) text.before text.after false []
+    (reverse literals) text.one_status (ap (values_in false []) text.values
     ∙ values_taken literals m.consistent literals [] m.literals (λ k h. absurd (no_literal h))
-    (λ k h. h)
-    ∙ ap (λ t. Some (true, t)) (append_nil (reverse literals))))
+    (λ k h. h) ∙ ap (λ t. Some (true, t)) (append_nil (reverse literals))))
   where
     no_literal : false ≡ true → ⊥
     no_literal h = cc

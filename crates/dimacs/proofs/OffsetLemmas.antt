@@ -1,22 +1,16 @@
 -- Where the clauses of a formula end, and the token at fault.
-use Rattle.std.proofs.Common.{◌≡◌, ℕ, ◌≤◌, List, [], ◌∷◌, length, Option}
-use Rattle.std.proofs.Common.{Some, rules}
-use Rattle.std.specs.Prelude.{Bool, true, Result, Ok, slice_get}
+use Rattle.std.proofs.Common.{◌≡◌, ℕ, ◌≤◌, List, [], ◌∷◌, length, Option, Some, rules}
 use Rattle.std.proofs.lemmas.Option.{none-some}
-use Rattle.cnf_base.specs.Literals.{Literal}
-use Rattle.cnf_base.specs.Stream.{Input, Suffix}
+use Rattle.std.specs.Prelude.{Bool, true, Result, Ok, slice_get}
+use Rattle.cnf_base.specs.{Literals.Literal, Stream.Input, Stream.Suffix}
 use Rattle.cnf_base.specs.Text.{Listed, Listing, listing_of}
-use Rattle.cnf_base.specs.declared.place.Place.{Place}
-use Rattle.cnf_base.specs.declared.input.Ending.{Ending}
+use Rattle.cnf_base.specs.declared.{place.Place.Place, input.Ending.Ending}
+use Rattle.cnf_base.specs.declared.fault.{Fault.Fault, TextFault.TextFault}
 use Rattle.cnf_base.specs.declared.token.Token.TheVariants as token
-use Rattle.cnf_base.specs.declared.fault.Fault.{Fault}
-use Rattle.cnf_base.specs.declared.fault.TextFault.{TextFault}
 use Rattle.cnf_base.proofs.ListingLemmas.{EndFrom}
-use Rattle.dimacs.specs.Formula.{judged, Body, body_on_word, body_among}
-use Rattle.dimacs.specs.Formula.{header_of, formula_with, formula_of, ends_on_word}
-use Rattle.dimacs.specs.Formula.{ends_among, ends_with, ends_of}
-use Rattle.dimacs.specs.Reading.{PassesNoEnd, GivesEnd}
-use Rattle.dimacs.specs.declared.header.Header.{Header}
+use Rattle.dimacs.specs.Formula.{judged, Body, body_on_word, body_among, header_of, formula_with}
+use Rattle.dimacs.specs.Formula.{formula_of, ends_on_word, ends_among, ends_with, ends_of}
+use Rattle.dimacs.specs.{Reading.PassesNoEnd, Reading.GivesEnd, declared.header.Header.Header}
 
 -- each of these is this offset or a later one
 abbrev pub AreFrom : ℕ → List ℕ → Type 0

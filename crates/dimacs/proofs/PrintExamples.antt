@@ -2,8 +2,7 @@
 use Rattle.std.proofs.Common.{[], ◌∷◌, rules}
 use Rattle.std.specs.Fmt.{digits}
 use Rattle.cnf_base.specs.Literals.{complement}
-use Rattle.dimacs.specs.Claim.{IsConsistent}
-use Rattle.dimacs.specs.Printing.{FormulasLookSo}
+use Rattle.dimacs.specs.{Claim.IsConsistent, Printing.FormulasLookSo}
 
 consistent : IsConsistent (2 ∷ 5 ∷ 25 ∷ [])
 unfolding complement

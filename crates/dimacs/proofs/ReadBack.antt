@@ -1,27 +1,24 @@
 -- A formula and a model that were printed are read back, since their lines are the grammar's.
-use Rattle.std.proofs.Common.{◌≡◌, ℕ, ◌≤◌, ◌==◌, true, false, List, [], ◌∷◌, ◌++◌}
-use Rattle.std.proofs.Common.{map, filter, refl, sym, ap, ◌∙◌, append_assoc, subst}
-use Rattle.std.proofs.Common.{arith}
-use Rattle.std.specs.Prelude.{codes}
-use Rattle.std.specs.Fmt.{decimal}
-use Rattle.std.specs.List.{concat, flat_map, list_all, slice_split, onto_first}
+use Rattle.std.proofs.Common.{◌≡◌, ℕ, ◌≤◌, ◌==◌, true, false, List, [], ◌∷◌, ◌++◌, map, filter}
+use Rattle.std.proofs.Common.{refl, sym, ap, ◌∙◌, append_assoc, subst, arith}
 use Rattle.std.proofs.lemmas.Bool.Decides.{nat_tests}
-use Rattle.std.proofs.lemmas.List.Folds.{list_all-append}
-use Rattle.std.proofs.lemmas.List.{append-nil, map-append}
+use Rattle.std.proofs.lemmas.List.{append-nil, map-append, Folds.list_all-append}
+use Rattle.std.specs.{Prelude.codes, Fmt.decimal}
+use Rattle.std.specs.List.{concat, flat_map, list_all, slice_split, onto_first}
 use Rattle.cnf_base.specs.Grammar.{is_word, words_in, word_lines}
 use Rattle.cnf_base.specs.Literals.{Literal, Clause}
 use Rattle.cnf_base.specs.Printing.{words_line, is_literal, literal_text, literal_words}
 use Rattle.cnf_base.specs.Text.{is_separator, is_comment, lines_of}
 use Rattle.cnf_base.proofs.LineLemmas.{append_nil}
 use Rattle.cnf_base.proofs.PrintLemmas.{after_word, words_line-cons, IsPlain, fixed_plain, both}
-use Rattle.cnf_base.proofs.PrintLemmas.{decimal_plain, zero_plain, literal_plain, literal_no_comment}
+use Rattle.cnf_base.proofs.PrintLemmas.{decimal_plain, zero_plain, literal_plain}
+use Rattle.cnf_base.proofs.PrintLemmas.{literal_no_comment}
 use Rattle.cnf_base.proofs.TextLemmas.{Each, none, more, split-append}
 use Rattle.dimacs.specs.Grammar.{filled_lines, all_words}
-use Rattle.dimacs.specs.Printing.{header_words, clause_line, formula_text}
-use Rattle.dimacs.specs.Printing.{status_words, value_words, value_line, literals_line, model_text}
+use Rattle.dimacs.specs.Printing.{header_words, clause_line, formula_text, status_words}
+use Rattle.dimacs.specs.Printing.{value_words, value_line, literals_line, model_text}
 use Rattle.dimacs.specs.Printing.{FormulaIsReadBack, ModelIsReadBack}
-use Rattle.dimacs.proofs.FormulaGrammar.{formula_grammar}
-use Rattle.dimacs.proofs.ModelGrammar.{model_grammar}
+use Rattle.dimacs.proofs.{FormulaGrammar.formula_grammar, ModelGrammar.model_grammar}
 
 -- ---- A line of words
 
@@ -166,8 +163,7 @@ values_lines (ls ∷ lines) last are =
 printed_words : (lines : List (List Literal)) (last : List Literal)
     → all_words (printed lines last) ≡ literal_words (concat lines ++ last)
 printed_words [] last = append-nil (literal_words last)
-printed_words (ls ∷ lines) last =
-    ap (λ x. map literal_text ls ++ x) (printed_words lines last)
+printed_words (ls ∷ lines) last = ap (λ x. map literal_text ls ++ x) (printed_words lines last)
     ∙ sym (append_assoc (map literal_text ls) (map literal_text (concat lines ++ last)) _)
     ∙ ap (λ x. x ++ codes "0" ∷ []) (sym (map-append literal_text ls (concat lines ++ last)))
     ∙ ap literal_words (sym (append_assoc ls (concat lines) last))

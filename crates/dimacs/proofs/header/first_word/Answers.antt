@@ -2,13 +2,12 @@
 use Rattle.std.proofs.Common.{rules}
 use Rattle.std.specs.Prelude.{Ok, Err}
 use Rattle.cnf_base.specs.declared.fault.Fault.TheVariants.{Text, ReadFailed}
-use Rattle.cnf_base.specs.declared.fault.TextFault.TheVariants.{BadHeader}
+use Rattle.cnf_base.specs.{declared.fault.TextFault.TheVariants.BadHeader, Text.listing_at}
 use Rattle.cnf_base.specs.declared.token.Token.TheVariants as token
-use Rattle.cnf_base.specs.Text.{listing_at}
-use Rattle.cnf_base.proofs.StreamLemmas.{Along-still}
-use Rattle.cnf_base.proofs.TokenLemmas.{told}
+use Rattle.cnf_base.proofs.{StreamLemmas.Along-still, TokenLemmas.told}
 use Rattle.dimacs.specs.Formula.{skip_blank}
-use Rattle.dimacs.proofs.HeaderLemmas.{Blank-line, Blank-first, first_word, first_end_of_input, first_failed}
+use Rattle.dimacs.proofs.HeaderLemmas.{Blank-line, Blank-first, first_word, first_end_of_input}
+use Rattle.dimacs.proofs.HeaderLemmas.{first_failed}
 use Rattle.dimacs.proofs.header.first_word.Goals as goal
 
 pub loop-place-init : goal.loop-place-init

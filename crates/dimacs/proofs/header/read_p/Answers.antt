@@ -1,8 +1,7 @@
 -- The word that has to stand there.
 use Rattle.std.proofs.Common.{rules, ◌≡◌, refl, cond}
 use Rattle.std.specs.Prelude.{Ok, Err}
-use Rattle.cnf_base.specs.declared.fault.Fault.TheVariants.{Text}
-use Rattle.cnf_base.specs.declared.fault.TextFault.TheVariants.{BadHeader}
+use Rattle.cnf_base.specs.declared.fault.{Fault.TheVariants.Text, TextFault.TheVariants.BadHeader}
 use Rattle.dimacs.specs.Formula.{and_then, skip_blank, next_word, is_p}
 use Rattle.dimacs.proofs.HeaderLemmas.{Part-map, fixed_word, fixed_told}
 use Rattle.dimacs.proofs.header.read_p.Goals as goal
