@@ -1,35 +1,31 @@
 -- The rule of DRAT depends only on how many copies of each clause are alive.
-use Rattle.std.proofs.Common.{◌≡◌, ℕ, zero, suc, ◌+◌, ◌-◌, ◌<◌, Bool, true}
-use Rattle.std.proofs.Common.{false, cond, Some, Ok, Err, List, [], ◌∷◌, ◌++◌}
-use Rattle.std.proofs.Common.{slice_get, refl, sym, ap, ◌∙◌, subst, inl, inr, ◌⊎◌}
-use Rattle.std.proofs.Common.{arith, rules}
+use Rattle.std.proofs.Common.{◌≡◌, ℕ, zero, suc, ◌+◌, ◌-◌, ◌<◌, Bool, true, false, cond, Some, Ok}
+use Rattle.std.proofs.Common.{Err, List, [], ◌∷◌, ◌++◌, slice_get, refl, sym, ap, ◌∙◌, subst, inl}
+use Rattle.std.proofs.Common.{inr, ◌⊎◌, arith, rules}
+use Rattle.std.proofs.lemmas.Bool.{false≢true, true≢false, cases_Bool, or_cases, or_left, or_right}
+use Rattle.std.proofs.lemmas.Bool.{false_from_ne_true, Decides.nat_tests}
+use Rattle.std.proofs.lemmas.{List.Sums.sum_by-cons, Option.none-some, Grind.common_steps}
 use Rattle.std.specs.List.{list_any}
-use Rattle.std.proofs.lemmas.Bool.{false≢true, true≢false, cases_Bool, or_cases, or_left}
-use Rattle.std.proofs.lemmas.Bool.{or_right, false_from_ne_true}
-use Rattle.std.proofs.lemmas.List.Sums.{sum_by-cons}
-use Rattle.std.proofs.lemmas.Option.{none-some}
-use Rattle.std.proofs.lemmas.Grind.{common_steps}
-use Rattle.std.proofs.lemmas.Bool.Decides.{nat_tests}
 use Rattle.theory.specs.declared.accepted.Accepted.{Accepted}
 use Rattle.theory.specs.declared.accepted.Accepted.TheVariants.{Rup, Rat, Pr, Empty, Deleted}
 use Rattle.theory.specs.declared.accepted.Accepted.TheVariants.{Ignored}
 use Rattle.theory.specs.declared.refusal.Refusal.TheVariants.{NotRup, NeitherRupNorRat, NotAlive}
 use Rattle.theory.specs.declared.refusal.Refusal.TheVariants.{InconsistentSet, NeitherRupNorPr}
-use Rattle.cnf_base.specs.Literals.{Literal, complement, Clause, has, complements, without}
-use Rattle.cnf_base.specs.Literals.{same_clause}
+use Rattle.theory.specs.declared.drat_rules.DratRules.{DratRules}
 use Rattle.theory.specs.Propagation.{Live, HasRup, HasRat, HasPr, open_literals}
 use Rattle.theory.specs.Answers.{StepAnswer}
 use Rattle.theory.specs.Drat.{DratStep, add, delete, AnswersAdd, AnswersDelete, AnswersDrat}
 use Rattle.theory.specs.Drat.{AnswersWithWitness, IsKeptUnit, take_off, after_drat, copies_of}
 use Rattle.theory.specs.Drat.{SameLive}
+use Rattle.theory.proofs.PropagationLemmas.Covers.{Covers, clash_covers, reason_covers}
+use Rattle.theory.proofs.PropagationLemmas.Forced.{forced_assumed, clash_through}
+use Rattle.cnf_base.specs.Literals.{Literal, complement, Clause, has, complements, without}
+use Rattle.cnf_base.specs.Literals.{same_clause}
 use Rattle.cnf_base.proofs.SetLemmas.{same_there, same_back, same_itself, same_symm, same_trans}
 use Rattle.cnf_base.proofs.SetLemmas.{both_pass, has_append_left, has_append_right}
 use Rattle.cnf_base.proofs.SetLemmas.{has_append_cases, has-complements, complements_has}
 use Rattle.cnf_base.proofs.SetLemmas.{has-without, without_has, has-filter, filter_has}
 use Rattle.cnf_base.proofs.LiteralLemmas.{complement-complement}
-use Rattle.theory.proofs.PropagationLemmas.Covers.{Covers, clash_covers, reason_covers}
-use Rattle.theory.proofs.PropagationLemmas.Forced.{forced_assumed, clash_through}
-use Rattle.theory.specs.declared.drat_rules.DratRules.{DratRules}
 
 -- ---- Copies
 
@@ -38,32 +34,29 @@ copies-cons e d live = sum_by-cons (λ x. cond (same_clause e x) 1 0) d live
 
 pub alive_copies : (c : Clause) (live : List Clause) → list_any (same_clause c) live ≡ true → 0 < copies_of c live
 alive_copies c [] h = absurd (false≢true h)
-alive_copies c (d ∷ live) h =
-    elim (or_cases (same_clause c d) (list_any (same_clause c) live) h) [
-      | inl e ↦ omega (arith, copies-cons c d live ∙ ap (λ b. cond b 1 0 + copies_of c live) e)
-      | inr g ↦ omega (arith, copies-cons c d live, alive_copies c live g)
-    ]
+alive_copies c (d ∷ live) h = elim (or_cases (same_clause c d) (list_any (same_clause c) live) h) [
+  | inl e ↦ omega (arith, copies-cons c d live ∙ ap (λ b. cond b 1 0 + copies_of c live) e)
+  | inr g ↦ omega (arith, copies-cons c d live, alive_copies c live g)
+]
 
 pub none_alive : (c : Clause) (live : List Clause) → list_any (same_clause c) live ≡ false → copies_of c live ≡ 0
 none_alive c [] h = refl
-none_alive c (d ∷ live) h =
-    elim (cases_Bool (same_clause c d)) [
-      | inl e ↦ cc
-      | inr e ↦
-          let rest : list_any (same_clause c) live ≡ false = false_from_ne_true _ (λ g. true≢false (sym (or_right (same_clause c d) (list_any (same_clause c) live) g) ∙ h)) in
-          search (rules, copies-cons, (none_alive c live rest))
-    ]
+none_alive c (d ∷ live) h = elim (cases_Bool (same_clause c d)) [
+  | inl e ↦ cc
+  | inr e ↦
+      let rest : list_any (same_clause c) live ≡ false = false_from_ne_true _ (λ g. true≢false (sym (or_right (same_clause c d) (list_any (same_clause c) live) g) ∙ h)) in
+      search (rules, copies-cons, (none_alive c live rest))
+]
 
 pub copies_alive : (c : Clause) (live : List Clause) → 0 < copies_of c live → list_any (same_clause c) live ≡ true
 copies_alive c live h = elim (cases_Bool (list_any (same_clause c) live)) [ inl e ↦ e | inr e ↦ absurd (omega (arith, none_alive c live e)) ]
 
 pub alive_at : (c : Clause) (live : List Clause) → list_any (same_clause c) live ≡ true → (j : ℕ) × (d : Clause) × (slice_get live j ≡ Some d) × (same_clause c d ≡ true)
 alive_at c [] h = absurd (false≢true h)
-alive_at c (d ∷ live) h =
-    elim (or_cases (same_clause c d) (list_any (same_clause c) live) h) [
-      | inl e ↦ (zero, d, refl, e)
-      | inr g ↦ let w = alive_at c live g in (suc w.0, w.1, w.2, w.3)
-    ]
+alive_at c (d ∷ live) h = elim (or_cases (same_clause c d) (list_any (same_clause c) live) h) [
+  | inl e ↦ (zero, d, refl, e)
+  | inr g ↦ let w = alive_at c live g in (suc w.0, w.1, w.2, w.3)
+]
 
 pub at_alive : (live : List Clause) (k : ℕ) (d : Clause) → slice_get live k ≡ Some d → list_any (same_clause d) live ≡ true
 at_alive [] k d at = absurd (none-some d at)
@@ -76,19 +69,18 @@ taken ec ed cd x y h h2 h3 = search rules
 
 pub copies-take_off : (e c : Clause) (live : List Clause) → copies_of e (take_off c live) ≡ copies_of e live - cond (same_clause e c) 1 0
 copies-take_off e c [] = omega arith
-copies-take_off e c (d ∷ live) =
-    grind (
-      arith,
-      common_steps,
-      nat_tests,
-      taken,
-      both_pass,
-      same_trans,
-      same_symm,
-      true≢false,
-      copies-cons,
-      (copies-take_off e c live),
-    )
+copies-take_off e c (d ∷ live) = grind (
+  arith,
+  common_steps,
+  nat_tests,
+  taken,
+  both_pass,
+  same_trans,
+  same_symm,
+  true≢false,
+  copies-cons,
+  (copies-take_off e c live),
+)
 
 taken_off_same : (first second : List Clause) (c : Clause) → SameLive first second → SameLive (take_off c first) (take_off c second)
 taken_off_same first second c same = search (rules, copies-take_off)
@@ -113,8 +105,7 @@ covers_of first second same k c at =
 
 -- the complements of clauses that include one another
 complements_more : (live : Live) (c d : Clause) → ((l : Literal) → has c l ≡ true → has d l ≡ true) → HasRup live c → HasRup live d
-complements_more live c d inside rup =
-    clash_through live (complements c) (complements d)
+complements_more live c d inside rup = clash_through live (complements c) (complements d)
     (λ a member. forced_assumed live (complements d) a (subst (λ x. has (complements d) x ≡ true) (complement-complement a) (has-complements d (complement a) (inside (complement a) (complements_has c a member))))) rup
 
 pub rat_covers : (first second : Live) → Covers first second → Covers second first → (c : Clause) (pivot : Literal) → HasRat first c pivot → HasRat second c pivot

@@ -1,14 +1,13 @@
 -- Lists with as many copies of each clause have the same sum of sizes.
-use Rattle.std.proofs.Common.{◌≡◌, ℕ, ◌+◌, ◌-◌, ◌<◌, true, cond, List, []}
-use Rattle.std.proofs.Common.{◌∷◌, refl, sym, ap, ◌∙◌, inl, inr, arith, rules}
-use Rattle.std.specs.Prelude.{sum_by}
-use Rattle.std.specs.List.{list_any}
+use Rattle.std.proofs.Common.{◌≡◌, ℕ, ◌+◌, ◌-◌, ◌<◌, true, cond, List, [], ◌∷◌, refl, sym, ap, ◌∙◌}
+use Rattle.std.proofs.Common.{inl, inr, arith, rules}
 use Rattle.std.proofs.lemmas.Bool.{false≢true, cases_Bool, or_cases, both_ways}
 use Rattle.std.proofs.lemmas.List.Sums.{sum_by-cons}
+use Rattle.std.specs.{Prelude.sum_by, List.list_any}
 use Rattle.cnf_base.specs.Literals.{Clause, same_clause, size}
+use Rattle.cnf_base.proofs.SetLemmas.{same_itself}
 use Rattle.theory.specs.Drat.{take_off, copies_of, SameLive}
 use Rattle.theory.proofs.DratLemmas.Copies.{copies-cons, copies-take_off, copies_alive}
-use Rattle.cnf_base.proofs.SetLemmas.{same_itself}
 use Rattle.theory.proofs.LawLemmas.Sizes.{size_same}
 
 -- taking a clause off leaves less by its size

@@ -1,33 +1,28 @@
 -- Each step of a DRAT proof has an answer: whether propagation clashes can be decided.
-use Rattle.std.proofs.Common.{◌≡◌, ℕ, zero, suc, ◌<◌, ◌≤◌, true, false}
-use Rattle.std.proofs.Common.{Option, Some, Ok, Err, List, [], ◌∷◌, ◌++◌, slice_get, refl}
-use Rattle.std.proofs.Common.{sym, ◌∙◌, subst, inl, inr, ◌⊎◌, arith, rules}
+use Rattle.std.proofs.Common.{◌≡◌, ℕ, zero, suc, ◌<◌, ◌≤◌, true, false, Option, Some, Ok, Err, List}
+use Rattle.std.proofs.Common.{[], ◌∷◌, ◌++◌, slice_get, refl, sym, ◌∙◌, subst, inl, inr, ◌⊎◌, arith}
+use Rattle.std.proofs.Common.{rules}
+use Rattle.std.proofs.lemmas.{Bool.true≢false, Bool.cases_Bool, Option.none-some}
 use Rattle.std.specs.List.{list_any}
-use Rattle.std.proofs.lemmas.Bool.{true≢false, cases_Bool}
-use Rattle.std.proofs.lemmas.Option.{none-some}
 use Rattle.theory.specs.declared.accepted.Accepted.TheVariants.{Rup, Rat, Pr, Empty, Deleted}
 use Rattle.theory.specs.declared.accepted.Accepted.TheVariants.{Ignored}
 use Rattle.theory.specs.declared.refusal.Refusal.TheVariants.{NotRup, NeitherRupNorRat, NotAlive}
 use Rattle.theory.specs.declared.refusal.Refusal.TheVariants.{InconsistentSet, NeitherRupNorPr}
-use Rattle.cnf_base.specs.Literals.{Literal, complement, Clause, has, complements, without}
-use Rattle.cnf_base.specs.Literals.{same_clause}
+use Rattle.theory.specs.declared.drat_rules.DratRules.{DratRules}
 use Rattle.theory.specs.Propagation.{Clash, HasRup, HasRat, HasPr, open_literals}
-use Rattle.theory.specs.Answers.{StepAnswer}
-use Rattle.theory.specs.Drat.{DratStep, add, delete, AnswersAdd, AnswersDelete, AnswersDrat}
-use Rattle.theory.specs.Drat.{AnswersWithWitness, IsKeptUnit}
-use Rattle.theory.specs.Sets.{conflicts}
-use Rattle.theory.specs.Code.Sets.{lacking}
-use Rattle.cnf_base.proofs.SetLemmas.{any_from, any_some}
-use Rattle.theory.proofs.PropagationLemmas.Forced.{forced_assumed}
-use Rattle.theory.proofs.PropagationLemmas.Conflicts.{not_both}
+use Rattle.theory.specs.{Answers.StepAnswer, Drat.DratStep, Drat.add, Drat.delete, Drat.AnswersAdd}
+use Rattle.theory.specs.{Drat.AnswersDelete, Drat.AnswersDrat, Drat.AnswersWithWitness}
+use Rattle.theory.specs.{Drat.IsKeptUnit, Sets.conflicts, Code.Sets.lacking}
+use Rattle.theory.proofs.PropagationLemmas.{Forced.forced_assumed, Conflicts.not_both}
 use Rattle.theory.proofs.PropagationLemmas.Open.{IsAlone, open_has}
-use Rattle.theory.proofs.PropagationLemmas.Unit.{clash_of_conflict, none_left_clashes}
-use Rattle.theory.proofs.PropagationLemmas.Unit.{closed_quiet}
+use Rattle.theory.proofs.PropagationLemmas.Unit.{clash_of_conflict, none_left_clashes, closed_quiet}
 use Rattle.theory.proofs.LawLemmas.Scans.{Found, all_false, one_left, none_new, scan, IsPart}
 use Rattle.theory.proofs.LawLemmas.Scans.{part_more}
 use Rattle.theory.proofs.LawLemmas.Growth.{IsDecided, lacking_more, all_literals, has-all_literals}
 use Rattle.theory.proofs.LawLemmas.Reasons.{reason_decided}
-use Rattle.theory.specs.declared.drat_rules.DratRules.{DratRules}
+use Rattle.cnf_base.specs.Literals.{Literal, complement, Clause, has, complements, without}
+use Rattle.cnf_base.specs.Literals.{same_clause}
+use Rattle.cnf_base.proofs.SetLemmas.{any_from, any_some}
 
 -- ---- Clashes
 

@@ -1,11 +1,9 @@
 -- Each step has an answer, under either rule.
-use Rattle.std.proofs.Common.{◌≡◌, ℕ, suc, ◌<◌, ◌≤◌, max, not, ◌&&◌, eqb}
-use Rattle.std.proofs.Common.{nat_le, Bool, true, false, ◌⊎◌, inl, inr, Option, None, Some}
-use Rattle.std.proofs.Common.{List, [], ◌∷◌, length, slice_get, refl, ap, ◌∙◌}
-use Rattle.std.proofs.Common.{arith, Ok, Err, rules}
-use Rattle.std.specs.Bool.{MatchBool}
-use Rattle.std.specs.List.{list_any}
+use Rattle.std.proofs.Common.{◌≡◌, ℕ, suc, ◌<◌, ◌≤◌, max, not, ◌&&◌, eqb, nat_le, Bool, true, false}
+use Rattle.std.proofs.Common.{◌⊎◌, inl, inr, Option, None, Some, List, [], ◌∷◌, length, slice_get}
+use Rattle.std.proofs.Common.{refl, ap, ◌∙◌, arith, Ok, Err, rules}
 use Rattle.std.proofs.lemmas.Bool.{cases_lt, cases_eq}
+use Rattle.std.specs.{Bool.MatchBool, List.list_any}
 use Rattle.cnf_base.specs.Literals.{Literal, Clause, complements}
 use Rattle.proofs.specs.Steps.{Step}
 use Rattle.theory.specs.declared.accepted.Accepted.{Accepted}
@@ -13,9 +11,7 @@ use Rattle.theory.specs.declared.accepted.Accepted.TheVariants.{Rup, Rat, Empty}
 use Rattle.theory.specs.declared.refusal.Refusal.{Refusal}
 use Rattle.theory.specs.declared.refusal.Refusal.TheVariants.{IdOutOfOrder, UnknownId, NotUnit}
 use Rattle.theory.specs.declared.refusal.Refusal.TheVariants.{NoConflict, Unnamed}
-use Rattle.theory.specs.Propagation.{Live}
-use Rattle.theory.specs.Answers.{StepAnswer}
-use Rattle.theory.specs.Drat.{drat_step}
+use Rattle.theory.specs.{Propagation.Live, Answers.StepAnswer, Drat.drat_step}
 use Rattle.theory.specs.Lrat.{ChainEnd, conflict, open_with, unknown, not_unit, chain, Group}
 use Rattle.theory.specs.Lrat.{LratStep, add, delete, LratState, groups_refusal, is_unsettled}
 use Rattle.theory.specs.Lrat.{is_left_out, AnswersGroups, AnswersChain, AnswersLrat, after_lrat}
@@ -23,8 +19,7 @@ use Rattle.theory.specs.Lrat.{lrat_step, without_id, without_ids, deletion_refus
 use Rattle.theory.specs.Lrat.{numbered}
 use Rattle.theory.specs.Rules.{Rule, lrat, drat, State, by_ids, by_copies, start, Answers, after}
 use Rattle.theory.specs.Rules.{Same, IsFiniteMap, IsFinite}
-use Rattle.theory.proofs.LawLemmas.Deciding.{drat_answer}
-use Rattle.theory.proofs.LratLemmas.Sums.{with_other}
+use Rattle.theory.proofs.{LawLemmas.Deciding.drat_answer, LratLemmas.Sums.with_other}
 
 -- the lowest number up to a bound that passes, if one does
 lowest : (p : ℕ → Bool) (n : ℕ) → ((k : ℕ) → k < n → p k ≡ false) ⊎ ((k : ℕ) × (p k ≡ true) × ((j : ℕ) → j < k → p j ≡ false))

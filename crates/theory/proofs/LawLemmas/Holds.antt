@@ -1,6 +1,5 @@
 -- What an assignment says of a complement.
-use Rattle.std.proofs.Common.{◌≡◌, not, arith}
-use Rattle.std.proofs.lemmas.Bool.Decides.{nat_tests}
+use Rattle.std.proofs.{Common.◌≡◌, Common.not, Common.arith, lemmas.Bool.Decides.nat_tests}
 use Rattle.cnf_base.specs.Literals.{Literal, complement}
 use Rattle.theory.specs.Models.{Assignment, holds}
 

@@ -1,13 +1,11 @@
 -- Accepted steps keep satisfiability, and a verified formula has no model.
-use Rattle.std.proofs.Common.{◌≡◌, ℕ, zero, suc, true, false, cond, Some, Ok}
-use Rattle.std.proofs.Common.{List, [], ◌∷◌, slice_get, arith, rules}
-use Rattle.std.proofs.lemmas.Option.{none-some}
-use Rattle.std.proofs.lemmas.Bool.{false≢true}
+use Rattle.std.proofs.Common.{◌≡◌, ℕ, zero, suc, true, false, cond, Some, Ok, List, [], ◌∷◌}
+use Rattle.std.proofs.Common.{slice_get, arith, rules}
+use Rattle.std.proofs.lemmas.{Option.none-some, Bool.false≢true}
 use Rattle.theory.specs.declared.accepted.Accepted.{Accepted}
 use Rattle.theory.specs.declared.accepted.Accepted.TheVariants.{Rup, Rat, Pr, Empty, Deleted}
 use Rattle.theory.specs.declared.accepted.Accepted.TheVariants.{Ignored}
-use Rattle.cnf_base.specs.Literals.{Literal, Clause, same_clause}
-use Rattle.theory.specs.Propagation.{Live}
+use Rattle.theory.specs.{declared.drat_rules.DratRules.DratRules, Propagation.Live}
 use Rattle.theory.specs.Models.{Assignment, satisfies, Models, HasModel}
 use Rattle.theory.specs.Drat.{DratStep, add, delete, AnswersAdd, AnswersDrat, AnswersListed}
 use Rattle.theory.specs.Drat.{take_off, after_drat}
@@ -16,7 +14,7 @@ use Rattle.theory.specs.Lrat.{AnswersLrat, after_lrat, with_clause, without_id, 
 use Rattle.theory.specs.Laws.{IsRedundant}
 use Rattle.theory.proofs.LawLemmas.Truth.{rup_true, rat_keeps, pr_keeps, HasModelWith}
 use Rattle.theory.proofs.LratLemmas.Steps.{lrat_redundant, deletion_word}
-use Rattle.theory.specs.declared.drat_rules.DratRules.{DratRules}
+use Rattle.cnf_base.specs.Literals.{Literal, Clause, same_clause}
 
 -- a clause that was accepted is true in some model of those before it
 redundant_keeps : (live : Live) (c : List Literal) (word : Accepted) → IsRedundant live c word → HasModel live → HasModelWith live c

@@ -4,8 +4,7 @@ use Rattle.std.proofs.lemmas.Bool.{cases_eq}
 use Rattle.cnf_base.specs.Literals.{Literal, Clause, complement, has}
 use Rattle.cnf_base.proofs.SetLemmas.{same_itself}
 use Rattle.proofs.specs.Steps.{Step}
-use Rattle.theory.specs.Drat.{take_off, SameLive, delete}
-use Rattle.theory.specs.Laws.{LostWithReason}
+use Rattle.theory.specs.{Drat.take_off, Drat.SameLive, Drat.delete, Laws.LostWithReason}
 use Rattle.theory.specs.Losses.{LosesLiteral, LosesRootLiteral, DeleteLoses, StepLoses, HasLost}
 use Rattle.theory.specs.Propagation.{Live, Forced, Clash, IsRootReason, by_both}
 use Rattle.theory.specs.Rules.{State, by_copies, by_ids, after, Same}
@@ -14,9 +13,9 @@ use Rattle.theory.specs.declared.accepted.Accepted.TheVariants.{Rup, Rat, Pr, Em
 use Rattle.theory.specs.declared.accepted.Accepted.TheVariants.{Ignored}
 use Rattle.theory.proofs.DratLemmas.Copies.{covers_of, after_same as after_drat_same}
 use Rattle.theory.proofs.LawLemmas.KeptUnits.{forced_still, forced_without}
-use Rattle.theory.proofs.LawLemmas.Reasons.{reason_decided}
-use Rattle.theory.proofs.LawLemmas.Rules.{after_same}
-use Rattle.theory.proofs.PropagationLemmas.Covers.{Covers, forced_covers, clash_covers, reason_covers}
+use Rattle.theory.proofs.LawLemmas.{Reasons.reason_decided, Rules.after_same}
+use Rattle.theory.proofs.PropagationLemmas.Covers.{Covers, forced_covers, clash_covers}
+use Rattle.theory.proofs.PropagationLemmas.Covers.{reason_covers}
 
 -- ---- One deletion, where nothing clashes
 

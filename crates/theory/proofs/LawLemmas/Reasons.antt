@@ -1,16 +1,15 @@
 -- Whether a clause makes a literal hold for good can be decided: what follows with nothing assumed is a list, past a clash too.
-use Rattle.std.proofs.Common.{◌≡◌, ℕ, zero, suc, ◌≤◌, Bool, true, false, not}
-use Rattle.std.proofs.Common.{◌||◌, ◌&&◌, eqb, eqb-true, eq-eqb, Some, List, [], ◌∷◌}
-use Rattle.std.proofs.Common.{slice_get, refl, sym, ◌∙◌, inl, inr, arith, rules}
-use Rattle.std.specs.List.{list_any, list_all}
-use Rattle.std.proofs.lemmas.Bool.{false≢true, true≢false, cases_Bool, cases_eq, or_cases}
-use Rattle.std.proofs.lemmas.Bool.{or_left, or_right, and_parts, and_from, not-true, not_from_false}
+use Rattle.std.proofs.Common.{◌≡◌, ℕ, zero, suc, ◌≤◌, Bool, true, false, not, ◌||◌, ◌&&◌, eqb}
+use Rattle.std.proofs.Common.{eqb-true, eq-eqb, Some, List, [], ◌∷◌, slice_get, refl, sym, ◌∙◌, inl}
+use Rattle.std.proofs.Common.{inr, arith, rules}
+use Rattle.std.proofs.lemmas.Bool.{false≢true, true≢false, cases_Bool, cases_eq, or_cases, or_left}
+use Rattle.std.proofs.lemmas.Bool.{or_right, and_parts, and_from, not-true, not_from_false}
 use Rattle.std.proofs.lemmas.Option.{none-some}
+use Rattle.std.specs.List.{list_any, list_all}
 use Rattle.cnf_base.specs.Literals.{Literal, complement, Clause, has}
 use Rattle.cnf_base.proofs.SetLemmas.{any_from, any_some, all_each, each_all}
-use Rattle.theory.specs.Code.Propagation.{OthersFail, IsClosedAt}
+use Rattle.theory.specs.Code.{Propagation.OthersFail, Propagation.IsClosedAt, Sets.lacking}
 use Rattle.theory.specs.Propagation.{Live, IsClosed, Forced, IsRootReason}
-use Rattle.theory.specs.Code.Sets.{lacking}
 use Rattle.theory.proofs.LawLemmas.Growth.{IsDecided, lacking_more, all_literals, has-all_literals}
 
 -- ---- One clause

@@ -1,24 +1,18 @@
 -- What both rules share: answers, states and sums depend only on the clauses.
-use Rattle.std.proofs.Common.{◌≡◌, Ok, List, slice_get}
-use Rattle.std.proofs.Common.{◌∙◌, subst, arith, rules}
+use Rattle.std.proofs.Common.{◌≡◌, Ok, List, slice_get, ◌∙◌, subst, arith, rules}
 use Rattle.cnf_base.specs.Literals.{Clause}
 use Rattle.proofs.specs.Steps.{Step}
-use Rattle.theory.specs.declared.accepted.Accepted.{Accepted}
-use Rattle.theory.specs.declared.accepted.Accepted.TheVariants.{Empty}
-use Rattle.theory.specs.Answers.{StepAnswer}
-use Rattle.theory.specs.Drat.{SameLive, after_drat, drat_step}
-use Rattle.theory.specs.Lrat.{lrat_step}
-use Rattle.theory.specs.Rules.{State, by_ids, by_copies, Answers, after, sum_of, Same}
-use Rattle.theory.specs.Rules.{IsSatisfiable, Rule, start}
-use Rattle.theory.specs.Models.{HasModel}
+use Rattle.theory.specs.declared.accepted.Accepted.{Accepted, TheVariants.Empty}
+use Rattle.theory.specs.{Answers.StepAnswer, Drat.SameLive, Drat.after_drat, Drat.drat_step}
+use Rattle.theory.specs.{Lrat.lrat_step, Rules.State, Rules.by_ids, Rules.by_copies, Rules.Answers}
+use Rattle.theory.specs.{Rules.after, Rules.sum_of, Rules.Same, Rules.IsSatisfiable, Rules.Rule}
+use Rattle.theory.specs.{Rules.start, Models.HasModel}
 use Rattle.theory.proofs.LawLemmas.Keeping.{lrat_keeps, drat_keeps, lrat_refutes, drat_refutes}
 use Rattle.theory.proofs.LawLemmas.Uniqueness.{drat_unique, lrat_unique}
+use Rattle.theory.proofs.{LawLemmas.Sizes.total_same, DratLemmas.Copies.drat_same}
+use Rattle.theory.proofs.{DratLemmas.CopySums.sums_same, LratLemmas.LiveSets.SameClauses-trans}
 use Rattle.theory.proofs.DratLemmas.Copies as copies
-use Rattle.theory.proofs.DratLemmas.Copies.{drat_same}
-use Rattle.theory.proofs.DratLemmas.CopySums.{sums_same}
-use Rattle.theory.proofs.LratLemmas.LiveSets.{SameClauses-trans}
 use Rattle.theory.proofs.LratLemmas.States as ids
-use Rattle.theory.proofs.LawLemmas.Sizes.{total_same}
 
 pub answers_same : (s t : State) (step : Step) (answer : StepAnswer) → Same s t → Answers s step answer → Answers t step answer
 answers_same (by_ids s) (by_ids t) step answer same a = ids.answers_same s t (lrat_step step) answer (record { live = same.0; top = same.1 }) a

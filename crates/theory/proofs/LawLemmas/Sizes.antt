@@ -3,8 +3,7 @@ use Rattle.std.proofs.Common.{◌≡◌, true, Option, rules}
 use Rattle.cnf_base.specs.Literals.{Clause, same_clause, size}
 use Rattle.cnf_base.proofs.SetLemmas.{same_there, same_back}
 use Rattle.cnf_base.proofs.SizeLemmas.{size_same as by_sets}
-use Rattle.theory.specs.Lrat.{LratState, SameAt, SameClauses}
-use Rattle.theory.specs.Sizes.{size_at, total}
+use Rattle.theory.specs.{Lrat.LratState, Lrat.SameAt, Lrat.SameClauses, Sizes.size_at, Sizes.total}
 use Rattle.theory.proofs.LratLemmas.Sums.{sum_agree}
 
 pub size_same : (c d : Clause) → same_clause c d ≡ true → size c ≡ size d

@@ -1,17 +1,16 @@
 -- What is true under an assignment, and the assignment that makes a witness true.
-use Rattle.std.proofs.Common.{◌≡◌, ◌≢◌, ℕ, ◌+◌, ◌*◌, ◌/◌, Bool}
-use Rattle.std.proofs.Common.{true, false, not, ◌||◌, cond, Some, List, [], ◌∷◌, ◌++◌}
-use Rattle.std.proofs.Common.{sym, ap, ◌∙◌, inl, inr, if◌then◌else◌}
-use Rattle.std.proofs.Common.{ne_eqb, rules, arith}
+use Rattle.std.proofs.Common.{◌≡◌, ◌≢◌, ℕ, ◌+◌, ◌*◌, ◌/◌, Bool, true, false, not, ◌||◌, cond, Some}
+use Rattle.std.proofs.Common.{List, [], ◌∷◌, ◌++◌, sym, ap, ◌∙◌, inl, inr, if◌then◌else◌, ne_eqb}
+use Rattle.std.proofs.Common.{rules, arith}
 use Rattle.std.proofs.lemmas.Bool.{false≢true, true≢false, cases_Bool, cases_eq, not-true}
 use Rattle.cnf_base.specs.Literals.{Literal, complement, Clause, has, complements, without}
+use Rattle.cnf_base.proofs.LiteralLemmas.{complement-complement, complement-other}
+use Rattle.cnf_base.proofs.SetLemmas.{has_head, any_from, any_some, any_none, has_append_cases}
+use Rattle.cnf_base.proofs.SetLemmas.{complements_has, without_has, filter_has}
 use Rattle.theory.specs.Propagation.{Live, IsClosed, Forced, Clash, HasRup, HasRat, HasPr}
 use Rattle.theory.specs.Propagation.{open_literals, by_empty, by_both}
 use Rattle.theory.specs.Models.{Assignment, holds, satisfies, Models}
-use Rattle.cnf_base.proofs.LiteralLemmas.{complement-complement, complement-other}
 use Rattle.theory.proofs.LawLemmas.Holds.{holds-complement}
-use Rattle.cnf_base.proofs.SetLemmas.{has_head, any_from, any_some, any_none, has_append_cases}
-use Rattle.cnf_base.proofs.SetLemmas.{complements_has, without_has, filter_has}
 
 pub complement_false : (v : Assignment) (l : Literal) → holds v l ≡ true → holds v (complement l) ≡ true → ⊥
 complement_false v l h g = true≢false (sym g ∙ holds-complement v l ∙ ap not h)
@@ -62,11 +61,10 @@ parity l = search rules
 
 pub override_true : (v : Assignment) (witness : List Literal) (l : Literal) → has witness l ≡ true → has witness (complement l) ≡ false → holds (override v witness) l ≡ true
 unfolding override
-override_true v witness l member absent =
-    elim (parity l) [
-      | even at other value ↦ search rules
-      | odd at other value ↦ search rules
-    ]
+override_true v witness l member absent = elim (parity l) [
+  | even at other value ↦ search rules
+  | odd at other value ↦ search rules
+]
   where
     made_even : (a b x : Bool) → a ≡ true → cond a true (cond b false x) ≡ true
     made_even a b x h = cc
@@ -76,11 +74,10 @@ override_true v witness l member absent =
 
 pub override_keeps : (v : Assignment) (witness : List Literal) (l : Literal) → holds v l ≡ true → has witness (complement l) ≡ false → holds (override v witness) l ≡ true
 unfolding override
-override_keeps v witness l h absent =
-    elim (parity l) [
-      | even at other value ↦ search rules
-      | odd at other value ↦ search rules
-    ]
+override_keeps v witness l h absent = elim (parity l) [
+  | even at other value ↦ search rules
+  | odd at other value ↦ search rules
+]
   where
     kept_even : (a b x : Bool) → b ≡ false → x ≡ true → cond a true (cond b false x) ≡ true
     kept_even a b x h h2 = search rules
@@ -100,21 +97,19 @@ pr_keeps v live c witness models pr =
     elim (cases_Bool (satisfies v c)) [ inl e ↦ (v, models, e) | inr e ↦ (override v witness, kept e, any_from _ c pr.meets.0 pr.meets.1 (override_true v witness pr.meets.0 pr.meets.2 (pr.consistent pr.meets.0 pr.meets.2))) ]
   where
     in_rest : satisfies v c ≡ false → (d : Clause) → (l : Literal) → has (c ++ open_literals witness d) l ≡ true → holds v l ≡ true → (has d l ≡ true) × (has witness (complement l) ≡ false)
-    in_rest fails d l member h =
-        elim (has_append_cases c (open_literals witness d) l member) [
-          | inl g ↦ absurd (true≢false (sym h ∙ any_none (holds v) c l fails g))
-          | inr g ↦ search (rules, arith, filter_has, not-true)
-        ]
+    in_rest fails d l member h = elim (has_append_cases c (open_literals witness d) l member) [
+      | inl g ↦ absurd (true≢false (sym h ∙ any_none (holds v) c l fails g))
+      | inr g ↦ search (rules, arith, filter_has, not-true)
+    ]
 
     kept : satisfies v c ≡ false → Models (override v witness) live
-    kept fails k d at =
-        elim (pr.others k d at) [
-          | inl m ↦ any_from _ d m.0 m.1 (override_true v witness m.0 m.2 (pr.consistent m.0 m.2))
-          | inr rup ↦
-              let w = any_some (holds v) (c ++ open_literals witness d) (rup_true v live _ models rup) in
-              let r = in_rest fails d w.0 w.1 w.2 in
-              any_from _ d w.0 r.0 (override_keeps v witness w.0 w.2 r.1)
-        ]
+    kept fails k d at = elim (pr.others k d at) [
+      | inl m ↦ any_from _ d m.0 m.1 (override_true v witness m.0 m.2 (pr.consistent m.0 m.2))
+      | inr rup ↦
+          let w = any_some (holds v) (c ++ open_literals witness d) (rup_true v live _ models rup) in
+          let r = in_rest fails d w.0 w.1 w.2 in
+          any_from _ d w.0 r.0 (override_keeps v witness w.0 w.2 r.1)
+    ]
 
 -- the same for RAT, where the pivot is made true
 pub rat_keeps : (v : Assignment) (live : Live) (c : Clause) (pivot : Literal) → Models v live → HasRat live c pivot → HasModelWith live c
@@ -131,20 +126,18 @@ rat_keeps v live c pivot models rat =
     made_true = search (rules, arith, override_true, has_head, other, complement-other)
 
     in_rest : satisfies v c ≡ false → (d : Clause) (l : Literal) → has (c ++ without d (complement pivot)) l ≡ true → holds v l ≡ true → (has d l ≡ true) × (pivot ≢ complement l)
-    in_rest fails d l member h =
-        elim (has_append_cases c (without d (complement pivot)) l member) [
-          | inl g ↦ absurd (true≢false (sym h ∙ any_none (holds v) c l fails g))
-          | inr g ↦ search (rules, arith, without_has, complement-complement)
-        ]
+    in_rest fails d l member h = elim (has_append_cases c (without d (complement pivot)) l member) [
+      | inl g ↦ absurd (true≢false (sym h ∙ any_none (holds v) c l fails g))
+      | inr g ↦ search (rules, arith, without_has, complement-complement)
+    ]
 
     kept : satisfies v c ≡ false → Models changed live
-    kept fails k d at =
-        elim (cases_Bool (has d (complement pivot))) [
-          | inl member ↦
-              let w = any_some (holds v) (c ++ without d (complement pivot)) (rup_true v live _ models (rat.candidates k d at member)) in
-              let r = in_rest fails d w.0 w.1 w.2 in
-              any_from _ d w.0 r.0 (override_keeps v (pivot ∷ []) w.0 w.2 (other w.0 r.1))
-          | inr absent ↦
-              let w = any_some (holds v) d (models k d at) in
-              search (rules, any_from, override_keeps, true≢false, complement-complement)
-        ]
+    kept fails k d at = elim (cases_Bool (has d (complement pivot))) [
+      | inl member ↦
+          let w = any_some (holds v) (c ++ without d (complement pivot)) (rup_true v live _ models (rat.candidates k d at member)) in
+          let r = in_rest fails d w.0 w.1 w.2 in
+          any_from _ d w.0 r.0 (override_keeps v (pivot ∷ []) w.0 w.2 (other w.0 r.1))
+      | inr absent ↦
+          let w = any_some (holds v) d (models k d at) in
+          search (rules, any_from, override_keeps, true≢false, complement-complement)
+    ]

@@ -1,7 +1,6 @@
 -- A step has at most one answer, under each rule.
-use Rattle.std.proofs.Common.{◌≡◌, ℕ, ◌<◌, Bool, true, false, nat_le}
-use Rattle.std.proofs.Common.{Ok, Err, List, [], ◌∷◌, slice_get, refl, sym, ap}
-use Rattle.std.proofs.Common.{◌∙◌, arith, rules}
+use Rattle.std.proofs.Common.{◌≡◌, ℕ, ◌<◌, Bool, true, false, nat_le, Ok, Err, List, [], ◌∷◌}
+use Rattle.std.proofs.Common.{slice_get, refl, sym, ap, ◌∙◌, arith, rules}
 use Rattle.std.proofs.lemmas.Bool.{true≢false, cases_Bool}
 use Rattle.std.specs.List.{list_any}
 use Rattle.theory.specs.declared.accepted.Accepted.TheVariants.{Rup, Rat, Pr, Empty, Deleted}
@@ -9,16 +8,15 @@ use Rattle.theory.specs.declared.accepted.Accepted.TheVariants.{Ignored}
 use Rattle.theory.specs.declared.refusal.Refusal.TheVariants.{NotRup, NeitherRupNorRat, NotAlive}
 use Rattle.theory.specs.declared.refusal.Refusal.TheVariants.{InconsistentSet, NeitherRupNorPr}
 use Rattle.theory.specs.declared.refusal.Refusal.TheVariants.{Unnamed}
-use Rattle.cnf_base.specs.Literals.{Literal, Clause, same_clause}
+use Rattle.theory.specs.declared.drat_rules.DratRules.{DratRules}
 use Rattle.theory.specs.Propagation.{Live, HasRup, HasRat, HasPr}
 use Rattle.theory.specs.Answers.{StepAnswer}
-use Rattle.theory.specs.Drat.{DratStep, add, delete, AnswersAdd, AnswersDelete, AnswersDrat}
-use Rattle.theory.specs.Drat.{AnswersWithWitness, IsKeptUnit}
-use Rattle.theory.specs.Sets.{conflicts}
+use Rattle.theory.specs.{Drat.DratStep, Drat.add, Drat.delete, Drat.AnswersAdd, Drat.AnswersDelete}
+use Rattle.theory.specs.{Drat.AnswersDrat, Drat.AnswersWithWitness, Drat.IsKeptUnit, Sets.conflicts}
 use Rattle.theory.specs.Lrat.{LratState, LratStep, add as add_lrat, delete as delete_lrat, Group}
-use Rattle.theory.specs.Lrat.{ChainEnd, conflict, open_with, unknown, not_unit}
-use Rattle.theory.specs.Lrat.{AnswersChain, AnswersLrat}
-use Rattle.theory.specs.declared.drat_rules.DratRules.{DratRules}
+use Rattle.theory.specs.Lrat.{ChainEnd, conflict, open_with, unknown, not_unit, AnswersChain}
+use Rattle.theory.specs.Lrat.{AnswersLrat}
+use Rattle.cnf_base.specs.Literals.{Literal, Clause, same_clause}
 
 -- ---- DRAT
 

@@ -1,23 +1,19 @@
 -- A proof has one verdict, which depends on the clauses alone, and a verified formula has no model.
-use Rattle.std.proofs.Common.{◌≡◌, zero, suc, Bool, true, false, Ok, Err, List, [], ◌∷◌}
-use Rattle.std.proofs.Common.{slice_get, refl, sym, ap, ◌∙◌, subst, inl, inr, rules}
-use Rattle.std.specs.Bool.{MatchBool}
-use Rattle.std.specs.List.{list_any}
+use Rattle.std.proofs.Common.{◌≡◌, zero, suc, Bool, true, false, Ok, Err, List, [], ◌∷◌, slice_get}
+use Rattle.std.proofs.Common.{refl, sym, ap, ◌∙◌, subst, inl, inr, rules}
 use Rattle.std.proofs.lemmas.Bool.{false≢true, cases_Bool, MatchBool-at_false}
+use Rattle.std.specs.{Bool.MatchBool, List.list_any}
 use Rattle.cnf_base.specs.Literals.{Clause}
 use Rattle.proofs.specs.Steps.{Step}
-use Rattle.theory.specs.declared.accepted.Accepted.{Accepted}
-use Rattle.theory.specs.declared.accepted.Accepted.TheVariants.{Empty}
-use Rattle.theory.specs.declared.refusal.Refusal.{Refusal}
-use Rattle.theory.specs.Answers.{StepAnswer}
-use Rattle.theory.specs.Models.{HasModel}
+use Rattle.theory.specs.declared.accepted.Accepted.{Accepted, TheVariants.Empty}
+use Rattle.theory.specs.{declared.refusal.Refusal.Refusal, Answers.StepAnswer, Models.HasModel}
 use Rattle.theory.specs.Rules.{Rule, State, start, Answers, after, Same, IsSatisfiable, IsFinite}
 use Rattle.theory.specs.Verdicts.{Ending, verified, refused, no_empty_clause, is_last, Ends}
 use Rattle.theory.specs.Verdicts.{is_empty, Verdict}
 use Rattle.theory.proofs.LawLemmas.Existence.{some_answer, after_finite, start_finite}
-use Rattle.theory.proofs.LratLemmas.Steps.{ok_is, ok_err}
 use Rattle.theory.proofs.LawLemmas.Rules.{answers_same, after_same, answer_unique, keeps, refutes}
 use Rattle.theory.proofs.LawLemmas.Rules.{started}
+use Rattle.theory.proofs.LratLemmas.Steps.{ok_is, ok_err}
 
 -- ---- The same clauses
 
@@ -25,13 +21,12 @@ pub ends_same : (steps : List Step) (words : List Accepted) (ending : Ending) (f
 ends_same [] [] ending first second same e = e
 ends_same [] (word ∷ words) ending first second same e = absurd e
 ends_same (step ∷ steps) [] ending first second same e = search (rules, answers_same)
-ends_same (step ∷ steps) (word ∷ words) ending first second same e =
-    search (
-      rules,
-      answers_same,
-      after_same,
-      (ends_same steps words ending (after first step word) (after second step word) (after_same first second step word same)),
-    )
+ends_same (step ∷ steps) (word ∷ words) ending first second same e = search (
+  rules,
+  answers_same,
+  after_same,
+  (ends_same steps words ending (after first step word) (after second step word) (after_same first second step word same)),
+)
 
 -- ---- At most one verdict
 
@@ -102,11 +97,10 @@ last_is_empty : (word : Accepted) → is_last word ≡ true → word ≡ Empty
 last_is_empty word h = search rules
 
 ends_sound : (steps : List Step) (s : State) (words : List Accepted) → Ends s steps words verified → IsSatisfiable s → ⊥
-ends_sound (step ∷ steps) s (word ∷ words) e has_model =
-    elim (cases_Bool (is_last word)) [
-      | inl last ↦ refutes s step (subst (λ w. Answers s step (Ok w)) (last_is_empty word last) e.0) has_model
-      | inr goes_on ↦ ends_sound steps (after s step word) words (MatchBool-at_false _ _ goes_on e.1) (keeps s step word e.0 has_model)
-    ]
+ends_sound (step ∷ steps) s (word ∷ words) e has_model = elim (cases_Bool (is_last word)) [
+  | inl last ↦ refutes s step (subst (λ w. Answers s step (Ok w)) (last_is_empty word last) e.0) has_model
+  | inr goes_on ↦ ends_sound steps (after s step word) words (MatchBool-at_false _ _ goes_on e.1) (keeps s step word e.0 has_model)
+]
 ends_sound steps s words h h2 = search rules
 
 empty_formula : (formula : List Clause) → list_any is_empty formula ≡ true → HasModel (slice_get formula) → ⊥

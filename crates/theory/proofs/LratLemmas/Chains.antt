@@ -1,14 +1,13 @@
 -- A walk over hints adds only literals that are forced, and a conflict in it is a clash.
-use Rattle.std.proofs.Common.{◌≡◌, ℕ, true, false, cond, eqb, Some, None, option_map, List, []}
-use Rattle.std.proofs.Common.{◌∷◌, refl, sym, subst, inl, inr}
+use Rattle.std.proofs.Common.{◌≡◌, ℕ, true, false, cond, eqb, Some, None, option_map, List, [], ◌∷◌}
+use Rattle.std.proofs.Common.{refl, sym, subst, inl, inr}
 use Rattle.std.specs.List.{list_all}
-use Rattle.theory.proofs.PropagationLemmas.Open.{IsAlone, first_alone}
-use Rattle.theory.proofs.PropagationLemmas.Unit.{clash_of_conflict, left_is_forced}
-use Rattle.theory.proofs.PropagationLemmas.Unit.{none_left_clashes}
-use Rattle.cnf_base.specs.Literals.{Literal, Clause, has}
+use Rattle.theory.proofs.PropagationLemmas.{Open.IsAlone, Open.first_alone, Unit.clash_of_conflict}
+use Rattle.theory.proofs.PropagationLemmas.{Unit.left_is_forced, Unit.none_left_clashes}
 use Rattle.theory.specs.Propagation.{Live, Forced, Clash, open_literals}
 use Rattle.theory.specs.Lrat.{ChainEnd, conflict, open_with, unknown, not_unit, look_at, chain}
 use Rattle.theory.specs.Sets.{conflicts}
+use Rattle.cnf_base.specs.Literals.{Literal, Clause, has}
 use Rattle.cnf_base.proofs.SetLemmas.{has_cases}
 
 -- what a walk's end says of the live clauses and of what is assumed

@@ -3,10 +3,8 @@ use Rattle.std.proofs.Common.{◌≡◌, ℕ, true, Option, rules}
 use Rattle.std.proofs.lemmas.Bool.{and_from}
 use Rattle.cnf_base.specs.Literals.{Clause, same_clause}
 use Rattle.cnf_base.proofs.SetLemmas.{each_all}
-use Rattle.theory.specs.Propagation.{Live}
-use Rattle.theory.specs.Lrat.{SameAt, SameClauses}
+use Rattle.theory.specs.{Propagation.Live, Lrat.SameAt, Lrat.SameClauses, Sets.SameSet}
 use Rattle.theory.proofs.LratLemmas.SameSets.{same_set_from}
-use Rattle.theory.specs.Sets.{SameSet}
 
 pub same_clause_from : (c d : Clause) → SameSet c d → same_clause c d ≡ true
 same_clause_from c d same = search (rules, and_from, each_all)

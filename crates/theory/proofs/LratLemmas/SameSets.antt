@@ -1,29 +1,26 @@
 -- The rule of LRAT depends only on the sets of the live clauses.
-use Rattle.std.proofs.Common.{◌≡◌, ℕ, Bool, true, false, ◌||◌, cond, eqb}
-use Rattle.std.proofs.Common.{nat_le, Option, Some, None, option_map, is_none, Err}
-use Rattle.std.proofs.Common.{List, [], ◌∷◌, refl, sym, ap, ◌∙◌, subst, inl, inr, rules}
-use Rattle.std.specs.Bool.{MatchBool}
-use Rattle.std.specs.List.{list_all}
+use Rattle.std.proofs.Common.{◌≡◌, ℕ, Bool, true, false, ◌||◌, cond, eqb, nat_le, Option, Some}
+use Rattle.std.proofs.Common.{None, option_map, is_none, Err, List, [], ◌∷◌, refl, sym, ap, ◌∙◌}
+use Rattle.std.proofs.Common.{subst, inl, inr, rules}
 use Rattle.std.proofs.lemmas.Bool.{false≢true, cases_Bool}
-use Rattle.theory.specs.declared.refusal.Refusal.{Refusal}
-use Rattle.theory.specs.declared.refusal.Refusal.TheVariants.{IdOutOfOrder}
-use Rattle.cnf_base.specs.Literals.{Literal, complement, Clause, has, complements, without}
-use Rattle.cnf_base.specs.Literals.{same_clause}
-use Rattle.theory.specs.Propagation.{Live, open_literals}
-use Rattle.theory.specs.Answers.{StepAnswer}
+use Rattle.std.specs.{Bool.MatchBool, List.list_all}
+use Rattle.theory.specs.declared.refusal.Refusal.{Refusal, TheVariants.IdOutOfOrder}
+use Rattle.theory.specs.{Propagation.Live, Propagation.open_literals, Answers.StepAnswer}
 use Rattle.theory.specs.Lrat.{ChainEnd, conflict, open_with, unknown, not_unit, look_at, chain}
-use Rattle.theory.specs.Lrat.{Group, LratStep, with_candidate, chain_refusal}
-use Rattle.theory.specs.Lrat.{group_refusal, groups_refusal, is_unsettled, is_left_out}
-use Rattle.theory.specs.Lrat.{AnswersGroups, AnswersChain, with_clause, without_id, without_ids}
-use Rattle.theory.specs.Lrat.{deletion_refusal, AnswersLrat, SameAt, SameClauses}
+use Rattle.theory.specs.Lrat.{Group, LratStep, with_candidate, chain_refusal, group_refusal}
+use Rattle.theory.specs.Lrat.{groups_refusal, is_unsettled, is_left_out, AnswersGroups}
+use Rattle.theory.specs.Lrat.{AnswersChain, with_clause, without_id, without_ids, deletion_refusal}
+use Rattle.theory.specs.Lrat.{AnswersLrat, SameAt, SameClauses}
 use Rattle.theory.specs.Sets.{conflicts, SameSet}
 use Rattle.theory.proofs.PropagationLemmas.Conflicts.{conflicts_same}
-use Rattle.cnf_base.proofs.SetLemmas.{both_pass, has_head, has-filter}
-use Rattle.cnf_base.proofs.SetLemmas.{filter_has, has_append_left, has_append_right}
-use Rattle.cnf_base.proofs.SetLemmas.{has_append_cases, has-complements, complements_has}
-use Rattle.cnf_base.proofs.SetLemmas.{has-without, without_has, same_there, same_back, same_symm}
-use Rattle.cnf_base.proofs.LiteralLemmas.{complement-complement}
 use Rattle.theory.proofs.PropagationLemmas.Open.{first_alone, alone_first}
+use Rattle.cnf_base.specs.Literals.{Literal, complement, Clause, has, complements, without}
+use Rattle.cnf_base.specs.Literals.{same_clause}
+use Rattle.cnf_base.proofs.SetLemmas.{both_pass, has_head, has-filter, filter_has, has_append_left}
+use Rattle.cnf_base.proofs.SetLemmas.{has_append_right, has_append_cases, has-complements}
+use Rattle.cnf_base.proofs.SetLemmas.{complements_has, has-without, without_has, same_there}
+use Rattle.cnf_base.proofs.SetLemmas.{same_back, same_symm}
+use Rattle.cnf_base.proofs.LiteralLemmas.{complement-complement}
 
 pub same_set_from : (c d : Clause) → same_clause c d ≡ true → SameSet c d
 same_set_from c d same l = search (rules, both_pass, same_there, same_back)
@@ -171,14 +168,13 @@ without_all_same (id ∷ ids) first second same = without_all_same ids (without_
 
 deletion_same : (ids : List ℕ) (first second : Live) → SameClauses first second → deletion_refusal first ids ≡ deletion_refusal second ids
 deletion_same [] first second same = refl
-deletion_same (id ∷ ids) first second same =
-    search (
-      rules,
-      is_none_same,
-      is_none,
-      without_same,
-      (deletion_same ids (without_id first id) (without_id second id) (without_same first second id same)),
-    )
+deletion_same (id ∷ ids) first second same = search (
+  rules,
+  is_none_same,
+  is_none,
+  without_same,
+  (deletion_same ids (without_id first id) (without_id second id) (without_same first second id same)),
+)
 
 pub lrat_same : (first second : Live) (top : ℕ) (step : LratStep) (answer : StepAnswer) → SameClauses first second → AnswersLrat (record { live = first; top = top }) step answer → AnswersLrat (record { live = second; top = top }) step answer
 lrat_same first second top step answer h h2 = search (rules, add_answer, nat_le, deletion_same)

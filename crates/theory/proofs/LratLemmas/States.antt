@@ -1,15 +1,12 @@
 -- States with the same clauses, and what the clauses of a formula leave.
-use Rattle.std.proofs.Common.{◌≡◌, ℕ, suc, ◌+◌, true, cond, eqb, ne_eqb}
-use Rattle.std.proofs.Common.{Some, List, [], ◌∷◌, ◌++◌, length, slice_get}
-use Rattle.std.proofs.Common.{subst, rules}
+use Rattle.std.proofs.Common.{◌≡◌, ℕ, suc, ◌+◌, true, cond, eqb, ne_eqb, Some, List, [], ◌∷◌, ◌++◌}
+use Rattle.std.proofs.Common.{length, slice_get, subst, rules}
 use Rattle.cnf_base.specs.Literals.{Clause, same_clause}
 use Rattle.cnf_base.proofs.SetLemmas.{any_from, any_some, same_itself, same_there, same_symm}
-use Rattle.theory.specs.Propagation.{Live}
-use Rattle.theory.specs.Models.{Assignment, holds, satisfies, Models, HasModel}
-use Rattle.theory.specs.Answers.{StepAnswer}
-use Rattle.theory.specs.Drat.{SameLive}
-use Rattle.theory.specs.Lrat.{LratState, LratStep, AnswersLrat, after_lrat}
-use Rattle.theory.specs.Lrat.{with_clause, numbered, SameClauses}
+use Rattle.theory.specs.{Propagation.Live, Models.Assignment, Models.holds, Models.satisfies}
+use Rattle.theory.specs.{Models.Models, Models.HasModel, Answers.StepAnswer, Drat.SameLive}
+use Rattle.theory.specs.Lrat.{LratState, LratStep, AnswersLrat, after_lrat, with_clause, numbered}
+use Rattle.theory.specs.Lrat.{SameClauses}
 use Rattle.theory.proofs.DratLemmas.Copies.{covers_of}
 use Rattle.theory.proofs.LratLemmas.SameSets.{with_same, without_all_same, lrat_same}
 

@@ -1,33 +1,27 @@
 -- What an accepted LRAT step shows.
-use Rattle.std.proofs.Common.{◌≡◌, ℕ, true, false, not, eqb, eqb-true, nat_le, Option}
-use Rattle.std.proofs.Common.{Some, None, Ok, Err, List, [], ◌∷◌, ◌++◌, sym, ap}
-use Rattle.std.proofs.Common.{◌∙◌, subst, inl, inr, arith, rules}
+use Rattle.std.proofs.Common.{◌≡◌, ℕ, true, false, not, eqb, eqb-true, nat_le, Option, Some, None}
+use Rattle.std.proofs.Common.{Ok, Err, List, [], ◌∷◌, ◌++◌, sym, ap, ◌∙◌, subst, inl, inr, arith}
+use Rattle.std.proofs.Common.{rules}
 use Rattle.std.proofs.lemmas.Bool.{false≢true, true≢false, cases_Bool, or_cases, and_cases}
 use Rattle.std.proofs.lemmas.Bool.{not-false, MatchBool-at_true, MatchBool-at_false}
-use Rattle.std.specs.Option.{option_or}
-use Rattle.std.specs.List.{list_any}
-use Rattle.std.proofs.lemmas.Grind.{common_steps}
-use Rattle.std.proofs.lemmas.Bool.Decides.{nat_tests}
-use Rattle.theory.specs.declared.accepted.Accepted.{Accepted}
-use Rattle.theory.specs.declared.accepted.Accepted.TheVariants.{Deleted}
+use Rattle.std.proofs.lemmas.{Bool.Decides.nat_tests, Grind.common_steps}
+use Rattle.std.specs.{Option.option_or, List.list_any}
+use Rattle.theory.specs.declared.accepted.Accepted.{Accepted, TheVariants.Deleted}
 use Rattle.theory.specs.declared.refusal.Refusal.{Refusal}
-use Rattle.theory.specs.declared.refusal.Refusal.TheVariants.{IdOutOfOrder}
-use Rattle.theory.specs.declared.refusal.Refusal.TheVariants.{GroupWithoutConflict}
-use Rattle.cnf_base.specs.Literals.{Literal, complement, Clause, has, complements, without}
+use Rattle.theory.specs.declared.refusal.Refusal.TheVariants.{IdOutOfOrder, GroupWithoutConflict}
 use Rattle.theory.specs.Propagation.{Live, Forced, Clash, HasRat, by_both}
 use Rattle.theory.specs.Answers.{StepAnswer}
-use Rattle.theory.specs.Lrat.{ChainEnd, conflict, chain, Group}
-use Rattle.theory.specs.Lrat.{LratState, add, with_candidate, chain_refusal, group_refusal}
-use Rattle.theory.specs.Lrat.{groups_refusal, is_unsettled, is_left_out, AnswersGroups}
-use Rattle.theory.specs.Lrat.{AnswersChain, AnswersLrat, answer_of}
-use Rattle.theory.specs.Sets.{conflicts}
-use Rattle.theory.specs.Laws.{IsRedundant}
-use Rattle.cnf_base.proofs.LiteralLemmas.{complement-complement}
-use Rattle.cnf_base.proofs.SetLemmas.{has_head, has_append_left, has_append_right, has_append_cases}
-use Rattle.cnf_base.proofs.SetLemmas.{complements_has, has-complements}
+use Rattle.theory.specs.Lrat.{ChainEnd, conflict, chain, Group, LratState, add, with_candidate}
+use Rattle.theory.specs.Lrat.{chain_refusal, group_refusal, groups_refusal, is_unsettled}
+use Rattle.theory.specs.Lrat.{is_left_out, AnswersGroups, AnswersChain, AnswersLrat, answer_of}
+use Rattle.theory.specs.{Sets.conflicts, Laws.IsRedundant}
 use Rattle.theory.proofs.PropagationLemmas.Forced.{forced_assumed, forced_through, clash_through}
 use Rattle.theory.proofs.PropagationLemmas.Conflicts.{conflicts_some}
 use Rattle.theory.proofs.LratLemmas.Chains.{ChainMeans, chain_means}
+use Rattle.cnf_base.specs.Literals.{Literal, complement, Clause, has, complements, without}
+use Rattle.cnf_base.proofs.LiteralLemmas.{complement-complement}
+use Rattle.cnf_base.proofs.SetLemmas.{has_head, has_append_left, has_append_right, has_append_cases}
+use Rattle.cnf_base.proofs.SetLemmas.{complements_has, has-complements}
 
 -- ---- Refusals in a row
 
@@ -80,20 +74,19 @@ module _ (live : Live) (ls : List Literal) (pivot : Literal) where
 
 -- what follows from the candidate's start follows from the complements of both clauses
 resolvent_forced : (live : Live) (c d : Clause) (ls : List Literal) (pivot : Literal) → ((a : Literal) → has ls a ≡ true → Forced live (complements c) a) → (a : Literal) → has (with_candidate ls d pivot) a ≡ true → Forced live (complements (c ++ without d (complement pivot))) a
-resolvent_forced live c d ls pivot forced a member =
-    grind (
-      arith,
-      common_steps,
-      nat_tests,
-      has_append_cases,
-      forced_through,
-      forced_assumed,
-      has_append_left,
-      complements_has,
-      has_append_right,
-      complement-complement,
-      has-complements,
-    )
+resolvent_forced live c d ls pivot forced a member = grind (
+  arith,
+  common_steps,
+  nat_tests,
+  has_append_cases,
+  forced_through,
+  forced_assumed,
+  has_append_left,
+  complements_has,
+  has_append_right,
+  complement-complement,
+  has-complements,
+)
 
 rat_of_groups : (live : Live) (pivot : Literal) (rest ls : List Literal) (groups : List Group) → ((a : Literal) → has ls a ≡ true → Forced live (complements (pivot ∷ rest)) a) → groups_refusal live ls pivot [] groups ≡ None → ((k : ℕ) → is_left_out live ls pivot groups k ≡ false) → HasRat live (pivot ∷ rest) pivot
 rat_of_groups live pivot rest ls groups forced e none_left =
@@ -119,11 +112,10 @@ chain_redundant live c groups word end h h2 = search (rules, ok_is, ok_err, grou
 
 -- an addition that is accepted has RUP, or RAT on its first literal
 pub lrat_redundant : (state : LratState) (id : ℕ) (c : List Literal) (units : List ℕ) (groups : List Group) (word : Accepted) → AnswersLrat state (add id c units groups) (Ok word) → IsRedundant state.live c word
-lrat_redundant state id c units groups word answer =
-    elim (cases_Bool (nat_le id state.top)) [
-      | inl e ↦ absurd (ok_err word IdOutOfOrder (MatchBool-at_true _ _ e answer))
-      | inr e ↦ chain_redundant state.live c groups word (chain state.live (complements c) units) (chain_means state.live (complements c) units (complements c) (forced_assumed state.live (complements c))) (MatchBool-at_false _ _ e answer)
-    ]
+lrat_redundant state id c units groups word answer = elim (cases_Bool (nat_le id state.top)) [
+  | inl e ↦ absurd (ok_err word IdOutOfOrder (MatchBool-at_true _ _ e answer))
+  | inr e ↦ chain_redundant state.live c groups word (chain state.live (complements c) units) (chain_means state.live (complements c) units (complements c) (forced_assumed state.live (complements c))) (MatchBool-at_false _ _ e answer)
+]
 
 pub deletion_word : (refusal : Option Refusal) (word : Accepted) → ◌≡◌ {A = StepAnswer} (Ok word) (answer_of refusal) → word ≡ Deleted
 deletion_word refusal word h = search rules

@@ -1,11 +1,9 @@
 -- Sums of sizes over identifiers.
-use Rattle.std.proofs.Common.{◌≡◌, ◌≢◌, ℕ, zero, suc, ◌+◌, ◌<◌}
-use Rattle.std.proofs.Common.{◌≤◌, cond, ne_eqb, eq-eqb, Some, None, refl}
-use Rattle.std.proofs.Common.{sym, ap, ◌∙◌, arith, inl, inr, rules}
+use Rattle.std.proofs.Common.{◌≡◌, ◌≢◌, ℕ, zero, suc, ◌+◌, ◌<◌, ◌≤◌, cond, ne_eqb, eq-eqb, Some}
+use Rattle.std.proofs.Common.{None, refl, sym, ap, ◌∙◌, arith, inl, inr, rules}
 use Rattle.std.proofs.lemmas.Bool.{cases_lt, cases_eq}
 use Rattle.cnf_base.specs.Literals.{Clause, size}
-use Rattle.theory.specs.Propagation.{Live}
-use Rattle.theory.specs.Lrat.{with_clause, without_id}
+use Rattle.theory.specs.{Propagation.Live, Lrat.with_clause, Lrat.without_id}
 use Rattle.theory.specs.Sizes.{size_at, sum_to}
 
 pub sum_agree : (n : ℕ) (f g : ℕ → ℕ) → ((k : ℕ) → 1 ≤ k → k ≤ n → f k ≡ g k) → sum_to n f ≡ sum_to n g

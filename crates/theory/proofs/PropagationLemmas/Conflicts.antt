@@ -1,6 +1,5 @@
 -- Lists that hold a literal and its complement.
-use Rattle.std.proofs.Common.{◌≡◌, true, false, List, [], ◌∷◌, ◌++◌}
-use Rattle.std.proofs.Common.{rules}
+use Rattle.std.proofs.Common.{◌≡◌, true, false, List, [], ◌∷◌, ◌++◌, rules}
 use Rattle.std.proofs.lemmas.Bool.{false≢true, true≢false, false_from_ne_true}
 use Rattle.cnf_base.specs.Literals.{Literal, complement, has}
 use Rattle.cnf_base.proofs.SetLemmas.{any_from, any_some, any_none, has_cases, has_append_cases}
@@ -23,19 +22,18 @@ conflicts_more first second within h = search (rules, conflicts_some, conflict_f
 
 -- one more literal, whose complement is not there
 pub quiet_push : (ls : List Literal) (l : Literal) → conflicts ls ≡ false → has ls (complement l) ≡ false → conflicts (ls ++ l ∷ []) ≡ false
-quiet_push ls l quiet absent =
-    search (
-      rules,
-      false_from_ne_true,
-      conflicts_some,
-      has_append_cases,
-      has_cases,
-      false≢true,
-      true≢false,
-      not_both,
-      complement-complement,
-      complement-other,
-    )
+quiet_push ls l quiet absent = search (
+  rules,
+  false_from_ne_true,
+  conflicts_some,
+  has_append_cases,
+  has_cases,
+  false≢true,
+  true≢false,
+  not_both,
+  complement-complement,
+  complement-other,
+)
 
 pub conflicts_same : (first second : List Literal) → SameSet first second → conflicts first ≡ conflicts second
 conflicts_same first second same = search (rules, conflicts_more, true≢false)

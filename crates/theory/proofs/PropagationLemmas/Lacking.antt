@@ -1,8 +1,7 @@
 -- How many literals are not found yet.
-use Rattle.std.proofs.Common.{◌≡◌, ℕ, ◌+◌, ◌<◌, ◌≤◌, Bool, true, false, not}
-use Rattle.std.proofs.Common.{cond, List, [], ◌∷◌, arith, inl, inr, rules}
-use Rattle.std.proofs.lemmas.Bool.{false≢true}
-use Rattle.std.proofs.lemmas.List.Sums.{sum_by-cons}
+use Rattle.std.proofs.Common.{◌≡◌, ℕ, ◌+◌, ◌<◌, ◌≤◌, Bool, true, false, not, cond, List, [], ◌∷◌}
+use Rattle.std.proofs.Common.{arith, inl, inr, rules}
+use Rattle.std.proofs.lemmas.{Bool.false≢true, List.Sums.sum_by-cons}
 use Rattle.cnf_base.specs.Literals.{Literal, has}
 use Rattle.cnf_base.proofs.SetLemmas.{has_cases}
 use Rattle.theory.specs.Code.Sets.{lacking}
@@ -20,9 +19,8 @@ module _ (first second : List Literal) (grows : (l : Literal) → has first l �
 
   pub lacking_falls : (m : Literal) → has first m ≡ false → has second m ≡ true → (ls : List Literal) → has ls m ≡ true → lacking second ls < lacking first ls
   lacking_falls m absent new [] h = absurd (false≢true h)
-  lacking_falls m absent new (l ∷ ls) h =
-      elim (has_cases l ls m h) [
-        | inl e ↦
-            search (rules, (lacking-cons first l ls), (lacking-cons second l ls), (lacking_le ls))
-        | inr g ↦ omega (arith, lacking-cons first l ls, lacking-cons second l ls, weight_le (has first l) (has second l) (grows l), lacking_falls m absent new ls g)
-      ]
+  lacking_falls m absent new (l ∷ ls) h = elim (has_cases l ls m h) [
+    | inl e ↦
+        search (rules, (lacking-cons first l ls), (lacking-cons second l ls), (lacking_le ls))
+    | inr g ↦ omega (arith, lacking-cons first l ls, lacking-cons second l ls, weight_le (has first l) (has second l) (grows l), lacking_falls m absent new ls g)
+  ]

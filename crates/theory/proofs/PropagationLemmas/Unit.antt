@@ -1,11 +1,10 @@
 -- The unit rule by the literals of clauses that are not false: what follows, and where nothing more does.
-use Rattle.std.proofs.Common.{◌≡◌, ℕ, true, false, Some, List, [], sym, ap}
-use Rattle.std.proofs.Common.{◌∙◌, inl, inr, rules}
+use Rattle.std.proofs.Common.{◌≡◌, ℕ, true, false, Some, List, [], sym, ap, ◌∙◌, inl, inr, rules}
 use Rattle.std.proofs.lemmas.Bool.{false≢true, true≢false, cases_eq}
 use Rattle.cnf_base.specs.Literals.{Literal, complement, Clause, has}
 use Rattle.theory.specs.Code.Propagation.{OthersFail, IsClosedAt}
-use Rattle.theory.specs.Propagation.{Live, IsClosed, Forced, Clash, open_literals}
-use Rattle.theory.specs.Propagation.{by_empty, by_both}
+use Rattle.theory.specs.Propagation.{Live, IsClosed, Forced, Clash, open_literals, by_empty}
+use Rattle.theory.specs.Propagation.{by_both}
 use Rattle.theory.specs.Sets.{conflicts}
 use Rattle.theory.proofs.PropagationLemmas.Conflicts.{conflict_from, conflicts_some}
 use Rattle.theory.proofs.PropagationLemmas.Forced.{forced_unit, clash_by_false}

@@ -1,15 +1,12 @@
 -- Clauses under a map of literals that another map undoes.
-use Rattle.std.proofs.Common.{◌≡◌, ℕ, zero, suc, take, drop, Bool, true, eqb, List, [], ◌∷◌}
-use Rattle.std.proofs.Common.{◌++◌, map, filter, refl, sym, ap, ◌∙◌, subst, inl, inr}
+use Rattle.std.proofs.Common.{◌≡◌, ℕ, zero, suc, take, drop, Bool, true, eqb, List, [], ◌∷◌, ◌++◌}
+use Rattle.std.proofs.Common.{map, filter, refl, sym, ap, ◌∙◌, subst, inl, inr, rules}
 use Rattle.std.proofs.lemmas.Bool.{false≢true}
 use Rattle.std.specs.List.{list_any, list_all}
-use Rattle.std.proofs.Common.{rules}
 use Rattle.cnf_base.specs.Literals.{Literal, complement, Clause, has, complements, without}
 use Rattle.cnf_base.specs.Literals.{same_clause}
-use Rattle.cnf_base.proofs.SetLemmas.{has_head, has_tail, has_cases, filter_has}
-use Rattle.cnf_base.proofs.SetLemmas.{has_append_cases}
-use Rattle.theory.specs.Propagation.{open_literals}
-use Rattle.theory.specs.Sets.{conflicts}
+use Rattle.cnf_base.proofs.SetLemmas.{has_head, has_tail, has_cases, filter_has, has_append_cases}
+use Rattle.theory.specs.{Propagation.open_literals, Sets.conflicts}
 
 -- each literal of the list is one of these
 abbrev pub AreAmong : (Literal → Type 0) → List Literal → Type 0

@@ -1,29 +1,27 @@
 -- The rule of DRAT under other names.
-use Rattle.std.proofs.Common.{◌≡◌, ℕ, zero, suc, ◌+◌, Bool, not, ◌||◌, cond, eqb}
-use Rattle.std.proofs.Common.{Option, Some, option_map, Ok, Err, List, [], ◌∷◌, map, length}
-use Rattle.std.proofs.Common.{slice_get, refl, sym, ap, ◌∙◌, subst, inl, inr, take, drop, arith}
-use Rattle.std.specs.List.{list_any, take-map, drop-map, prefix_len}
+use Rattle.std.proofs.Common.{◌≡◌, ℕ, zero, suc, ◌+◌, Bool, not, ◌||◌, cond, eqb, Option, Some}
+use Rattle.std.proofs.Common.{option_map, Ok, Err, List, [], ◌∷◌, map, length, slice_get, refl, sym}
+use Rattle.std.proofs.Common.{ap, ◌∙◌, subst, inl, inr, take, drop, arith, rules}
 use Rattle.std.proofs.lemmas.List.{length-map}
 use Rattle.std.proofs.lemmas.Option.{none-some, same_Some, slice_get-map}
-use Rattle.std.proofs.Common.{rules}
+use Rattle.std.specs.List.{list_any, take-map, drop-map, prefix_len}
 use Rattle.cnf_base.specs.Literals.{Literal, complement, Clause, same_clause}
 use Rattle.cnf_base.proofs.SetLemmas.{has_head, has_tail}
-use Rattle.proofs.specs.Steps.{clause_part, witness_part}
-use Rattle.proofs.specs.declared.step_buf.StepKind.{StepKind}
+use Rattle.proofs.specs.{Steps.clause_part, Steps.witness_part, declared.step_buf.StepKind.StepKind}
 use Rattle.theory.specs.declared.accepted.Accepted.{Accepted}
 use Rattle.theory.specs.declared.accepted.Accepted.TheVariants.{Rup, Rat, Pr, Empty, Deleted}
 use Rattle.theory.specs.declared.accepted.Accepted.TheVariants.{Ignored}
 use Rattle.theory.specs.declared.refusal.Refusal.TheVariants.{NotRup, NeitherRupNorRat, NotAlive}
 use Rattle.theory.specs.declared.refusal.Refusal.TheVariants.{InconsistentSet, NeitherRupNorPr}
-use Rattle.theory.specs.declared.drat_rules.DratRules.{DratRules}
-use Rattle.theory.specs.Answers.{StepAnswer}
+use Rattle.theory.specs.{declared.drat_rules.DratRules.DratRules, Answers.StepAnswer}
 use Rattle.theory.specs.Renaming.{answer_renamed}
 use Rattle.theory.specs.Propagation.{Live, HasRup, HasRat, HasPr, IsRootReason}
-use Rattle.theory.specs.Drat.{DratStep, add, delete, addition_of, drat_step_of, take_off, after_drat}
-use Rattle.theory.specs.Drat.{AnswersAdd, AnswersWithWitness, AnswersListed, AnswersDelete}
-use Rattle.theory.specs.Drat.{AnswersDrat, IsKeptUnit}
+use Rattle.theory.specs.Drat.{DratStep, add, delete, addition_of, drat_step_of, take_off}
+use Rattle.theory.specs.Drat.{after_drat, AnswersAdd, AnswersWithWitness, AnswersListed}
+use Rattle.theory.specs.Drat.{AnswersDelete, AnswersDrat, IsKeptUnit}
 use Rattle.theory.proofs.RenamingLemmas.Clauses.{AreAmong, Renames, GoesTo, mapped_among}
-use Rattle.theory.proofs.RenamingLemmas.Clauses.{back_there, conflicts_mapped, same_mapped, equal_is}
+use Rattle.theory.proofs.RenamingLemmas.Clauses.{back_there, conflicts_mapped, same_mapped}
+use Rattle.theory.proofs.RenamingLemmas.Clauses.{equal_is}
 use Rattle.theory.proofs.RenamingLemmas.Forced.{Carries, carries_back, rup_of, rat_image, pr_image}
 use Rattle.theory.proofs.RenamingLemmas.Forced.{reason_image}
 
@@ -149,12 +147,11 @@ module _ (there back : Literal → Literal) (among : Literal → Type 0) (r : Re
   take_off_mapped : (live : List Clause) (c : Clause) → ((k : ℕ) (d : Clause) → slice_get live k ≡ Some d → AreAmong among d) → AreAmong among c →
       take_off (map there c) (map (map there) live) ≡ map (map there) (take_off c live)
   take_off_mapped [] c within w = refl
-  take_off_mapped (d ∷ live) c within w =
-      search (
-        rules,
-        (same_mapped there back among r c d w (within zero d refl)),
-        (take_off_mapped live c (λ k. within (suc k)) w),
-      )
+  take_off_mapped (d ∷ live) c within w = search (
+    rules,
+    (same_mapped there back among r c d w (within zero d refl)),
+    (take_off_mapped live c (λ k. within (suc k)) w),
+  )
 
   pub after_mapped : (live : List Clause) (step : DratStep) (word : Accepted) → ((k : ℕ) (d : Clause) → slice_get live k ≡ Some d → AreAmong among d) → IsOf among step →
       after_drat (map (map there) live) (drat_mapped there step) word ≡ map (map there) (after_drat live step word)
@@ -170,8 +167,7 @@ module _ (there back : Literal → Literal) (among : Literal → Type 0) (r : Re
 
   pub clause_part_mapped : (lits : List Literal) → AreAmong among lits → clause_part (map there lits) ≡ map there (clause_part lits)
   clause_part_mapped [] w = refl
-  clause_part_mapped (first ∷ rest) w =
-      ap (λ ls. there first ∷ ls)
+  clause_part_mapped (first ∷ rest) w = ap (λ ls. there first ∷ ls)
       (ap (λ n. take n (map there rest)) (prefix_mapped first rest (w first (has_head first rest)) (λ l h. w l (has_tail first rest l h)))
       ∙ take-map there (prefix_len (λ l. not (eqb l first)) rest) rest)
 

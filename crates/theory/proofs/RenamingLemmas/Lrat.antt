@@ -1,30 +1,24 @@
 -- The rule of LRAT under other names.
-use Rattle.std.proofs.Common.{◌≡◌, ℕ, Bool, true, false, cond, eqb, nat_le, Option, Some}
-use Rattle.std.proofs.Common.{None, option_map, is_none, Err, List, [], ◌∷◌, map, refl, sym}
-use Rattle.std.proofs.Common.{ap, ◌∙◌, subst, rules}
-use Rattle.std.specs.Bool.{then_some, MatchBool}
-use Rattle.std.specs.Option.{option_or}
-use Rattle.std.specs.List.{list_all}
-use Rattle.std.specs.Prelude.{⊤}
-use Rattle.std.proofs.lemmas.List.{map-append}
-use Rattle.std.proofs.lemmas.Option.{none-some, same_Some}
+use Rattle.std.proofs.Common.{◌≡◌, ℕ, Bool, true, false, cond, eqb, nat_le, Option, Some, None}
+use Rattle.std.proofs.Common.{option_map, is_none, Err, List, [], ◌∷◌, map, refl, sym, ap, ◌∙◌}
+use Rattle.std.proofs.Common.{subst, rules}
+use Rattle.std.proofs.lemmas.{List.map-append, Option.none-some, Option.same_Some}
+use Rattle.std.specs.{Bool.then_some, Bool.MatchBool, Option.option_or, List.list_all, Prelude.⊤}
 use Rattle.cnf_base.specs.Literals.{Literal, Clause, complements}
 use Rattle.cnf_base.proofs.SetLemmas.{has_head, has_tail}
-use Rattle.theory.specs.declared.refusal.Refusal.{Refusal}
-use Rattle.theory.specs.declared.refusal.Refusal.TheVariants.{IdOutOfOrder}
+use Rattle.theory.specs.declared.refusal.Refusal.{Refusal, TheVariants.IdOutOfOrder}
 use Rattle.theory.specs.Answers.{StepAnswer}
 use Rattle.theory.specs.Renaming.{refusal_renamed, answer_renamed, AreRenamed}
-use Rattle.theory.specs.Propagation.{Live, open_literals}
-use Rattle.theory.specs.Sets.{conflicts}
+use Rattle.theory.specs.{Propagation.Live, Propagation.open_literals, Sets.conflicts}
 use Rattle.theory.specs.Lrat.{ChainEnd, conflict, open_with, unknown, not_unit, look_at, chain}
 use Rattle.theory.specs.Lrat.{Group, LratStep, add, delete, with_candidate, chain_refusal}
 use Rattle.theory.specs.Lrat.{group_refusal, groups_refusal, is_unsettled, is_left_out}
 use Rattle.theory.specs.Lrat.{AnswersGroups, AnswersChain, AnswersLrat, with_clause, without_id}
 use Rattle.theory.specs.Lrat.{without_ids, deletion_refusal, answer_of}
-use Rattle.theory.proofs.RenamingLemmas.Clauses.{AreAmong, Renames, all_mapped, equal_is, has_opposite}
-use Rattle.theory.proofs.RenamingLemmas.Clauses.{complements_mapped, without_mapped, open_mapped}
-use Rattle.theory.proofs.RenamingLemmas.Clauses.{conflicts_mapped, complements_among, filter_among}
-use Rattle.theory.proofs.RenamingLemmas.Clauses.{append_among}
+use Rattle.theory.proofs.RenamingLemmas.Clauses.{AreAmong, Renames, all_mapped, equal_is}
+use Rattle.theory.proofs.RenamingLemmas.Clauses.{has_opposite, complements_mapped, without_mapped}
+use Rattle.theory.proofs.RenamingLemmas.Clauses.{open_mapped, conflicts_mapped, complements_among}
+use Rattle.theory.proofs.RenamingLemmas.Clauses.{filter_among, append_among}
 
 -- all literals of the live clauses are among these
 abbrev pub LiveAmong : (Literal → Type 0) → Live → Type 0
@@ -65,8 +59,7 @@ module _ (there back : Literal → Literal) (among : Literal → Type 0) (r : Re
       look_at k (option_map (map there) o) other ≡ end_mapped there (look_at k o go)
   look_mapped k None go other w each = refl
   look_mapped k (Some []) go other w each = refl
-  look_mapped k (Some (l ∷ ls)) go other w each =
-      ap (λ b. cond b (other (there l)) (not_unit k))
+  look_mapped k (Some (l ∷ ls)) go other w each = ap (λ b. cond b (other (there l)) (not_unit k))
       (all_mapped there (λ m. eqb m l) (λ m. eqb m (there l)) ls (λ m h. equal_is there back among r m l (w (l ∷ ls) refl m (has_tail l ls m h)) (w (l ∷ ls) refl l (has_head l ls))))
       ∙ by (list_all (λ m. eqb m l) ls)
     where
@@ -135,21 +128,19 @@ module _ (there back : Literal → Literal) (among : Literal → Type 0) (r : Re
       group_mapped : (earlier : List ℕ) (group : Group) (o : Option Clause) → ((c : Clause) → o ≡ Some c → AreAmong among c) →
           group_refusal other (map there ls) (there pivot) earlier group (option_map (map there) o) ≡ option_map (refusal_renamed there) (group_refusal live ls pivot earlier group o)
       group_mapped earlier group None within_o = refl
-      group_mapped earlier group (Some c) within_o =
-          search (
-            rules,
-            first_mapped,
-            has_opposite,
-            candidate_mapped,
-            chain_mapped,
-            candidate_among,
-            refusal_of_end,
-          )
+      group_mapped earlier group (Some c) within_o = search (
+        rules,
+        first_mapped,
+        has_opposite,
+        candidate_mapped,
+        chain_mapped,
+        candidate_among,
+        refusal_of_end,
+      )
 
       groups_mapped : (groups : List Group) (earlier : List ℕ) → groups_refusal other (map there ls) (there pivot) earlier groups ≡ option_map (refusal_renamed there) (groups_refusal live ls pivot earlier groups)
       groups_mapped [] earlier = refl
-      groups_mapped (group ∷ groups) earlier =
-          either_mapped there _ _ _ _
+      groups_mapped (group ∷ groups) earlier = either_mapped there _ _ _ _
           (ap (group_refusal other (map there ls) (there pivot) earlier group) (mapped group.candidate) ∙ group_mapped earlier group (live group.candidate) (within group.candidate))
           (groups_mapped groups (group.candidate ∷ earlier))
 
@@ -187,15 +178,14 @@ module _ (there back : Literal → Literal) (among : Literal → Type 0) (r : Re
 
   deletion_mapped : (ids : List ℕ) (live other : Live) → AreRenamed there live other → deletion_refusal other ids ≡ option_map (refusal_renamed there) (deletion_refusal live ids)
   deletion_mapped [] live other mapped = refl
-  deletion_mapped (id ∷ ids) live other mapped =
-      search (
-        rules,
-        first_mapped,
-        is_none,
-        is_none_mapped,
-        without_mapped_id,
-        (deletion_mapped ids (without_id live id) (without_id other id) (without_mapped_id live other mapped id)),
-      )
+  deletion_mapped (id ∷ ids) live other mapped = search (
+    rules,
+    first_mapped,
+    is_none,
+    is_none_mapped,
+    without_mapped_id,
+    (deletion_mapped ids (without_id live id) (without_id other id) (without_mapped_id live other mapped id)),
+  )
 
   pub with_mapped : (live other : Live) → AreRenamed there live other → (id : ℕ) (c : Clause) → AreRenamed there (with_clause live id c) (with_clause other id (map there c))
   with_mapped live other mapped id c k = search rules
@@ -223,8 +213,7 @@ module _ (there back : Literal → Literal) (among : Literal → Type 0) (r : Re
   lrat_answers_mapped live other top mapped within (add id c units groups) answer cw e = by (nat_le id top) e
     where
       rest : AnswersChain live c groups (chain live (complements c) units) answer → AnswersChain other (map there c) groups (chain other (complements (map there c)) units) (answer_renamed there answer)
-      rest e =
-          subst (λ x. AnswersChain other (map there c) groups x (answer_renamed there answer))
+      rest e = subst (λ x. AnswersChain other (map there c) groups x (answer_renamed there answer))
           (sym (ap (λ ls. chain other ls units) (complements_mapped there back among r c) ∙ chain_mapped live other mapped within units (complements c) (complements_among there back among r c cw)))
           (after_chain live other mapped within c groups (chain live (complements c) units) answer cw
           (chain_among live other mapped within units (complements c) (complements_among there back among r c cw)) e)

@@ -1,35 +1,27 @@
 -- States, steps and proofs under other names.
-use Rattle.std.proofs.Common.{◌≡◌, ℕ, zero, suc, ◌+◌, ◌*◌, ◌%◌, Bool, true, false, cond, eqb}
-use Rattle.std.proofs.Common.{Some, None, Ok, Err, List, [], ◌∷◌, map, slice_get}
-use Rattle.std.proofs.Common.{refl, sym, ap, ◌∙◌, subst, arith, rules}
-use Rattle.std.specs.Bool.{MatchBool}
-use Rattle.std.specs.List.{list_any}
-use Rattle.std.specs.Prelude.{nat_abs}
-use Rattle.std.proofs.lemmas.Bool.{false≢true}
-use Rattle.std.proofs.lemmas.List.{length-map}
+use Rattle.std.proofs.Common.{◌≡◌, ℕ, zero, suc, ◌+◌, ◌*◌, ◌%◌, Bool, true, false, cond, eqb, Some}
+use Rattle.std.proofs.Common.{None, Ok, Err, List, [], ◌∷◌, map, slice_get, refl, sym, ap, ◌∙◌}
+use Rattle.std.proofs.Common.{subst, arith, rules}
+use Rattle.std.proofs.lemmas.{Bool.false≢true, List.length-map}
 use Rattle.std.proofs.lemmas.Option.{none-some, slice_get-map}
+use Rattle.std.specs.{Bool.MatchBool, List.list_any, Prelude.nat_abs}
 use Rattle.cnf_base.specs.Literals.{Literal, complement, Clause, variable, same_clause}
 use Rattle.cnf_base.proofs.MemberLemmas.{variable-complement}
-use Rattle.proofs.specs.Steps.{Step, clause_part}
-use Rattle.proofs.specs.declared.step_buf.StepKind.{StepKind}
+use Rattle.proofs.specs.{Steps.Step, Steps.clause_part, declared.step_buf.StepKind.StepKind}
 use Rattle.proofs.specs.declared.step_buf.StepKind.TheVariants as kinds
-use Rattle.theory.specs.declared.accepted.Accepted.{Accepted}
-use Rattle.theory.specs.declared.drat_rules.DratRules.{DratRules}
-use Rattle.theory.specs.Answers.{StepAnswer}
-use Rattle.theory.specs.Propagation.{Live}
+use Rattle.theory.specs.declared.{accepted.Accepted.Accepted, drat_rules.DratRules.DratRules}
+use Rattle.theory.specs.{Answers.StepAnswer, Propagation.Live}
 use Rattle.theory.specs.Drat.{DratStep, AnswersDrat, drat_step_of, take_off, after_drat}
-use Rattle.theory.specs.Lrat.{AnswersLrat, step_of, with_clause, without_id}
-use Rattle.theory.specs.Lrat.{without_ids, after_lrat}
+use Rattle.theory.specs.Lrat.{AnswersLrat, step_of, with_clause, without_id, without_ids}
+use Rattle.theory.specs.Lrat.{after_lrat}
 use Rattle.theory.specs.Rules.{Rule, State, by_ids, by_copies, start, Answers, after}
-use Rattle.theory.specs.Verdicts.{Ending, verified, is_last, Ends}
-use Rattle.theory.specs.Verdicts.{is_empty, Verdict}
-use Rattle.theory.specs.Renaming.{renamed, step_renamed, answer_renamed, ending_renamed}
-use Rattle.theory.specs.Renaming.{IsUndone, AreUndone, StepsAreUndone, IsRenamed}
+use Rattle.theory.specs.Verdicts.{Ending, verified, is_last, Ends, is_empty, Verdict}
+use Rattle.theory.specs.Renaming.{renamed, step_renamed, answer_renamed, ending_renamed, IsUndone}
+use Rattle.theory.specs.Renaming.{AreUndone, StepsAreUndone, IsRenamed}
 use Rattle.theory.proofs.RenamingLemmas.Clauses.{Renames, take_has, drop_has}
 use Rattle.theory.proofs.RenamingLemmas.Drat.{IsOf, drat_answers_mapped, after_mapped}
 use Rattle.theory.proofs.RenamingLemmas.Drat.{drat_step_mapped}
-use Rattle.theory.proofs.RenamingLemmas.Lrat.{lrat_answers_mapped, with_mapped}
-use Rattle.theory.proofs.RenamingLemmas.Lrat.{without_all_mapped}
+use Rattle.theory.proofs.RenamingLemmas.Lrat.{lrat_answers_mapped, with_mapped, without_all_mapped}
 
 -- ---- Names
 
@@ -51,15 +43,14 @@ abbrev IsTold : (name back : ℕ → ℕ) → Literal → Type 0
 IsTold name back l = back (name (variable l)) ≡ variable l
 
 pub renames : (name back : ℕ → ℕ) → Renames (renamed name) (renamed back) (IsTold name back)
-renames name back =
-    search (
-      rules,
-      renamed_complement,
-      variable-complement,
-      variable_renamed,
-      sign_renamed,
-      whole_literal,
-    )
+renames name back = search (
+  rules,
+  renamed_complement,
+  variable-complement,
+  variable_renamed,
+  sign_renamed,
+  whole_literal,
+)
 
 -- ---- One step
 
