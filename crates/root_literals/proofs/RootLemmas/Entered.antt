@@ -1,13 +1,11 @@
 -- What is kept where a clause was added.
-use Rattle.std.proofs.Common.{◌≡◌, ◌≢◌, ℕ, ◌+◌, ◌<◌, Bool, true, false, cond, eqb, eq-eqb}
-use Rattle.std.proofs.Common.{Option, Some, None, is_some, List, [], ◌∷◌, ◌++◌, length, take, refl, sym}
-use Rattle.std.proofs.Common.{ap, ◌∙◌, subst, arith, inl, inr, ◌⊎◌, rules}
-use Rattle.std.specs.Ordering.{nat_cmp}
-use Rattle.std.specs.FinMap as maps
-use Rattle.std.specs.FinMap.{FinMap}
-use Rattle.std.proofs.lemmas.Bool.{cases_eq, true≢false, false≢true}
-use Rattle.std.proofs.lemmas.Option.{none-some}
+use Rattle.std.proofs.Common.{◌≡◌, ◌≢◌, ℕ, ◌+◌, ◌<◌, Bool, true, false, cond, eqb, eq-eqb, Option}
+use Rattle.std.proofs.Common.{Some, None, is_some, List, [], ◌∷◌, ◌++◌, length, take, refl, sym, ap}
+use Rattle.std.proofs.Common.{◌∙◌, subst, arith, inl, inr, ◌⊎◌, rules}
+use Rattle.std.proofs.lemmas.{Bool.cases_eq, Bool.true≢false, Bool.false≢true, Option.none-some}
 use Rattle.std.proofs.lemmas.List.{length-append, take_all, take-append-le}
+use Rattle.std.specs.{Ordering.nat_cmp, FinMap.FinMap}
+use Rattle.std.specs.FinMap as maps
 use Rattle.cnf_base.specs.Literals.{Literal, complement, Clause, has}
 use Rattle.cnf_base.proofs.SetLemmas.{has_append_left, has_append_right, has_head}
 use Rattle.tables.specs.Filled.{at}
@@ -17,31 +15,27 @@ use Rattle.root_literals.specs.Roots.{AreNoted, AreReasoned, HasReasons, HaveUni
 use Rattle.root_literals.specs.Roots.{IsKept, IsKnown, has_clash, is_cut}
 use Rattle.root_literals.specs.Uses.{AreCounted, clause_in, is_in}
 use Rattle.root_literals.specs.Watched.{IsPart, IsMet, HasUnit, IsWatched}
-use Rattle.trail.specs.declared.left.Left.{Left}
-use Rattle.trail.specs.declared.left.Left.TheVariants.{Nothing, One, More}
-use Rattle.root_literals.specs.declared.history.History.{History}
-use Rattle.root_literals.specs.declared.roots.Kept.{Kept}
+use Rattle.root_literals.specs.declared.{history.History.History, roots.Kept.Kept}
 use Rattle.root_literals.specs.declared.roots.Kept.TheVariants.{Cut, Behind, All, Clash}
 use Rattle.root_literals.specs.declared.roots.Roots.{Roots}
-use Rattle.root_literals.proofs.RootLemmas.Watched.{front_part, watched_grown, watched_most, unit_more}
+use Rattle.root_literals.proofs.RootLemmas.Watched.{front_part, watched_grown, watched_most}
+use Rattle.root_literals.proofs.RootLemmas.Watched.{unit_more}
 use Rattle.root_literals.proofs.RootLemmas.History.{history_none, history_noted, history_one_more}
 use Rattle.root_literals.proofs.RootLemmas.Kept.{elsewhere, false_added, gone, noted_added}
 use Rattle.root_literals.proofs.RootLemmas.Kept.{met_alone, met_open, reasoned_added, unit_alone}
-use Rattle.root_literals.proofs.RootLemmas.Kept.{unit_open, units_added, watched_added, watched_sure_added}
+use Rattle.root_literals.proofs.RootLemmas.Kept.{unit_open, units_added, watched_added}
+use Rattle.root_literals.proofs.RootLemmas.Kept.{watched_sure_added}
 use Rattle.root_literals.proofs.RootLemmas.Order.{has-in_order, seen_has_at, seen_there}
 use Rattle.root_literals.proofs.RootLemmas.Reasons.{reasoned_more, reasoned_same, reasoned_some}
 use Rattle.root_literals.proofs.RootLemmas.Reasons.{reasoned_taken}
 use Rattle.root_literals.proofs.RootLemmas.Uses.{counted_among, counted_longer, in_rest_too}
+use Rattle.trail.specs.declared.left.Left.{Left}
+use Rattle.trail.specs.declared.left.Left.TheVariants.{Nothing, One, More}
 
 only_one : (c : Clause) (m : Literal) → length c ≡ 1 → has c m ≡ true → (k : Literal) → has c k ≡ true → k ≡ m
 only_one [] m one there k h = absurd (false≢true h)
 only_one (a ∷ []) m one there k h = search rules
 only_one (a ∷ b ∷ c) m one there k h = absurd (let wrong : ⊥ = omega (arith, one) in wrong)
-
-abbrev is_more : Left → Bool
-is_more Nothing = false
-is_more (One l) = false
-is_more More = true
 
 -- what a clause watches is met at any place, unless it watches a literal that is false
 met_sure : (lits : List Literal) (c : Clause) (left : Left) → IsArranged lits c left → (left ≢ More → length c < 2) → (done more : List Literal) → IsPart done lits → (l : Literal) → has done (complement l) ≡ true → IsMet c l more
@@ -67,8 +61,7 @@ module _ {after : FinMap nat_cmp Clause} {slot : ℕ} {c : Clause} {roots : Root
 
   -- the reasons are those of before
   same_in : (r : Literal → Option ℕ) (k l : Literal) → r l ≡ at roots.reasons l → has lits l ≡ true → is_in (clause_in (maps.get after) (r l)) k ≡ true → is_in (clause_in (maps.get (maps.remove after slot)) (at roots.reasons l)) k ≡ true
-  same_in r k l same h there =
-      in_rest_too after slot k (at roots.reasons l) (λ e.
+  same_in r k l same h there = in_rest_too after slot k (at roots.reasons l) (λ e.
       let w = seen_has_at (maps.remove after slot) l slot (given.kept.reasoned.has_it l slot h e) in
       none-some w.clause (sym (gone after slot slot refl) ∙ w.at)) (ap (λ o. is_in (clause_in (maps.get after) o) k) (sym same) ∙ there)
 
@@ -97,9 +90,8 @@ module _ {after : FinMap nat_cmp Clause} {slot : ℕ} {c : Clause} {roots : Root
         (by_doubt (λ none. some (ap (λ v. length v.items) given.visited_is ∙ none)) given.is_doubtful refl) given.kept.history
   ]
     where
-      by_doubt : visits roots.history ≢ 0 → (b : Bool) → given.is_doubtful ≡ b →
-          ((later.floor ≡ roots.history.floor)
-          × ((d p : ℕ) → IsWatched (sure_of roots.history.doubts.items (maps.get (maps.remove after slot))) (take d lits) (take p lits) → IsWatched (sure_of later.doubts.items (maps.get after)) (take d lits) (take p lits))) ⊎ (later.floor ≡ length lits)
+      by_doubt : visits roots.history ≢ 0 → (b : Bool) → given.is_doubtful ≡ b
+          → ((later.floor ≡ roots.history.floor) × ((d p : ℕ) → IsWatched (sure_of roots.history.doubts.items (maps.get (maps.remove after slot))) (take d lits) (take p lits) → IsWatched (sure_of later.doubts.items (maps.get after)) (take d lits) (take p lits))) ⊎ (later.floor ≡ length lits)
       by_doubt some true e = elim (given.noted_is.settled e some) [
         | inl noted ↦ inl (noted.1, λ d p. sure (take d lits) (take p lits) (λ none. absurd (true≢false (sym noted.0 ∙ none))))
         | inr high ↦ inr high

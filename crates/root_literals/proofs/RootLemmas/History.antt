@@ -1,16 +1,14 @@
 -- When the literals that are kept were propagated.
-use Rattle.std.proofs.Common.{◌≡◌, ◌≢◌, ℕ, ◌+◌, ◌<◌, ◌≤◌, List, [], ◌∷◌}
-use Rattle.std.proofs.Common.{◌++◌, length, get_or, take, sym, ap, ◌∙◌, subst, arith, inl}
-use Rattle.std.proofs.Common.{inr, ◌⊎◌, rules}
+use Rattle.std.proofs.Common.{◌≡◌, ◌≢◌, ℕ, ◌+◌, ◌<◌, ◌≤◌, List, [], ◌∷◌, ◌++◌, length, get_or, take}
+use Rattle.std.proofs.Common.{sym, ap, ◌∙◌, subst, arith, inl, inr, ◌⊎◌, rules}
 use Rattle.std.proofs.lemmas.Bool.{cases_eq, cases_lt}
-use Rattle.std.proofs.Math.Seq.{get_or-append_seam}
 use Rattle.std.proofs.lemmas.List.{get_or-take, get_or_append_left, length-append, length-take-le}
 use Rattle.std.proofs.lemmas.List.{take-take, take_all}
+use Rattle.std.proofs.Math.Seq.{get_or-append_seam}
 use Rattle.cnf_base.specs.Literals.{Literal, has}
 use Rattle.theory.specs.Propagation.{Live}
 use Rattle.root_literals.specs.History.{IsHistory, IsRewound, trues_at, visits}
-use Rattle.root_literals.specs.Watched.{IsPart, IsWatched}
-use Rattle.root_literals.specs.declared.history.History.{History}
+use Rattle.root_literals.specs.{Watched.IsPart, Watched.IsWatched, declared.history.History.History}
 use Rattle.root_literals.proofs.RootLemmas.Watched.{front_part}
 
 -- ---- Fewer propagated literals

@@ -2,36 +2,31 @@
 use Rattle.std.proofs.Common.{◌≡◌, ◌≢◌, ℕ, ◌+◌, ◌<◌, get_or, Bool, true, false, cond, eqb, eq-eqb}
 use Rattle.std.proofs.Common.{ne_eqb, Option, Some, None, is_some, option_map, List, [], ◌∷◌, rules}
 use Rattle.std.proofs.Common.{length, take, ◌≤◌, refl, sym, ap, ◌∙◌, subst, inl, inr}
-use Rattle.std.specs.Ordering.{nat_cmp}
+use Rattle.std.proofs.lemmas.{Bool.cases_eq, Bool.false≢true, Option.none-some, Option.same_Some}
+use Rattle.std.specs.{Ordering.nat_cmp, FinMap.FinMap}
 use Rattle.std.specs.FinMap as maps
-use Rattle.std.specs.FinMap.{FinMap}
-use Rattle.std.proofs.lemmas.Bool.{cases_eq, false≢true}
-use Rattle.std.proofs.lemmas.Option.{none-some, same_Some}
 use Rattle.cnf_base.specs.Literals.{Literal, complement, Clause, has}
+use Rattle.cnf_base.proofs.{MapLemmas.remove_here, MapLemmas.remove_other, SetLemmas.has_head}
 use Rattle.tables.specs.Filled.{at}
 use Rattle.root_literals.specs.History.{IsHistory, IsRewound, sure_of, visits}
-use Rattle.root_literals.specs.declared.history.History.{History}
-use Rattle.theory.specs.Propagation.{Live}
-use Rattle.root_literals.specs.Order.{in_order, each_in_order}
+use Rattle.root_literals.specs.declared.{history.History.History, roots.Kept.Kept}
+use Rattle.root_literals.specs.declared.roots.Kept.TheVariants.{Cut, Behind, All}
+use Rattle.root_literals.specs.declared.roots.Kept.TheVariants.{Clash as KeptClash}
+use Rattle.root_literals.specs.{declared.roots.Roots.Roots, Order.in_order, Order.each_in_order}
 use Rattle.root_literals.specs.Roots.{AreNoted, AreReasoned, HasReasons, HaveUnits, IsArranged}
 use Rattle.root_literals.specs.Roots.{IsFalseAt, IsKept, IsKnown, IsReasonAt, has_clash, is_cut}
 use Rattle.root_literals.specs.Roots.{seen_of}
 use Rattle.root_literals.specs.Watched.{IsPart, IsMet, HasUnit, IsWatched}
-use Rattle.trail.specs.declared.left.Left.TheVariants.{One, More}
-use Rattle.root_literals.specs.declared.roots.Kept.{Kept}
-use Rattle.root_literals.specs.declared.roots.Kept.TheVariants.{Cut, Behind, All}
-use Rattle.root_literals.specs.declared.roots.Kept.TheVariants.{Clash as KeptClash}
-use Rattle.root_literals.specs.declared.roots.Roots.{Roots}
-use Rattle.trail.specs.Trail.{HasNoVariableTwice}
+use Rattle.root_literals.specs.Uses.{AreCounted, clause_in, is_in, times}
 use Rattle.root_literals.proofs.RootLemmas.Order.{get_ordered, has-in_order, seen_there}
-use Rattle.cnf_base.proofs.MapLemmas.{remove_here, remove_other}
-use Rattle.cnf_base.proofs.SetLemmas.{has_head}
 use Rattle.root_literals.proofs.RootLemmas.History.{history_cut, history_none, history_noted}
 use Rattle.root_literals.proofs.RootLemmas.History.{watched_cut, watched_none}
 use Rattle.root_literals.proofs.RootLemmas.Watched.{watched_first, watched_sure}
 use Rattle.root_literals.proofs.RootLemmas.Reasons.{reasoned_among, reasoned_cut, reasoned_instead}
-use Rattle.root_literals.specs.Uses.{AreCounted, clause_in, is_in, times}
 use Rattle.root_literals.proofs.RootLemmas.Uses.{counted_among, counted_instead, in_rest}
+use Rattle.theory.specs.Propagation.{Live}
+use Rattle.trail.specs.declared.left.Left.TheVariants.{One, More}
+use Rattle.trail.specs.Trail.{HasNoVariableTwice}
 
 -- ---- One clause more
 
@@ -74,10 +69,7 @@ pub met_open : (c : Clause) (trues done more : List Literal) → IsPart done tru
 met_open [] trues done more part first l h there = absurd (false≢true there)
 met_open (a ∷ []) trues done more part first l h there = absurd (false≢true there)
 met_open (a ∷ b ∷ c) trues done more part first l h there =
-    absurd (elim (one_of_two a b l (watched_first (a ∷ b ∷ c) l there)) [
-      | inl e ↦ true≢false (sym (part (complement l) h) ∙ ap (λ x. has trues (complement x)) (sym e) ∙ first.1)
-      | inr e ↦ true≢false (sym (part (complement l) h) ∙ ap (λ x. has trues (complement x)) (sym e) ∙ first.2)
-    ])
+    let first_two : (eqb a l || eqb b l) ≡ true = watched_first (a ∷ b ∷ c) l there in search rules
 
 pub unit_open : (c : Clause) (trues more : List Literal) → IsArranged trues c More → HasUnit c more
 unit_open c trues more h = search rules
@@ -151,8 +143,7 @@ module _ (live : FinMap nat_cmp Clause) (roots after : Roots) (lits : List Liter
 
     -- a copy of its unit clause
     pub kept_copy : c ≡ m ∷ [] → maps.get live slot ≡ Some (m ∷ []) → after.uses ≡ roots.uses → IsKept live after lits
-    kept_copy alone copy same =
-        kept_instead m slot apart by set
+    kept_copy alone copy same = kept_instead m slot apart by set
         (subst (AreCounted (maps.get live) (at after.reasons) lits) (sym same)
         (counted_among (maps.get live) (maps.get live) (at roots.reasons) (at after.reasons) lits roots.uses kept.counted (λ k l h is. elim (cases_eq l m) [
           | inl e ↦

@@ -1,19 +1,16 @@
 -- What is kept where a literal is taken back of which no clause knows but its unit clause.
 use Rattle.std.proofs.Common.{◌≡◌, ◌≢◌, ℕ, ◌+◌, ◌<◌, ◌≤◌, Bool, true, false, ◌||◌, eqb, eqb-true}
-use Rattle.std.proofs.Common.{cond, eq-eqb, Option, Some, List, [], ◌∷◌, length, get_or, take, refl, sym, ap}
-use Rattle.std.proofs.Common.{◌∙◌, subst, arith, inl, inr, ◌⊎◌, rules}
-use Rattle.std.specs.List.{remove}
-use Rattle.std.specs.Ordering.{nat_cmp}
-use Rattle.std.specs.FinMap as maps
-use Rattle.std.specs.FinMap.{FinMap}
-use Rattle.std.proofs.lemmas.Bool.{cases_eq, cases_lt, false≢true, false_from_ne_true, or_cases, or_left, or_right, true≢false}
+use Rattle.std.proofs.Common.{cond, eq-eqb, Option, Some, List, [], ◌∷◌, length, get_or, take, refl}
+use Rattle.std.proofs.Common.{sym, ap, ◌∙◌, subst, arith, inl, inr, ◌⊎◌, rules}
+use Rattle.std.proofs.lemmas.Bool.{cases_eq, cases_lt, false≢true, false_from_ne_true, or_cases}
+use Rattle.std.proofs.lemmas.Bool.{or_left, or_right, true≢false}
 use Rattle.std.proofs.lemmas.List.Edits.{get_or-remove_above, get_or-remove_below, length-remove}
-use Rattle.std.proofs.lemmas.Grind.{get_or_default_zero}
-use Rattle.std.proofs.lemmas.Option.{same_Some}
+use Rattle.std.proofs.lemmas.{Grind.get_or_default_zero, Option.same_Some}
+use Rattle.std.specs.{List.remove, Ordering.nat_cmp, FinMap.FinMap}
+use Rattle.std.specs.FinMap as maps
 use Rattle.cnf_base.specs.Literals.{Literal, complement, Clause, has, variable}
 use Rattle.cnf_base.proofs.LiteralLemmas.{complement-complement}
-use Rattle.cnf_base.proofs.SetLemmas.{has_cases, has_head}
-use Rattle.cnf_base.proofs.SizeLemmas.{has_at}
+use Rattle.cnf_base.proofs.{SetLemmas.has_cases, SetLemmas.has_head, SizeLemmas.has_at}
 use Rattle.cnf_base.proofs.MemberLemmas.{has_front, place_in_front}
 use Rattle.clause_db.specs.Store.{copies_with}
 use Rattle.tables.specs.Filled.{at}
@@ -21,23 +18,21 @@ use Rattle.propagation.specs.Assumptions.{HasAt}
 use Rattle.propagation.proofs.PropagationLemmas.Counts.{copies_without, none_with}
 use Rattle.trail.specs.Trail.{HasNoVariableTwice}
 use Rattle.trail.proofs.TrailLemmas.Truth.{places_apart}
-use Rattle.trail.proofs.TrailLemmas.Without.{IsFront, front_before, front_still, front_was, none_left}
-use Rattle.trail.proofs.TrailLemmas.Without.{still_there, was_there as was_true}
+use Rattle.trail.proofs.TrailLemmas.Without.{IsFront, front_before, front_still, front_was}
+use Rattle.trail.proofs.TrailLemmas.Without.{none_left, still_there, was_there as was_true}
 use Rattle.root_literals.specs.History.{IsHistory, sure_of, trues_at, visits}
 use Rattle.root_literals.specs.Order.{each_in_order}
-use Rattle.root_literals.specs.Roots.{AreNoted, AreReasoned, FollowsReasons, HaveUnits}
-use Rattle.root_literals.specs.Roots.{IsAbsent, IsKept, IsKnown, IsUnneeded, has_clash, is_cut}
+use Rattle.root_literals.specs.Roots.{AreNoted, AreReasoned, FollowsReasons, HaveUnits, IsAbsent}
+use Rattle.root_literals.specs.Roots.{IsKept, IsKnown, IsUnneeded, has_clash, is_cut}
 use Rattle.root_literals.specs.Uses.{AreCounted, clause_in, is_in, times}
 use Rattle.root_literals.specs.Watched.{HasUnit, IsPart, IsWatched}
-use Rattle.root_literals.specs.declared.history.History.{History}
-use Rattle.root_literals.specs.declared.roots.Kept.{Kept}
+use Rattle.root_literals.specs.declared.{history.History.History, roots.Kept.Kept}
 use Rattle.root_literals.specs.declared.roots.Kept.TheVariants.{Cut, Behind, All}
 use Rattle.root_literals.specs.declared.roots.Kept.TheVariants.{Clash as KeptClash}
 use Rattle.root_literals.specs.declared.roots.Roots.{Roots}
-use Rattle.root_literals.proofs.RootLemmas.History.{front_in_front}
-use Rattle.root_literals.proofs.RootLemmas.Kept.{noted_left, still_seen, was_there}
-use Rattle.root_literals.proofs.RootLemmas.Order.{seen_has_at, there_seen}
-use Rattle.root_literals.proofs.RootLemmas.Uses.{counted_out, in_rest}
+use Rattle.root_literals.proofs.RootLemmas.{History.front_in_front, Kept.noted_left}
+use Rattle.root_literals.proofs.RootLemmas.{Kept.still_seen, Kept.was_there, Order.seen_has_at}
+use Rattle.root_literals.proofs.RootLemmas.{Order.there_seen, Uses.counted_out, Uses.in_rest}
 use Rattle.root_literals.proofs.RootLemmas.Watched.{front_part, sure_by, sure_is}
 
 -- one clause has the literal

@@ -1,28 +1,24 @@
 -- Clauses in order are the same sets.
-use Rattle.std.proofs.Common.{◌≡◌, ◌≢◌, ℕ, Bool, true, false, cond, eqb, eqb-true}
-use Rattle.std.proofs.Common.{filter, ◌&&◌, ◌||◌, T, Option, Some, None, option_map, is_some, List}
-use Rattle.std.proofs.Common.{[], ◌∷◌, map, sum_by, refl, sym, ap, ◌∙◌, subst, arith, rules}
-use Rattle.std.specs.Ordering.{nat_cmp, is_lt, eq_by_cmp}
-use Rattle.std.specs.Cmp.{nat_cmp_total}
-use Rattle.std.specs.List.{list_any}
-use Rattle.std.specs.FinMap as maps
-use Rattle.std.specs.FinMap.{FinMap, find, is_sorted}
-use Rattle.std.specs.FinMap.Entries.{below_all}
-use Rattle.std.proofs.lemmas.Bool.{true≢false}
-use Rattle.std.proofs.lemmas.Bool.Decides.{nat_tests}
-use Rattle.std.proofs.lemmas.List.Sums.{sum_by-cons}
+use Rattle.std.proofs.Common.{◌≡◌, ◌≢◌, ℕ, Bool, true, false, cond, eqb, eqb-true, filter, ◌&&◌}
+use Rattle.std.proofs.Common.{◌||◌, T, Option, Some, None, option_map, is_some, List, [], ◌∷◌, map}
+use Rattle.std.proofs.Common.{sum_by, refl, sym, ap, ◌∙◌, subst, arith, rules}
+use Rattle.std.proofs.lemmas.{Bool.true≢false, Bool.Decides.nat_tests, List.Sums.sum_by-cons}
 use Rattle.std.proofs.lemmas.Option.{none-some, same_Some}
+use Rattle.std.specs.Ordering.{nat_cmp, is_lt, eq_by_cmp}
+use Rattle.std.specs.{Cmp.nat_cmp_total, List.list_any}
+use Rattle.std.specs.FinMap.{FinMap, find, is_sorted, Entries.below_all}
+use Rattle.std.specs.FinMap as maps
 use Rattle.cnf_base.specs.Literals.{Literal, Clause, complement, complements, has, same_clause}
 use Rattle.cnf_base.specs.Literals.{size}
+use Rattle.cnf_base.specs.Maps.{sum_over}
 use Rattle.cnf_base.proofs.LiteralLemmas.{complement-complement}
 use Rattle.cnf_base.proofs.SetLemmas.{both_pass, complements_has, filter_has, has-complements}
 use Rattle.cnf_base.proofs.SetLemmas.{has-filter, same_from}
-use Rattle.propagation.specs.Assumptions.{HasAt}
-use Rattle.clause_db.specs.Store.{IsTouchedAt, literals_in}
-use Rattle.cnf_base.specs.Maps.{sum_over}
-use Rattle.root_literals.specs.Order.{set_of, in_order, each_in_order}
 use Rattle.cnf_base.proofs.SizeLemmas.{size_same}
 use Rattle.cnf_base.proofs.MapLemmas.{get_insert, get_remove, inserted_is, same_maps}
+use Rattle.propagation.specs.Assumptions.{HasAt}
+use Rattle.clause_db.specs.Store.{IsTouchedAt, literals_in}
+use Rattle.root_literals.specs.Order.{set_of, in_order, each_in_order}
 
 tie_back : (k q : ℕ) → eq_by_cmp nat_cmp k q ≡ eqb q k
 tie_back k q = grind (arith, nat_tests)
@@ -31,8 +27,7 @@ tie_back k q = grind (arith, nat_tests)
 
 in_set : (c : Clause) (l : Literal) → is_some (maps.get (set_of c) l) ≡ has c l
 in_set [] l = ap is_some (maps.get-empty nat_cmp l)
-in_set (k ∷ c) l =
-    ap is_some (maps.get-insert nat_cmp_total (set_of c) k tt l)
+in_set (k ∷ c) l = ap is_some (maps.get-insert nat_cmp_total (set_of c) k tt l)
     ∙ by_test (eq_by_cmp nat_cmp l k) (eqb k l) (tie_back l k) (maps.get (set_of c) l) (in_set c l)
   where
     by_test : (a b : Bool) → a ≡ b → (o : Option Unit) → is_some o ≡ has c l → is_some (cond a (Some tt) o) ≡ (b || has c l)
@@ -132,10 +127,6 @@ alive_clause live s alive = search rules
 
 pub seen_has_at : (live : FinMap nat_cmp Clause) (l : Literal) (s : ℕ) → HasAt (maps.get (each_in_order live)) l s → HasAt (maps.get live) l s
 seen_has_at live l s h = search (rules, there_seen)
-
--- what literals touch, in order and as it stands
-abbrev touches : (lits : List Literal) → (Literal → Bool) → Bool
-touches lits member = list_any (λ l. member (complement l)) lits
 
 pub touched_seen : (live : FinMap nat_cmp Clause) (lits : List Literal) (s : ℕ) → IsTouchedAt live lits s → IsTouchedAt (each_in_order live) lits s
 touched_seen live lits s h = search (rules, seen_there, has-in_order)

@@ -1,28 +1,22 @@
 -- How many of the literals have a reason with a literal.
 use Rattle.std.proofs.Common.{◌≡◌, ◌≢◌, ℕ, zero, suc, ◌+◌, ◌<◌, ◌≤◌, Bool, true, false, cond, eqb}
-use Rattle.std.proofs.Common.{eqb-true, eq-eqb, Option, Some, None, option_map, List, [], ◌∷◌, ◌++◌, length, get_or, take}
-use Rattle.std.proofs.Common.{refl, sym, ap, ◌∙◌, subst, arith, inl, inr, rules}
-use Rattle.std.specs.List.{remove}
-use Rattle.std.specs.Ordering.{nat_cmp}
-use Rattle.std.specs.FinMap as maps
-use Rattle.std.specs.FinMap.{FinMap}
-use Rattle.std.proofs.lemmas.Bool.{cases_eq, cases_lt, false≢true, or_right}
-use Rattle.std.proofs.lemmas.List.{length-take, take-take, take_more}
-use Rattle.std.proofs.lemmas.List.Edits.{length-remove}
+use Rattle.std.proofs.Common.{eqb-true, eq-eqb, Option, Some, None, option_map, List, [], ◌∷◌, ◌++◌}
+use Rattle.std.proofs.Common.{length, get_or, take, refl, sym, ap, ◌∙◌, subst, arith, inl, inr}
+use Rattle.std.proofs.Common.{rules}
+use Rattle.std.proofs.lemmas.Bool.{cases_eq, cases_lt, false≢true, or_right, Decides.nat_tests}
+use Rattle.std.proofs.lemmas.List.{length-take, take-take, take_more, Edits.length-remove}
 use Rattle.std.proofs.lemmas.Grind.{common_steps}
-use Rattle.std.proofs.lemmas.Bool.Decides.{nat_tests}
+use Rattle.std.specs.{List.remove, Ordering.nat_cmp, FinMap.FinMap}
+use Rattle.std.specs.FinMap as maps
 use Rattle.cnf_base.specs.Literals.{Literal, Clause, has, variable}
 use Rattle.cnf_base.proofs.MapLemmas.{remove_here, remove_other}
-use Rattle.cnf_base.proofs.MemberLemmas.{place_in_front}
-use Rattle.cnf_base.proofs.SetLemmas.{has_cases, has_head}
+use Rattle.cnf_base.proofs.{MemberLemmas.place_in_front, SetLemmas.has_cases, SetLemmas.has_head}
 use Rattle.cnf_base.proofs.WalkLemmas.{has_more}
 use Rattle.theory.specs.Propagation.{Live}
 use Rattle.trail.specs.Trail.{HasNoVariableTwice}
-use Rattle.trail.proofs.TrailLemmas.Truth.{places_apart}
-use Rattle.trail.proofs.TrailLemmas.Without.{none_left}
-use Rattle.root_literals.specs.Order.{each_in_order}
-use Rattle.root_literals.specs.Uses.{AreCounted, clause_in, is_in, times, uses_of}
-use Rattle.root_literals.specs.declared.uses.Uses.{Uses}
+use Rattle.trail.proofs.TrailLemmas.{Truth.places_apart, Without.none_left}
+use Rattle.root_literals.specs.{Order.each_in_order, Uses.AreCounted, Uses.clause_in, Uses.is_in}
+use Rattle.root_literals.specs.{Uses.times, Uses.uses_of, declared.uses.Uses.Uses}
 use Rattle.root_literals.proofs.RootLemmas.Order.{get_ordered, has-in_order}
 use Rattle.root_literals.proofs.RootLemmas.Watched.{front_part}
 
@@ -36,14 +30,13 @@ one o k = cond (is_in o k) 1 0
 pub uses_at_most : (before after : Live) (r s : Literal → Option ℕ) (k : Literal) (lits : List Literal) → ((l : Literal) → has lits l ≡ true → is_in (clause_in after (s l)) k ≡ true → is_in (clause_in before (r l)) k ≡ true) →
     uses_of after s lits k ≤ uses_of before r lits k
 uses_at_most before after r s k [] among = omega arith
-uses_at_most before after r s k (l ∷ lits) among =
-    search (
-      rules,
-      or_right,
-      has_head,
-      false≢true,
-      (uses_at_most before after r s k lits (λ m h. among m (or_right (eqb l m) (has lits m) h))),
-    )
+uses_at_most before after r s k (l ∷ lits) among = search (
+  rules,
+  or_right,
+  has_head,
+  false≢true,
+  (uses_at_most before after r s k lits (λ m h. among m (or_right (eqb l m) (has lits m) h))),
+)
 
 module _ (live : Live) (r : Literal → Option ℕ) (k : Literal) where
   -- one literal more

@@ -1,6 +1,4 @@
-use Rattle.std.proofs.Common.{Some, is_some, ◌≤◌}
-use Rattle.std.proofs.Common.{length}
-use Rattle.std.proofs.Common.{sym, ap, ◌∙◌, subst, arith}
+use Rattle.std.proofs.Common.{Some, is_some, ◌≤◌, length, sym, ap, ◌∙◌, subst, arith}
 use Rattle.cnf_base.specs.Literals.{has}
 use Rattle.tables.specs.Filled.{at}
 use Rattle.root_literals.specs.declared.roots.Kept.TheVariants.{Clash}
