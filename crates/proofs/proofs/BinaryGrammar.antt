@@ -2,19 +2,14 @@
 use Rattle.std.proofs.Common.{◌≡◌, ℕ, suc, ◌+◌, ◌*◌, ◌/◌, ◌%◌, ◌<◌, ◌≤◌, ◌==◌, ◌&&◌, nat_le, cond}
 use Rattle.std.proofs.Common.{Bool, true, false, List, [], ◌∷◌, ◌++◌, length, map, Option, None}
 use Rattle.std.proofs.Common.{Some, refl, sym, ap, ◌∙◌, append_assoc, subst, arith, rules}
-use Rattle.std.specs.Prelude.{All}
-use Rattle.std.specs.List.{flat_map, list_all}
-use Rattle.std.specs.Option.{option_map}
-use Rattle.std.proofs.lemmas.Bool.Decides.{nat_tests}
-use Rattle.std.proofs.lemmas.Grind.{flat_map-append}
-use Rattle.std.proofs.lemmas.List.{append-nil}
-use Rattle.std.proofs.lemmas.List.Elements.{All-cons}
+use Rattle.std.proofs.lemmas.{Bool.Decides.nat_tests, Grind.flat_map-append}
+use Rattle.std.proofs.lemmas.List.{append-nil, Elements.All-cons}
+use Rattle.std.specs.{Prelude.All, List.flat_map, List.list_all, Option.option_map}
 use Rattle.cnf_base.specs.Printing.{input_of, is_literal}
-use Rattle.cnf_base.specs.Stream.{next_count}
-use Rattle.cnf_base.specs.declared.input.Ending.TheVariants.{End}
+use Rattle.cnf_base.specs.{Stream.next_count, declared.input.Ending.TheVariants.End}
+use Rattle.cnf_base.proofs.PrintLemmas.{both}
 use Rattle.proofs.specs.declared.step_end.StepEnd.TheVariants.{Byte}
-use Rattle.proofs.specs.Steps.{Step, named, with_literal}
-use Rattle.proofs.specs.Reading.{PlacedStep}
+use Rattle.proofs.specs.{Steps.Step, Steps.named, Steps.with_literal, Reading.PlacedStep}
 use Rattle.proofs.specs.Binary.{groups_value, BinarySpot, at_tag, in_step, in_number, BinaryMove}
 use Rattle.proofs.specs.Binary.{goes, completes, faults, tag_move, group_move, binary_number_move}
 use Rattle.proofs.specs.Binary.{binary_move_of, on_binary_move, binary_steps_among, binary_steps}
@@ -23,7 +18,6 @@ use Rattle.proofs.specs.Printing.{number_bytes, tag_bytes, binary_step, IsDratSt
 use Rattle.proofs.specs.Grammar.{BinaryIsGrammar}
 use Rattle.proofs.proofs.BinaryPrinting.{groups_step, groups_are, group_bytes-cons, binary_read}
 use Rattle.proofs.proofs.GrammarText.{none_some, bare, bare-ReadsAs, bare-with_step, all_more}
-use Rattle.cnf_base.proofs.PrintLemmas.{both}
 
 -- ---- A number
 
@@ -93,43 +87,40 @@ tag_spelled s at b start = search rules
 
 -- a whole number
 last_spelled : (s : Step) (first : ℕ) (bytes : List ℕ) (b : ℕ) → HasLiterals s
-    → list_all is_marked bytes ≡ true → b < 128
-    → Spells (step_bytes s ++ bytes) b
+    → list_all is_marked bytes ≡ true → b < 128 → Spells (step_bytes s ++ bytes) b
     (binary_number_move s first b (groups_value (bytes ++ b ∷ [])))
-last_spelled s first bytes b has marked small =
-    search (
-      rules,
-      nat_le,
-      groups_value,
-      faults,
-      goes,
-      in_step,
-      with_literal,
-      all_more,
-      tag_bytes,
-      flat_map-append,
-      number_bytes,
-      append-nil,
-      number_spelled,
-      append_assoc,
-    )
+last_spelled s first bytes b has marked small = search (
+  rules,
+  nat_le,
+  groups_value,
+  faults,
+  goes,
+  in_step,
+  with_literal,
+  all_more,
+  tag_bytes,
+  flat_map-append,
+  number_bytes,
+  append-nil,
+  number_spelled,
+  append_assoc,
+)
 
 -- one more byte of a number
 group_spelled : (s : Step) (first : ℕ) (bytes : List ℕ) (b : ℕ) → HasLiterals s
     → list_all is_marked bytes ≡ true → b < 256
     → Spells (step_bytes s ++ bytes) b (group_move s first bytes b)
-group_spelled s first bytes b has marked byte =
-    search (
-      rules,
-      nat_le,
-      goes,
-      in_number,
-      binary_number_move,
-      groups_value,
-      all_more,
-      append_assoc,
-      last_spelled,
-    )
+group_spelled s first bytes b has marked byte = search (
+  rules,
+  nat_le,
+  goes,
+  in_number,
+  binary_number_move,
+  groups_value,
+  all_more,
+  append_assoc,
+  last_spelled,
+)
 
 byte_moves : (spot : BinarySpot) (s : Step) (at b : ℕ) → b < 256 → Fits spot s
     → Spells (so_far spot s) b (binary_move_of spot s at b)
@@ -201,8 +192,7 @@ read_steps : (offset : ℕ) (steps : List Step) → map (λ r. r.step) (printed_
 read_steps offset [] = refl
 read_steps offset (s ∷ ss) = ap (λ t. s ∷ t) (read_steps (offset + length (binary_step s)) ss)
 
-placed_steps : (ps : List PlacedStep)
-    → map (λ (r : ReadStep). r.step)
+placed_steps : (ps : List PlacedStep) → map (λ (r : ReadStep). r.step)
     (map (λ placed. record { step = placed.step; offset = placed.offset }) ps)
     ≡ map (λ placed. placed.step) ps
 placed_steps [] = refl

@@ -4,30 +4,22 @@ use Rattle.std.proofs.Common.{◌∙◌, subst, arith, rules}
 use Rattle.std.specs.Prelude.{Bool, true, Result, Ok, Err, slice_index}
 use Rattle.cnf_base.specs.Stream.{Suffix, Stream, Along, IsLook, bumped, next_count, most_to_come}
 use Rattle.cnf_base.specs.Stream.{tells_failure}
-use Rattle.cnf_base.specs.Readers.{Keeps}
-use Rattle.cnf_base.specs.declared.input.Ending.TheVariants.{End, Failed}
-use Rattle.cnf_base.specs.declared.fault.Fault.{Fault}
+use Rattle.cnf_base.specs.{Readers.Keeps, declared.input.Ending.TheVariants.End}
+use Rattle.cnf_base.specs.{declared.input.Ending.TheVariants.Failed, declared.fault.Fault.Fault}
 use Rattle.cnf_base.specs.declared.fault.Fault.TheVariants.{Binary, ReadFailed, OutOfMemory}
 use Rattle.cnf_base.specs.declared.fault.BinaryFault.{BinaryFault}
 use Rattle.cnf_base.proofs.StreamLemmas.{Splits-first, Splits-byte, Along-then, Along-map}
 use Rattle.cnf_base.proofs.StreamLemmas.{Along-look, Along-bumped, Along-still, shown_end}
-use Rattle.cnf_base.proofs.StreamLemmas.{most_to_come-bumped, most_to_come-look}
-use Rattle.cnf_base.proofs.StreamLemmas.{IsLook-still}
-use Rattle.proofs.specs.declared.step_end.StepEnd.{StepEnd}
-use Rattle.proofs.specs.declared.step_end.StepEnd.TheVariants.{Byte}
-use Rattle.proofs.specs.Steps.{Step, named}
+use Rattle.cnf_base.proofs.StreamLemmas.{most_to_come-bumped, most_to_come-look, IsLook-still}
+use Rattle.proofs.specs.declared.step_end.StepEnd.{StepEnd, TheVariants.Byte}
+use Rattle.proofs.specs.declared.{moved.Moved.Moved, drat_binary.part.BinaryPart.BinaryPart}
+use Rattle.proofs.specs.{declared.drat_binary.stopped.Stopped.Stopped, Steps.Step, Steps.named}
 use Rattle.proofs.specs.Reading.{Proof, GivesStep, PassesNoEnd}
-use Rattle.proofs.specs.Code.Reading.{proof_unless_ended}
-use Rattle.proofs.specs.Code.TextMoves.{EndsProof}
-use Rattle.proofs.specs.Code.Whole.{RunsOn}
+use Rattle.proofs.specs.Code.{Reading.proof_unless_ended, TextMoves.EndsProof, Whole.RunsOn}
+use Rattle.proofs.specs.Code.Binary.{binary_steps_from, binary_steps_at}
+use Rattle.proofs.specs.Code.BinaryMoves.{MovesBinary, binary_left}
 use Rattle.proofs.specs.Binary.{BinarySpot, at_tag, BinaryMove, goes, completes, faults}
 use Rattle.proofs.specs.Binary.{binary_move_of, on_binary_move, binary_at_end}
-use Rattle.proofs.specs.Code.Binary.{binary_steps_from}
-use Rattle.proofs.specs.Code.Binary.{binary_steps_at}
-use Rattle.proofs.specs.Code.BinaryMoves.{MovesBinary, binary_left}
-use Rattle.proofs.specs.declared.moved.Moved.{Moved}
-use Rattle.proofs.specs.declared.drat_binary.part.BinaryPart.{BinaryPart}
-use Rattle.proofs.specs.declared.drat_binary.stopped.Stopped.{Stopped}
 use Rattle.proofs.proofs.ReachLemmas.{on_binary_move-from, binary_steps_among-from}
 use Rattle.proofs.proofs.TextLemmas.{gives_fault}
 
@@ -76,7 +68,7 @@ module _ (old now new : Stream) (spot : BinarySpot) (s : Step) (so_far : Between
     -- whatever the byte did, nothing that was to come ends before what is left
     follows-from : (j : Suffix) (move : BinaryMove) → PassesNoEnd (follows j move) j
     follows-from j move =
-        search (rules, on_binary_move-from, binary_steps_from, binary_steps_among-from)
+        search (rules, on_binary_move-from, binary_steps_among-from)
 
     pub Between-byte : (next : BinarySpot) (t : Step) → binary_move_of spot s new.byte_no b ≡ goes next t → tells_failure new.reader ≡ tells_failure now.reader
         → Between old (bumped new) next t
@@ -103,7 +95,7 @@ module _ (old now new : Stream) (spot : BinarySpot) (s : Step) (so_far : Between
 
   -- and none before the rest
   rest-from : (i j : Suffix) → binary_steps_at old.byte_no i ≡ binary_steps_from spot s new.byte_no j → PassesNoEnd (binary_steps_at old.byte_no i) j
-  rest-from i j is = search (rules, passes, binary_steps_from, binary_steps_among-from)
+  rest-from i j is = search (rules, passes, binary_steps_among-from)
 
   pub Between-end : (result : Result Bool Fault) (end : Option StepEnd) → new.ahead ≡ [] → new.met ≡ Some End → EndsProof result (binary_at_end spot new.byte_no End)
       → Gave new result end s

@@ -1,18 +1,14 @@
 -- A DRAT proof that was printed in binary, as it is read.
-use Rattle.std.proofs.Common.{◌≡◌, ℕ, zero, suc, ◌+◌, ◌*◌, ◌/◌, ◌%◌, ◌<◌, ◌≤◌, ◌==◌, nat_le}
-use Rattle.std.proofs.Common.{Bool, true, false, List, [], ◌∷◌, ◌++◌, length, fold, refl}
-use Rattle.std.proofs.Common.{sym, ap, ◌∙◌, subst, append_assoc, length-append, arith, rules}
-use Rattle.std.specs.Prelude.{All}
-use Rattle.std.specs.List.{flat_map, list_all}
-use Rattle.std.proofs.lemmas.Bool.Decides.{nat_tests}
-use Rattle.std.proofs.lemmas.Int.Digits.{digits_of_step}
+use Rattle.std.proofs.Common.{◌≡◌, ℕ, zero, suc, ◌+◌, ◌*◌, ◌/◌, ◌%◌, ◌<◌, ◌≤◌, ◌==◌, nat_le, Bool}
+use Rattle.std.proofs.Common.{true, false, List, [], ◌∷◌, ◌++◌, length, fold, refl, sym, ap, ◌∙◌}
+use Rattle.std.proofs.Common.{subst, append_assoc, length-append, arith, rules}
+use Rattle.std.proofs.lemmas.{Bool.Decides.nat_tests, Int.Digits.digits_of_step}
 use Rattle.std.proofs.lemmas.List.{reverse-append}
+use Rattle.std.specs.{Prelude.All, List.flat_map, List.list_all}
 use Rattle.cnf_base.specs.Printing.{input_of, is_literal}
-use Rattle.cnf_base.specs.Stream.{next_count}
-use Rattle.cnf_base.specs.declared.input.Ending.TheVariants.{End}
+use Rattle.cnf_base.specs.{Stream.next_count, declared.input.Ending.TheVariants.End}
 use Rattle.cnf_base.proofs.PrintLemmas.{both, literal_range}
-use Rattle.proofs.specs.declared.step_buf.StepKind.{StepKind}
-use Rattle.proofs.specs.declared.step_buf.StepKind.TheVariants.{Add, Delete}
+use Rattle.proofs.specs.declared.step_buf.StepKind.{StepKind, TheVariants.Add, TheVariants.Delete}
 use Rattle.proofs.specs.Steps.{Step, named, with_literal}
 use Rattle.proofs.specs.Binary.{groups_value, at_tag, in_step, in_number, group_move, goes}
 use Rattle.proofs.specs.Binary.{completes, on_binary_move, binary_steps_among, binary_steps}
@@ -99,18 +95,17 @@ groups_begin : (n : ℕ) (gs : List ℕ) → IsGroups n gs → (rest : List ℕ)
     → binary_steps_among in_step s at offset (group_bytes gs ++ rest) End
     ≡ binary_steps_among (in_number at []) s at offset (group_bytes gs ++ rest) End
 groups_begin _ _ (last n some small) rest at offset s = search rules
-groups_begin _ _ (more n g gs small groups) rest at offset s =
-    search (
-      rules,
-      group_bytes-cons,
-      binary_steps_among,
-      in_step,
-      on_binary_move,
-      completes,
-      group_move,
-      group_bytes,
-      in_number,
-    )
+groups_begin _ _ (more n g gs small groups) rest at offset s = search (
+  rules,
+  group_bytes-cons,
+  binary_steps_among,
+  in_step,
+  on_binary_move,
+  completes,
+  group_move,
+  group_bytes,
+  in_number,
+)
 
 -- a literal, and what follows it
 literal_read : (l : ℕ) (rest : List ℕ) (at offset : ℕ) (s : Step) (result : ReadProof) → is_literal 268435455 l ≡ true

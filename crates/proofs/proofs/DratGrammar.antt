@@ -1,24 +1,17 @@
 -- The steps of a DRAT text, both ways.
 use Rattle.std.proofs.Common.{◌≡◌, ℕ, true, List, [], ◌∷◌, ◌++◌, map, fold, refl, ap, ◌∙◌}
 use Rattle.std.proofs.Common.{append_assoc, rules}
-use Rattle.std.specs.Prelude.{codes}
-use Rattle.std.specs.List.{list_all}
-use Rattle.std.specs.Option.{option_map}
 use Rattle.std.proofs.lemmas.List.{map-append}
-use Rattle.cnf_base.specs.Literals.{Literal}
-use Rattle.cnf_base.specs.Printing.{is_literal, literal_text, literal_words}
-use Rattle.cnf_base.specs.Words.{word_of}
-use Rattle.cnf_base.specs.declared.word.Word.{Word}
+use Rattle.std.specs.{Prelude.codes, List.list_all, Option.option_map}
+use Rattle.cnf_base.specs.{Literals.Literal, Printing.is_literal, Printing.literal_text}
+use Rattle.cnf_base.specs.{Printing.literal_words, Words.word_of, declared.word.Word.Word}
 use Rattle.cnf_base.specs.declared.word.Word.TheVariants as words
-use Rattle.cnf_base.proofs.PrintLemmas.{both}
-use Rattle.cnf_base.proofs.GrammarLemmas.{IsSpelled, word_spelled}
-use Rattle.proofs.specs.declared.step_buf.StepKind.{StepKind}
-use Rattle.proofs.specs.declared.step_buf.StepKind.TheVariants.{Add, Delete}
+use Rattle.cnf_base.proofs.{PrintLemmas.both, GrammarLemmas.IsSpelled, GrammarLemmas.word_spelled}
+use Rattle.proofs.specs.declared.step_buf.StepKind.{StepKind, TheVariants.Add, TheVariants.Delete}
 use Rattle.proofs.specs.Steps.{Step, named, with_literal}
 use Rattle.proofs.specs.TextSteps.{goes, completes, move_of}
 use Rattle.proofs.specs.Drat.{DratSpot, at_start, in_literals, drat, is_start}
-use Rattle.proofs.specs.Printing.{drat_words, IsDratStep}
-use Rattle.proofs.specs.Grammar.{DratIsGrammar}
+use Rattle.proofs.specs.{Printing.drat_words, Printing.IsDratStep, Grammar.DratIsGrammar}
 use Rattle.proofs.proofs.PrintedText.{with_literals, drat_step, drat_step_is}
 use Rattle.proofs.proofs.DratPrinting.{literal_move}
 use Rattle.proofs.proofs.GrammarText.{on_word, word_steps, Spelling, Spells, IsSpelling}
@@ -77,8 +70,7 @@ literals_read : (ls : List Literal) (rest : List (List ℕ)) (s : Step)
     → word_steps drat in_literals s (map word_of (literal_words ls ++ rest))
     ≡ option_map (λ ss. fold with_literal s ls ∷ ss)
     (word_steps drat at_start (named 0) (map word_of rest))
-literals_read ls rest s are =
-    ap (λ ws. word_steps drat in_literals s (map word_of ws))
+literals_read ls rest s are = ap (λ ws. word_steps drat in_literals s (map word_of ws))
     (append_assoc (map literal_text ls) (codes "0" ∷ []) rest)
     ∙ list_words drat literal_text (is_literal 268435455) with_literal in_literals
     (literal_move in_literals) ls (codes "0" ∷ rest) s are
@@ -88,32 +80,30 @@ words_read : (kind : StepKind) (ls : List Literal) (rest : List (List ℕ))
     → word_steps drat at_start (named 0) (map word_of (drat_words kind ls ++ rest))
     ≡ option_map (λ ss. drat_step kind ls ∷ ss) (word_steps drat at_start (named 0) (map word_of rest))
 words_read Delete ls rest are =
-    simp (literals_read, drat_step, word_steps, drat, at_start, named, with_literals)
+    simp (literals_read, drat_step, word_steps, named, with_literals)
 words_read Add [] rest are = refl
 words_read Add (l ∷ ls) rest are =
     let r = both (is_literal 268435455 l) (list_all (is_literal 268435455) ls) are in
     ap (λ m. on_word drat m
     (λ part s. word_steps drat part s (map word_of (literal_words ls ++ rest))))
-    (literal_move at_start (named 0) l r.0)
-    ∙ literals_read ls rest (drat_step Add (l ∷ [])) r.1
+    (literal_move at_start (named 0) l r.0) ∙ literals_read ls rest (drat_step Add (l ∷ [])) r.1
     ∙ ap (λ s. option_map (λ ss. s ∷ ss) (word_steps drat at_start (named 0) (map word_of rest)))
     (with_literals (drat_step Add (l ∷ [])) ls)
 
 is_spelling : IsSpelling drat spelling
-is_spelling =
-    search (
-      rules,
-      word_moves,
-      word_spelled,
-      words_read,
-      word_steps,
-      drat,
-      at_start,
-      named,
-      drat_step_is,
-      is_start,
-      in_literals,
-    )
+is_spelling = search (
+  rules,
+  word_moves,
+  word_spelled,
+  words_read,
+  word_steps,
+  drat,
+  at_start,
+  named,
+  drat_step_is,
+  is_start,
+  in_literals,
+)
 
 pub drat_both_ways : DratIsGrammar
 drat_both_ways = text_both_ways drat spelling is_spelling

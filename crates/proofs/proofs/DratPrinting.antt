@@ -1,23 +1,17 @@
 -- A DRAT proof that was printed as text, as it is read.
 use Rattle.std.proofs.Common.{◌≡◌, ℕ, suc, ◌+◌, ◌-◌, ◌<◌, true, List, [], ◌∷◌, ◌++◌, length, fold}
 use Rattle.std.proofs.Common.{refl, ap, ◌∙◌, arith}
-use Rattle.std.specs.Prelude.{codes, All}
-use Rattle.std.specs.List.{flat_map, list_all}
+use Rattle.std.specs.{Prelude.codes, Prelude.All, List.flat_map, List.list_all}
 use Rattle.cnf_base.specs.Literals.{Literal}
 use Rattle.cnf_base.specs.Printing.{input_of, is_literal, literal_text, literal_words, words_line}
-use Rattle.cnf_base.specs.Stream.{suffix}
-use Rattle.cnf_base.specs.Code.Text.{col_along}
-use Rattle.cnf_base.specs.Code.Text.{line_after}
-use Rattle.cnf_base.specs.Words.{word_of}
+use Rattle.cnf_base.specs.{Stream.suffix, Code.Text.col_along, Code.Text.line_after, Words.word_of}
 use Rattle.cnf_base.specs.declared.fault.TextFault.TheVariants.{LiteralTooLarge}
-use Rattle.cnf_base.specs.declared.input.Ending.TheVariants.{End}
-use Rattle.cnf_base.specs.declared.place.Place.{Place}
+use Rattle.cnf_base.specs.declared.{input.Ending.TheVariants.End, place.Place.Place}
 use Rattle.cnf_base.proofs.PrintLemmas.{line_from, end_of_line, end_of_line-first, along_from_one}
 use Rattle.cnf_base.proofs.PrintLemmas.{next_line, first_word, both, fixed_plain, zero_plain}
 use Rattle.cnf_base.proofs.PrintLemmas.{literal_word, literal_plain, literal_no_comment}
 use Rattle.cnf_base.proofs.PrintLemmas.{literal_taken}
-use Rattle.proofs.specs.declared.step_buf.StepKind.{StepKind}
-use Rattle.proofs.specs.declared.step_buf.StepKind.TheVariants.{Add, Delete}
+use Rattle.proofs.specs.declared.step_buf.StepKind.{StepKind, TheVariants.Add, TheVariants.Delete}
 use Rattle.proofs.specs.Steps.{Step, named, with_literal}
 use Rattle.proofs.specs.TextSteps.{goes, completes, faults, literal_or_end, move_of, steps_from}
 use Rattle.proofs.specs.Code.TextSteps.{steps_at}
@@ -29,8 +23,7 @@ use Rattle.proofs.proofs.PrintedText.{word_completes, list_read, zero_read, line
 -- a literal's word
 pub literal_move : (part : DratSpot) (s : Step) (l : Literal) → is_literal 268435455 l ≡ true
     → move_of drat part s (word_of (literal_text l)) ≡ goes in_literals (with_literal s l)
-literal_move part s l is =
-    ap (move_of drat part s) (literal_word 268435455 l (omega arith) is)
+literal_move part s l is = ap (move_of drat part s) (literal_word 268435455 l (omega arith) is)
     ∙ literal_taken 268435455 l (omega arith) is (literal_or_end in_literals completes s) (faults LiteralTooLarge)
 
 module _ (rest : List ℕ) (result : ReadProof) (end : ℕ)

@@ -1,22 +1,15 @@
 -- The steps of a text by its words alone, in whatever format.
-use Rattle.std.proofs.Common.{◌≡◌, ℕ, suc, ◌+◌, ◌*◌, ◌≤◌, nat_le, cond, Bool}
-use Rattle.std.proofs.Common.{true, false, List, [], ◌∷◌, ◌++◌, map, fold, Option, None, Some, refl}
-use Rattle.std.proofs.Common.{sym, ap, ◌∙◌, append_assoc, subst, arith, rules}
-use Rattle.std.specs.Prelude.{All, codes}
-use Rattle.std.proofs.lemmas.Fmt.{decimal_digit}
-use Rattle.std.specs.List.{flat_map, filter_map, cons_option, list_all}
-use Rattle.std.specs.Option.{option_map}
-use Rattle.std.proofs.lemmas.List.Elements.{All-cons}
-use Rattle.std.proofs.lemmas.List.Folds.{list_all-append}
-use Rattle.cnf_base.specs.Grammar.{text_words}
-use Rattle.cnf_base.specs.Printing.{input_of, is_literal, literal_text}
-use Rattle.cnf_base.specs.Text.{Listed, listing_of}
-use Rattle.cnf_base.specs.Words.{word_of}
-use Rattle.cnf_base.specs.declared.input.Ending.TheVariants.{End}
-use Rattle.cnf_base.specs.declared.place.Place.{Place}
-use Rattle.cnf_base.specs.Literals.{Literal}
-use Rattle.cnf_base.specs.declared.word.Number.{Number}
-use Rattle.cnf_base.specs.declared.word.Word.{Word}
+use Rattle.std.proofs.Common.{◌≡◌, ℕ, suc, ◌+◌, ◌*◌, ◌≤◌, nat_le, cond, Bool, true, false, List, []}
+use Rattle.std.proofs.Common.{◌∷◌, ◌++◌, map, fold, Option, None, Some, refl, sym, ap, ◌∙◌}
+use Rattle.std.proofs.Common.{append_assoc, subst, arith, rules}
+use Rattle.std.proofs.lemmas.{Fmt.decimal_digit, List.Elements.All-cons, List.Folds.list_all-append}
+use Rattle.std.specs.{Prelude.All, Prelude.codes, List.flat_map, List.filter_map, List.cons_option}
+use Rattle.std.specs.{List.list_all, Option.option_map}
+use Rattle.cnf_base.specs.{Grammar.text_words, Printing.input_of, Printing.is_literal}
+use Rattle.cnf_base.specs.{Printing.literal_text, Text.Listed, Text.listing_of, Words.word_of}
+use Rattle.cnf_base.specs.declared.{input.Ending.TheVariants.End, place.Place.Place}
+use Rattle.cnf_base.specs.declared.{word.Number.Number, word.Word.Word, fault.Fault.Fault}
+use Rattle.cnf_base.specs.{declared.fault.TextFault.TheVariants.LiteralTooLarge, Literals.Literal}
 use Rattle.cnf_base.specs.declared.word.Word.TheVariants as words
 use Rattle.cnf_base.specs.declared.token.Token as tokens
 use Rattle.cnf_base.specs.declared.token.Token.TheVariants as token
@@ -25,11 +18,8 @@ use Rattle.cnf_base.proofs.PrintLemmas.{both}
 use Rattle.proofs.specs.Steps.{Step, named, with_literal}
 use Rattle.proofs.specs.Reading.{Proof, PlacedStep, with_step}
 use Rattle.proofs.specs.TextSteps.{Move, goes, completes, faults, Format, move_of, on_move}
-use Rattle.proofs.specs.TextSteps.{literal_or_end, literal_or_fault, steps_among}
-use Rattle.proofs.specs.TextSteps.{steps_of}
+use Rattle.proofs.specs.TextSteps.{literal_or_end, literal_or_fault, steps_among, steps_of}
 use Rattle.proofs.specs.Grammar.{ReadsAs, IsTextOf, IsGrammar}
-use Rattle.cnf_base.specs.declared.fault.Fault.{Fault}
-use Rattle.cnf_base.specs.declared.fault.TextFault.TheVariants.{LiteralTooLarge}
 use Rattle.proofs.specs.declared.step_end.StepEnd.{StepEnd}
 use Rattle.proofs.specs.declared.step_end.StepEnd.TheVariants as ends
 
@@ -91,8 +81,7 @@ module _ {Part : Type 0} (format : Format Part) where
           → bare (on_move format at t.1 m (λ part s. steps_among format part s ts p End))
           ≡ on_word m (λ part s. word_steps part s words)
       moved later at (goes part s) = later part s
-      moved later at (completes s) =
-          bare-with_step s (ends.Text at) t.1
+      moved later at (completes s) = bare-with_step s (ends.Text at) t.1
           (steps_among format format.start (named 0) ts p End)
           ∙ ap (option_map (λ ss. s ∷ ss)) (later format.start (named 0))
       moved later at (faults f) = refl
@@ -107,8 +96,7 @@ module _ {Part : Type 0} (format : Format Part) where
   -- a text is read as its words are
   pub text_bare : (bytes : List ℕ) → bare (steps_of format (input_of bytes))
       ≡ word_steps format.start (named 0) (map word_of (text_words bytes))
-  text_bare bytes =
-      ap (λ ending. bare
+  text_bare bytes = ap (λ ending. bare
       (steps_among format format.start (named 0) tokens (listing_of (input_of bytes)).end ending))
       (listing_says bytes).ending
       ∙ tokens_bare format.start (named 0) tokens (listing_of (input_of bytes)).end
@@ -186,8 +174,7 @@ module _ {Part : Type 0} (format : Format Part) (g : Spelling Part) (is : IsSpel
           → AreSpelled part s (run ∷ runs) steps
       by (goes next t) m later e =
           let r = later next t steps m.0 e in (r.0, onto (g.so_far next t) m.1 ∙ r.1)
-      by (completes t) m later e =
-          completed t m.0 m.1 later
+      by (completes t) m later e = completed t m.0 m.1 later
           (word_steps format format.start (named 0) (map word_of runs)) refl e
       by (faults f) m later e = absurd (none_some steps e)
 
@@ -195,8 +182,7 @@ module _ {Part : Type 0} (format : Format Part) (g : Spelling Part) (is : IsSpel
   words_read : (steps : List Step) → All g.IsStep steps
       → word_steps format format.start (named 0) (map word_of (flat_map g.whole steps)) ≡ Some steps
   words_read [] are = ap (λ v. cond v (Some []) None) is.starts
-  words_read (s ∷ ss) are =
-      is.reads s (are 0 s (omega arith)) (flat_map g.whole ss)
+  words_read (s ∷ ss) are = is.reads s (are 0 s (omega arith)) (flat_map g.whole ss)
       ∙ ap (option_map (λ ss. s ∷ ss)) (words_read ss (λ k d l. are (suc k) d (omega arith)))
 
   -- a text that is read as steps has their words
@@ -212,8 +198,7 @@ module _ {Part : Type 0} (format : Format Part) (g : Spelling Part) (is : IsSpel
   -- and one that has their words is read as them
   text_read : (bytes : List ℕ) (steps : List Step) → All g.IsStep steps
       → text_words bytes ≡ flat_map g.whole steps → ReadsAs (steps_of format (input_of bytes)) steps
-  text_read bytes steps are words =
-      ReadsAs-bare (steps_of format (input_of bytes)) steps
+  text_read bytes steps are words = ReadsAs-bare (steps_of format (input_of bytes)) steps
       (text_bare format bytes
       ∙ ap (λ ws. word_steps format format.start (named 0) (map word_of ws)) words
       ∙ words_read steps are)
@@ -235,8 +220,7 @@ all_more test xs x are is = search (rules, list_all-append)
 
 -- many words that do the same
 pub list_words : {Part : Type 0} (format : Format Part) {A : Type 0} (printed : A → List ℕ)
-    (fits : A → Bool) (with : Step → A → Step) (part : Part)
-    → ((s : Step) (x : A) → fits x ≡ true
+    (fits : A → Bool) (with : Step → A → Step) (part : Part) → ((s : Step) (x : A) → fits x ≡ true
     → move_of format part s (word_of (printed x)) ≡ goes part (with s x))
     → (xs : List A) (runs : List (List ℕ)) (s : Step) → list_all fits xs ≡ true
     → word_steps format part s (map word_of (map printed xs ++ runs))

@@ -1,14 +1,9 @@
 -- The groups of a number, byte by byte.
-use Rattle.std.proofs.Common.{◌≡◌, ℕ, zero, suc, ◌+◌, ◌-◌, ◌*◌, ◌^◌, ◌%◌, min}
-use Rattle.std.proofs.Common.{List, [], ◌∷◌, ◌++◌, length, arith}
-use Rattle.std.proofs.Common.{length-append, rules}
-use Rattle.std.proofs.Math.Nat.{pow-suc}
-use Rattle.std.proofs.lemmas.Bool.Decides.{nat_tests}
-use Rattle.std.proofs.lemmas.Grind.{common_steps}
-use Rattle.proofs.specs.Steps.{Step}
-use Rattle.proofs.specs.Binary.{groups_value, binary_number_move}
-use Rattle.proofs.specs.Code.BinaryMoves.{KeepsGroups}
-use Rattle.proofs.specs.declared.drat_binary.groups.Groups.{Groups}
+use Rattle.std.proofs.Common.{◌≡◌, ℕ, zero, suc, ◌+◌, ◌-◌, ◌*◌, ◌^◌, ◌%◌, min, List, [], ◌∷◌, ◌++◌}
+use Rattle.std.proofs.Common.{length, arith, length-append, rules}
+use Rattle.std.proofs.{Math.Nat.pow-suc, lemmas.Bool.Decides.nat_tests, lemmas.Grind.common_steps}
+use Rattle.proofs.specs.{Steps.Step, Binary.groups_value, Binary.binary_number_move}
+use Rattle.proofs.specs.{Code.BinaryMoves.KeepsGroups, declared.drat_binary.groups.Groups.Groups}
 
 value-last : (bs : List ℕ) (b : ℕ) → groups_value (bs ++ b ∷ []) ≡ groups_value bs + b % 128 * 128 ^ length bs
 value-last [] b = omega arith

@@ -2,21 +2,16 @@
 use Rattle.std.proofs.Common.{◌≡◌, ℕ, zero, suc, ◌≤◌, ◌&&◌, nat_le, cond, Bool, true, false, List}
 use Rattle.std.proofs.Common.{[], ◌∷◌, ◌++◌, map, fold, Option, refl, sym, ap, ◌∙◌, append_assoc}
 use Rattle.std.proofs.Common.{arith, rules}
-use Rattle.std.specs.Prelude.{codes, ℤ, pos, neg_ℤ}
-use Rattle.std.specs.Fmt.{decimal, signed_decimal}
-use Rattle.std.specs.List.{list_all}
-use Rattle.std.specs.Option.{option_map}
 use Rattle.std.proofs.lemmas.List.{append-nil, map-append}
+use Rattle.std.specs.Prelude.{codes, ℤ, pos, neg_ℤ}
+use Rattle.std.specs.{Fmt.decimal, Fmt.signed_decimal, List.list_all, Option.option_map}
 use Rattle.cnf_base.specs.Literals.{Literal}
 use Rattle.cnf_base.specs.Printing.{is_literal, literal_text, literal_words}
-use Rattle.cnf_base.specs.Words.{word_of}
-use Rattle.cnf_base.specs.declared.word.Number.{Number}
-use Rattle.cnf_base.specs.declared.word.Word.{Word}
+use Rattle.cnf_base.specs.{Words.word_of, declared.word.Number.Number, declared.word.Word.Word}
 use Rattle.cnf_base.specs.declared.word.Word.TheVariants as words
 use Rattle.cnf_base.proofs.PrintLemmas.{both}
 use Rattle.cnf_base.proofs.GrammarLemmas.{number_text, IsSpelled, word_spelled}
-use Rattle.proofs.specs.declared.step_buf.StepKind.{StepKind}
-use Rattle.proofs.specs.declared.step_buf.StepKind.TheVariants.{Add, Delete}
+use Rattle.proofs.specs.declared.step_buf.StepKind.{StepKind, TheVariants.Add, TheVariants.Delete}
 use Rattle.proofs.specs.Steps.{Step, is_small, is_hint, named, with_literal, with_hint}
 use Rattle.proofs.specs.TextSteps.{Move, goes, completes, faults, move_of}
 use Rattle.proofs.specs.Lrat.{LratSpot, at_identifier, after_identifier, in_literals, in_hints}
@@ -158,45 +153,43 @@ hint_is true (suc k) some small = search rules
 
 -- a hint, or the `0` that ends the step
 hint_spelled : IsNumberSpelled in_hints hint
-hint_spelled s run n fits spelled =
-    search (
-      rules,
-      is_small,
-      nat_le,
-      in_hints,
-      append_assoc,
-      completes,
-      goes,
-      with_hint,
-      faults,
-      other,
-      is_hint,
-      lrat_words,
-      zero_text,
-      hint_is,
-      all_more,
-      map-append,
-    )
+hint_spelled s run n fits spelled = search (
+  rules,
+  is_small,
+  nat_le,
+  in_hints,
+  append_assoc,
+  completes,
+  goes,
+  with_hint,
+  faults,
+  other,
+  is_hint,
+  lrat_words,
+  zero_text,
+  hint_is,
+  all_more,
+  map-append,
+)
 
 -- an identifier that is deleted, or the `0` that ends the step
 deleted_spelled : IsNumberSpelled in_deletion deleted
-deleted_spelled s run n fits spelled =
-    search (
-      rules,
-      is_small,
-      nat_le,
-      in_deletion,
-      faults,
-      completes,
-      goes,
-      with_hint,
-      number_text,
-      is_hint,
-      lrat_words,
-      zero_text,
-      all_more,
-      map-append,
-    )
+deleted_spelled s run n fits spelled = search (
+  rules,
+  is_small,
+  nat_le,
+  in_deletion,
+  faults,
+  completes,
+  goes,
+  with_hint,
+  number_text,
+  is_hint,
+  lrat_words,
+  zero_text,
+  all_more,
+  map-append,
+)
 
 -- the `d`
 d_spelled : (part : LratSpot) (s : Step) (run : List ℕ) → Fits part s → run ≡ codes "d"
@@ -228,8 +221,7 @@ module _ (rest : List (List ℕ)) where
   hints_read : (kind : StepKind) (hs : List ℤ) (s : Step) → list_all (is_hint kind) hs ≡ true
       → word_steps lrat (hint_part kind) s (map word_of (hint_words hs ++ rest))
       ≡ option_map (λ ss. fold with_hint s hs ∷ ss) later
-  hints_read kind hs s are =
-      ap (λ ws. word_steps lrat (hint_part kind) s (map word_of ws))
+  hints_read kind hs s are = ap (λ ws. word_steps lrat (hint_part kind) s (map word_of ws))
       (append_assoc (map signed_decimal hs) (codes "0" ∷ []) rest)
       ∙ list_words lrat signed_decimal (is_hint kind) with_hint (hint_part kind) (hint_move kind) hs
       (codes "0" ∷ rest) s are
@@ -238,18 +230,15 @@ module _ (rest : List (List ℕ)) where
 
   -- an addition after its identifier
   addition_read : (id : ℕ) (ls : List Literal) (hs : List ℤ) → are_literals ls ≡ true
-      → list_all (is_hint Add) hs ≡ true
-      → word_steps lrat after_identifier (named id)
+      → list_all (is_hint Add) hs ≡ true → word_steps lrat after_identifier (named id)
       (map word_of ((literal_words ls ++ hint_words hs) ++ rest))
       ≡ option_map (λ ss. step_of Add id ls hs ∷ ss) later
-  addition_read id [] hs are hints =
-      hints_read Add hs (named id) hints
+  addition_read id [] hs are hints = hints_read Add hs (named id) hints
       ∙ ap (λ s. option_map (λ ss. s ∷ ss) later) (with_hints (named id) hs)
   addition_read id (l ∷ ls) hs are hints =
       let r = both (is_literal 268435455 l) (are_literals ls) are in
       let first : Step = step_of Add id (l ∷ []) [] in
-      ap (λ m. on_word lrat m
-      (λ part s. word_steps lrat part s
+      ap (λ m. on_word lrat m (λ part s. word_steps lrat part s
       (map word_of ((literal_words ls ++ hint_words hs) ++ rest))))
       (first_literal_move (named id) l r.0)
       ∙ ap (λ ws. word_steps lrat in_literals first (map word_of ws))
@@ -258,8 +247,7 @@ module _ (rest : List (List ℕ)) where
       ∙ list_words lrat literal_text (is_literal 268435455) with_literal in_literals literal_move ls
       (codes "0" ∷ hint_words hs ++ rest) first r.1
       ∙ ap (λ s. word_steps lrat in_hints s (map word_of (hint_words hs ++ rest)))
-      (with_literals first ls)
-      ∙ hints_read Add hs (step_of Add id (l ∷ ls) []) hints
+      (with_literals first ls) ∙ hints_read Add hs (step_of Add id (l ∷ ls) []) hints
       ∙ ap (λ s. option_map (λ ss. s ∷ ss) later) (with_hints (step_of Add id (l ∷ ls) []) hs)
 
   words_read : (kind : StepKind) (id : ℕ) (ls : List Literal) (hs : List ℤ) → 1 ≤ id
@@ -268,31 +256,28 @@ module _ (rest : List (List ℕ)) where
       → word_steps lrat at_identifier (named 0) (map word_of (lrat_words kind id ls hs ++ rest))
       ≡ option_map (λ ss. step_of kind id ls hs ∷ ss) later
   words_read Add id ls hs some small are empty hints =
-      simp (on_word, lrat, word_steps, hint_words, identifier_move, named, addition_read)
-  words_read Delete id ls hs some small are empty hints =
-      ap (λ m. on_word lrat m
+      simp (on_word, word_steps, hint_words, identifier_move, named, addition_read)
+  words_read Delete id ls hs some small are empty hints = ap (λ m. on_word lrat m
       (λ part s. word_steps lrat part s (map word_of (codes "d" ∷ hint_words hs ++ rest))))
       (identifier_move (named 0) id some small)
       ∙ hints_read Delete hs (step_of Delete id [] []) hints
-      ∙ ap (λ s. option_map (λ ss. s ∷ ss) later)
-      (with_hints (step_of Delete id [] []) hs
+      ∙ ap (λ s. option_map (λ ss. s ∷ ss) later) (with_hints (step_of Delete id [] []) hs
       ∙ ap (λ t. step_of Delete id t hs) (sym (empty refl)))
 
 is_spelling : IsSpelling lrat spelling
-is_spelling =
-    search (
-      rules,
-      word_moves,
-      word_spelled,
-      words_read,
-      is_identifier,
-      at_identifier,
-      after_identifier,
-      inside,
-      in_literals,
-      in_hints,
-      in_deletion,
-    )
+is_spelling = search (
+  rules,
+  word_moves,
+  word_spelled,
+  words_read,
+  is_identifier,
+  at_identifier,
+  after_identifier,
+  inside,
+  in_literals,
+  in_hints,
+  in_deletion,
+)
 
 pub lrat_both_ways : LratIsGrammar
 lrat_both_ways = text_both_ways lrat spelling is_spelling

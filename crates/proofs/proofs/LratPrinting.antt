@@ -1,27 +1,22 @@
 -- An LRAT proof that was printed, as it is read.
 use Rattle.std.proofs.Common.{◌≡◌, ℕ, suc, ◌+◌, ◌-◌, ◌<◌, ◌≤◌, ◌&&◌, nat_le, true, false, List, []}
 use Rattle.std.proofs.Common.{◌∷◌, ◌++◌, length, map, fold, refl, sym, ap, ◌∙◌, append_assoc, arith}
-use Rattle.std.specs.Prelude.{codes, All, ℤ, pos, negsuc}
-use Rattle.std.specs.Fmt.{decimal, signed_decimal}
-use Rattle.std.specs.List.{flat_map, list_all}
-use Rattle.std.proofs.lemmas.Bool.Decides.{nat_tests}
 use Rattle.std.proofs.Common.{rules}
+use Rattle.std.proofs.lemmas.Bool.Decides.{nat_tests}
+use Rattle.std.specs.Prelude.{codes, All, ℤ, pos, negsuc}
+use Rattle.std.specs.{Fmt.decimal, Fmt.signed_decimal, List.flat_map, List.list_all}
 use Rattle.cnf_base.specs.Literals.{Literal}
 use Rattle.cnf_base.specs.Printing.{input_of, is_literal, literal_text, literal_words, words_line}
-use Rattle.cnf_base.specs.Stream.{suffix}
-use Rattle.cnf_base.specs.Code.Text.{col_along}
-use Rattle.cnf_base.specs.Words.{number, word_of}
+use Rattle.cnf_base.specs.{Stream.suffix, Code.Text.col_along, Words.number, Words.word_of}
 use Rattle.cnf_base.specs.declared.fault.TextFault.TheVariants.{LiteralTooLarge}
-use Rattle.cnf_base.specs.declared.input.Ending.TheVariants.{End}
-use Rattle.cnf_base.specs.declared.place.Place.{Place}
+use Rattle.cnf_base.specs.declared.{input.Ending.TheVariants.End, place.Place.Place}
 use Rattle.cnf_base.specs.declared.word.Word.TheVariants as words
 use Rattle.cnf_base.proofs.PrintLemmas.{line_from, end_of_line, end_of_line-next, end_of_line-first}
 use Rattle.cnf_base.proofs.PrintLemmas.{IsPlain, along_from_one, past, past_from_one, next_word}
 use Rattle.cnf_base.proofs.PrintLemmas.{first_word, both, fixed_plain, decimal_plain, minus_plain}
 use Rattle.cnf_base.proofs.PrintLemmas.{decimal_no_comment, decimal_word, minus_word, zero_plain}
 use Rattle.cnf_base.proofs.PrintLemmas.{literal_word, literal_plain, literal_taken}
-use Rattle.proofs.specs.declared.step_buf.StepKind.{StepKind}
-use Rattle.proofs.specs.declared.step_buf.StepKind.TheVariants.{Add, Delete}
+use Rattle.proofs.specs.declared.step_buf.StepKind.{StepKind, TheVariants.Add, TheVariants.Delete}
 use Rattle.proofs.specs.Steps.{Step, is_small, is_hint, named, with_literal, with_hint}
 use Rattle.proofs.specs.TextSteps.{goes, completes, faults, literal_or_end, move_of, steps_from}
 use Rattle.proofs.specs.Code.TextSteps.{steps_at}
@@ -48,8 +43,7 @@ first_literal_move s l is =
 
 pub literal_move : (s : Step) (l : Literal) → is_literal 268435455 l ≡ true
     → move_of lrat in_literals s (word_of (literal_text l)) ≡ goes in_literals (with_literal s l)
-literal_move s l is =
-    ap (move_of lrat in_literals s) (literal_word 268435455 l (omega arith) is)
+literal_move s l is = ap (move_of lrat in_literals s) (literal_word 268435455 l (omega arith) is)
     ∙ literal_taken 268435455 l (omega arith) is (literal_or_end in_literals (goes in_hints) s) (faults LiteralTooLarge)
 
 -- an identifier within the limit

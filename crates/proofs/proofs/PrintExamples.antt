@@ -1,7 +1,6 @@
 -- The examples of printed texts.
 use Rattle.std.proofs.Common.{zero, suc, refl, arith, rules}
-use Rattle.std.specs.Prelude.{All}
-use Rattle.std.specs.Fmt.{digits}
+use Rattle.std.specs.{Prelude.All, Fmt.digits}
 use Rattle.proofs.specs.Printing.{IsDratStep, IsLratStep, example_drat, example_lrat, ProofsLookSo}
 
 are_drat : All IsDratStep example_drat

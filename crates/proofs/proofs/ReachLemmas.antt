@@ -1,23 +1,17 @@
 -- Where the steps of a proof end, and its fault.
-use Rattle.std.proofs.Common.{◌≡◌, ℕ, suc, ◌≤◌, List, [], ◌∷◌, Option, None, Some}
-use Rattle.std.proofs.Common.{arith, rules}
+use Rattle.std.proofs.Common.{◌≡◌, ℕ, suc, ◌≤◌, List, [], ◌∷◌, Option, None, Some, arith, rules}
 use Rattle.std.specs.Prelude.{Bool, Result}
 use Rattle.cnf_base.specs.Stream.{Suffix, Stream, Along, next_count}
 use Rattle.cnf_base.specs.Text.{Listed}
-use Rattle.cnf_base.specs.declared.input.Ending.{Ending}
-use Rattle.cnf_base.specs.declared.place.Place.{Place}
+use Rattle.cnf_base.specs.declared.{input.Ending.Ending, place.Place.Place, fault.Fault.Fault}
 use Rattle.cnf_base.specs.declared.token.Token.TheVariants as token
-use Rattle.cnf_base.specs.declared.fault.Fault.{Fault}
 use Rattle.cnf_base.proofs.ListingLemmas.{EndFrom}
-use Rattle.proofs.specs.declared.step_end.StepEnd.{StepEnd}
-use Rattle.proofs.specs.Steps.{Step}
-use Rattle.proofs.specs.Reading.{Proof, clean}
-use Rattle.proofs.specs.Reading.{GivesStep, EndsFrom, PassesNoEnd}
+use Rattle.proofs.specs.{declared.step_end.StepEnd.StepEnd, Steps.Step}
+use Rattle.proofs.specs.Reading.{Proof, clean, GivesStep, EndsFrom, PassesNoEnd}
 use Rattle.proofs.specs.Code.Reading.{proof_unless_ended}
-use Rattle.proofs.specs.TextSteps.{Move, Format, move_of, on_move}
-use Rattle.proofs.specs.TextSteps.{at_end, steps_among}
-use Rattle.proofs.specs.Binary.{BinarySpot, BinaryMove, binary_move_of}
-use Rattle.proofs.specs.Binary.{on_binary_move, binary_at_end, binary_steps_among}
+use Rattle.proofs.specs.TextSteps.{Move, Format, move_of, on_move, at_end, steps_among}
+use Rattle.proofs.specs.Binary.{BinarySpot, BinaryMove, binary_move_of, on_binary_move}
+use Rattle.proofs.specs.Binary.{binary_at_end, binary_steps_among}
 
 -- ---- As text
 

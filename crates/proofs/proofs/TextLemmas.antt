@@ -1,32 +1,25 @@
 -- A proof's tokens, one at a time.
-use Rattle.std.proofs.Common.{◌≡◌, ℕ, ◌<◌, ◌≤◌, [], Option, None, Some, refl, sym, ap, ◌∙◌}
-use Rattle.std.proofs.Common.{subst, arith, rules}
+use Rattle.std.proofs.Common.{◌≡◌, ℕ, ◌<◌, ◌≤◌, [], Option, None, Some, refl, sym, ap, ◌∙◌, subst}
+use Rattle.std.proofs.Common.{arith, rules}
 use Rattle.std.specs.Prelude.{Bool, true, Result, Ok, Err}
 use Rattle.cnf_base.specs.Stream.{Suffix, Stream, Along, most_to_come, tells_failure}
-use Rattle.cnf_base.specs.Readers.{Keeps}
-use Rattle.cnf_base.specs.Text.{Listing, listing_at, Gives}
+use Rattle.cnf_base.specs.{Readers.Keeps, Text.Listing, Text.listing_at, Text.Gives}
 use Rattle.cnf_base.specs.declared.input.Ending.TheVariants.{End, Failed}
-use Rattle.cnf_base.specs.declared.input.ReadFailed.{ReadFailed as Cut}
-use Rattle.cnf_base.specs.declared.place.Place.{Place}
-use Rattle.cnf_base.specs.declared.word.Word.{Word}
-use Rattle.cnf_base.specs.declared.token.Token.{Token}
-use Rattle.cnf_base.specs.declared.token.Token.TheVariants as token
-use Rattle.cnf_base.specs.declared.fault.Fault.{Fault}
+use Rattle.cnf_base.specs.declared.{input.ReadFailed.ReadFailed as Cut, place.Place.Place}
+use Rattle.cnf_base.specs.declared.{word.Word.Word, token.Token.Token, fault.Fault.Fault}
 use Rattle.cnf_base.specs.declared.fault.Fault.TheVariants.{Text, ReadFailed}
 use Rattle.cnf_base.specs.declared.fault.TextFault.{TextFault}
+use Rattle.cnf_base.specs.declared.token.Token.TheVariants as token
 use Rattle.cnf_base.proofs.ListingLemmas.{Gives-from, listing_at-from}
 use Rattle.cnf_base.proofs.StreamLemmas.{Along-then, Along-map, Along-none, Along-still}
-use Rattle.proofs.specs.declared.step_end.StepEnd.{StepEnd}
-use Rattle.proofs.specs.declared.step_end.StepEnd.TheVariants as ends
-use Rattle.proofs.specs.Steps.{Step, named}
+use Rattle.proofs.specs.declared.{step_end.StepEnd.StepEnd, moved.Moved.Moved}
+use Rattle.proofs.specs.{declared.stopped.Stopped.Stopped, Steps.Step, Steps.named}
 use Rattle.proofs.specs.Reading.{Proof, clean, faulty_proof, IsFaulty, GivesStep, PassesNoEnd}
-use Rattle.proofs.specs.Code.Reading.{proof_unless_ended}
+use Rattle.proofs.specs.Code.{Reading.proof_unless_ended, TextSteps.steps_listed}
+use Rattle.proofs.specs.Code.TextMoves.{fault_at, text_left, EndsProof, MovesText}
 use Rattle.proofs.specs.TextSteps.{Move, goes, completes, faults, Format, move_of, on_move, at_end}
 use Rattle.proofs.specs.TextSteps.{steps_from}
-use Rattle.proofs.specs.Code.TextSteps.{steps_listed}
-use Rattle.proofs.specs.Code.TextMoves.{fault_at, text_left, EndsProof, MovesText}
-use Rattle.proofs.specs.declared.moved.Moved.{Moved}
-use Rattle.proofs.specs.declared.stopped.Stopped.{Stopped}
+use Rattle.proofs.specs.declared.step_end.StepEnd.TheVariants as ends
 use Rattle.proofs.proofs.ReachLemmas.{steps_among-from, on_move-from, ended-from}
 
 -- a fault is what comes, and it stays
@@ -113,7 +106,7 @@ module _ {P : Type 0} (format : Format P) (old now new : Stream) (part : P) (s :
     -- whatever the word did, nothing that was to come ends before what is left
     follows-from : (j : Suffix) (move : Move P) → PassesNoEnd (follows j move) j
     follows-from j move =
-        search (rules, on_move-from, steps_from, steps_among-from, listing_at-from)
+        search (rules, on_move-from, steps_among-from, listing_at-from)
 
     pub Between-word : (next : P) (t : Step) → move_of format part s w ≡ goes next t → most_to_come new < most_to_come now → tells_failure new.reader ≡ tells_failure now.reader
         → Between format old new next t

@@ -1,22 +1,19 @@
 -- Numbers that stand whole, and what they do to a step.
-use Rattle.std.proofs.Common.{◌≡◌, ◌≢◌, ℕ, suc, ◌+◌, ◌*◌, ◌%◌, ◌<◌, ◌≤◌, Bool, true, false, List, []}
-use Rattle.std.proofs.Common.{◌∷◌, ◌++◌, length, take, refl, sym, ap, ◌∙◌, arith, subst}
+use Rattle.std.proofs.Common.{◌≡◌, ◌≢◌, ℕ, suc, ◌+◌, ◌*◌, ◌%◌, ◌<◌, ◌≤◌, Bool, true, false, List}
+use Rattle.std.proofs.Common.{[], ◌∷◌, ◌++◌, length, take, refl, sym, ap, ◌∙◌, arith, subst}
 use Rattle.std.proofs.Common.{append_assoc, rules}
-use Rattle.std.specs.List.{list_all}
-use Rattle.std.specs.Prelude.{nat_le, slice_index, if◌then◌else◌}
-use Rattle.std.proofs.lemmas.Bool.Decides.{nat_tests}
+use Rattle.std.proofs.lemmas.Bool.{and_parts, true≢false, Decides.nat_tests}
 use Rattle.std.proofs.lemmas.Grind.{common_steps}
 use Rattle.std.proofs.lemmas.List.{take-append-le, length-drop, length-take-le}
+use Rattle.std.specs.{List.list_all, Prelude.nat_le, Prelude.slice_index, Prelude.if◌then◌else◌}
 use Rattle.cnf_base.specs.Stream.{Stream, next_count, more_count, skipped}
-use Rattle.cnf_base.proofs.StreamLemmas.{Along-still, Along-then, Along-skipped, Splits-first, Splits-second}
 use Rattle.cnf_base.specs.declared.input.Ending.{Ending}
+use Rattle.cnf_base.proofs.StreamLemmas.{Along-still, Along-then, Along-skipped, Splits-first}
+use Rattle.cnf_base.proofs.StreamLemmas.{Splits-second}
 use Rattle.proofs.specs.Steps.{Step, with_literal}
 use Rattle.proofs.specs.Binary.{groups_value, in_step, in_number, binary_steps_among, group_move}
-use Rattle.proofs.specs.Binary.{goes, on_binary_move}
-use Rattle.proofs.specs.Binary.{BinarySpot, binary_move_of}
-use Rattle.proofs.specs.Code.Binary.{binary_steps_from}
-use Rattle.std.proofs.lemmas.Bool.{and_parts, true≢false}
-use Rattle.proofs.specs.Code.Whole.{spelled, IsWhole, RunsOn}
+use Rattle.proofs.specs.Binary.{goes, on_binary_move, BinarySpot, binary_move_of}
+use Rattle.proofs.specs.Code.{Binary.binary_steps_from, Whole.spelled, Whole.IsWhole, Whole.RunsOn}
 use Rattle.proofs.specs.declared.drat_binary.whole.Spelled.{Spelled}
 
 -- ---- A number at the front
@@ -93,11 +90,6 @@ whole_of (a ∷ b ∷ c ∷ d ∷ []) long s l is few some same least most = abs
 -- so many more, and then some more
 more_more : (at n k : ℕ) → n ≡ k + 1 → more_count (next_count at) k ≡ more_count at n
 more_more at n k is = omega (arith, is)
-
--- the literal is put into the step
-ended : (s : Step) (first last value : ℕ) (before : List ℕ) → nat_le 128 last ≡ false → last ≢ 0 → value ≡ groups_value (before ++ last ∷ []) → 2 ≤ value → value ≤ 536870911
-    → group_move s first before last ≡ goes in_step (with_literal s value)
-ended s first last value before low some says least most = search rules
 
 goes_on : (s : Step) (first b : ℕ) (before : List ℕ) → nat_le 128 b ≡ true → group_move s first before b ≡ goes (in_number first (before ++ b ∷ [])) s
 goes_on s first b before high = cc

@@ -1,16 +1,14 @@
 -- A byte of a step.
 use Rattle.std.proofs.Common.{◌≡◌, ℕ, refl, subst, sym, rules}
-use Rattle.cnf_base.specs.Stream.{Stream}
-use Rattle.proofs.specs.Steps.{Step}
 use Rattle.std.specs.Prelude.{Ok, Err}
+use Rattle.cnf_base.specs.{Stream.Stream, declared.input.Ending.TheVariants.End}
+use Rattle.proofs.specs.Steps.{Step}
 use Rattle.proofs.specs.declared.moved.Moved.TheVariants.{To, Complete}
 use Rattle.proofs.specs.declared.drat_binary.stopped.Stopped.TheVariants.{Binary}
-use Rattle.cnf_base.specs.declared.input.Ending.TheVariants.{End}
-use Rattle.proofs.specs.Code.TextMoves.{EndsProof}
-use Rattle.proofs.specs.Binary.{at_tag, binary_at_end}
-use Rattle.proofs.proofs.BinaryLemmas.{Between, Between-on, Between-out}
-use Rattle.proofs.proofs.BinaryLemmas.{Between-none, Between-end, Between-byte, Between-step}
-use Rattle.proofs.proofs.BinaryLemmas.{Between-fault, Between-refused, moves_told}
+use Rattle.proofs.specs.{Code.TextMoves.EndsProof, Binary.at_tag, Binary.binary_at_end}
+use Rattle.proofs.proofs.BinaryLemmas.{Between, Between-on, Between-out, Between-none, Between-end}
+use Rattle.proofs.proofs.BinaryLemmas.{Between-byte, Between-step, Between-fault, Between-refused}
+use Rattle.proofs.proofs.BinaryLemmas.{moves_told}
 use Rattle.proofs.proofs.drat_binary.read_step.Goals as goal
 
 pub loop-byte-init : goal.loop-byte-init

@@ -1,17 +1,14 @@
 -- A word of a step: a number that was ahead, or another word.
 use Rattle.std.proofs.Common.{◌≡◌, subst, rules}
 use Rattle.std.specs.Prelude.{Result, Ok}
+use Rattle.cnf_base.proofs.TokenLemmas.{told}
+use Rattle.proofs.specs.declared.moved.Moved.{Moved, TheVariants.To, TheVariants.Complete}
+use Rattle.proofs.specs.{declared.stopped.Stopped.Stopped, Code.TextMoves.FitsMoved}
+use Rattle.proofs.proofs.TextLemmas.{Between-start, Between-line, Between-word, Between-step}
+use Rattle.proofs.proofs.TextLemmas.{Between-stopped, Between-end, Between-failed, moves_told}
+use Rattle.proofs.proofs.text.read_step.Goals as goal
 use Rattle.cnf_base.specs.declared.token.Token.TheVariants as token
 use Rattle.cnf_base.specs.declared.word.Word.TheVariants as words
-use Rattle.cnf_base.proofs.TokenLemmas.{told}
-use Rattle.proofs.specs.declared.moved.Moved.{Moved}
-use Rattle.proofs.specs.declared.moved.Moved.TheVariants.{To, Complete}
-use Rattle.proofs.specs.declared.stopped.Stopped.{Stopped}
-use Rattle.proofs.specs.Code.TextMoves.{FitsMoved}
-use Rattle.proofs.proofs.TextLemmas.{Between-start, Between-line, Between-word, Between-step}
-use Rattle.proofs.proofs.TextLemmas.{Between-stopped, Between-end, Between-failed}
-use Rattle.proofs.proofs.TextLemmas.{moves_told}
-use Rattle.proofs.proofs.text.read_step.Goals as goal
 
 pub loop-count-init : goal.loop-count-init
 loop-count-init g c = rw c.name.ensures (rw c.requires.start (Between-start g.P.TextPart.format _), c.requires.fits)
@@ -37,8 +34,7 @@ returns-in-Ok-Complete-clause-step g c =
     _ (search rules) c.take_number.new.step (moves_told g.P.TextPart.spot _ complete _ _ c.take_number.ensures.moves is)
 
 pub returns-in-Err-clause-step : goal.returns-in-Err-clause-step
-returns-in-Err-clause-step g c =
-    rw c.fault_at.ensures
+returns-in-Err-clause-step g c = rw c.fault_at.ensures
     (Between-stopped g.P.TextPart.format _ _ _ _ _ c.loop-count.invariant.0 _ (words.Number c.in-Some.number) (c.take_number-in-Err.ensures.taken c.in-Some.number c.in-Some.ensures)
     g.P.TextPart.spot _ c.in-Err.stopped _ c.take_number.new.step c.take_number.ensures.moves (search rules))
 
@@ -63,8 +59,7 @@ returns-in-Ok-Complete-move_on-clause-step g c =
     _ (search rules) c.move_on.new.step (moves_told g.P.TextPart.spot _ complete _ _ c.move_on.ensures.moves is)
 
 pub returns-in-Err-move_on-clause-step : goal.returns-in-Err-move_on-clause-step
-returns-in-Err-move_on-clause-step g c =
-    rw c.fault_at-in-Err-move_on.ensures
+returns-in-Err-move_on-clause-step g c = rw c.fault_at-in-Err-move_on.ensures
     (Between-stopped g.P.TextPart.format _ _ _ _ _ c.loop-count.invariant.0 c.in-Ok-Word.place c.in-Ok-Word.word (told _ _ _ (Ok (token.Word c.in-Ok-Word.place c.in-Ok-Word.word)) c.next_other.ensures.tokens (search rules))
     g.P.TextPart.spot _ c.in-Err-move_on.stopped _ c.move_on.new.step c.move_on.ensures.moves (search rules))
 

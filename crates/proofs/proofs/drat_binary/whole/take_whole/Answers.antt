@@ -1,7 +1,6 @@
 use Rattle.std.proofs.Common.{◌≡◌, sym, subst, rules}
 use Rattle.cnf_base.specs.Stream.{Stream, skipped}
-use Rattle.proofs.specs.Binary.{in_step}
-use Rattle.proofs.specs.Code.Whole.{IsWhole, RunsOn}
+use Rattle.proofs.specs.{Binary.in_step, Code.Whole.IsWhole, Code.Whole.RunsOn}
 use Rattle.proofs.specs.Steps.{Step, with_literal}
 use Rattle.proofs.proofs.WholeLemmas.{RunsOn-more, RunsOn-none}
 use Rattle.proofs.proofs.drat_binary.whole.take_whole.Goals as goal

@@ -1,6 +1,5 @@
 use Rattle.cnf_base.specs.Stream.{most_to_come}
-use Rattle.proofs.specs.Binary.{in_step}
-use Rattle.proofs.specs.Code.Whole.{RunsOn}
+use Rattle.proofs.specs.{Binary.in_step, Code.Whole.RunsOn}
 use Rattle.proofs.proofs.drat_binary.whole.take_whole.Given as goal
 
 abbrev pub invariant-loop-count : goal.invariant-loop-count
