@@ -1,31 +1,25 @@
 -- What the parse gives at the end: the defaults, the last checks, and what is read of the rows.
-use Rattle.std.proofs.Common.{length, ◌≤◌, ◌≡◌, ◌∙◌, ap, sym, subst, codes, List, [], ◌∷◌}
-use Rattle.std.proofs.Common.{Bool, true, false, Option, Some, None, ℕ, cond, rules}
+use Rattle.std.proofs.Common.{length, ◌≤◌, ◌≡◌, ◌∙◌, ap, sym, subst, codes, List, [], ◌∷◌, Bool}
+use Rattle.std.proofs.Common.{true, false, Option, Some, None, ℕ, cond, rules}
+use Rattle.std.proofs.lemmas.{Slice.Eq.bytes_eq-Decides, List.Folds.find-append}
 use Rattle.std.specs.Prelude.{◌&&◌, drop, is_some, option_and_then, slice_get}
-use Rattle.std.specs.Prelude.{if◌then◌else◌}
-use Rattle.std.specs.Str.{bytes_eq}
-use Rattle.std.specs.List.{fold}
-use Rattle.std.specs.Option.{option_or}
-use Rattle.std.proofs.lemmas.Slice.Eq.{bytes_eq-Decides}
-use Rattle.std.proofs.lemmas.List.Folds.{find-append}
+use Rattle.std.specs.{Str.bytes_eq, List.fold, Option.option_or}
 use Rattle.clap.specs.Faults.{fault_of, walk_fault}
-use Rattle.clap.specs.Walk.{Row, Rule, Text, Walk, finished, first_of}
-use Rattle.clap.specs.Walk.{nothing_held, one_of, reading_by, row_text, settled_rows, walk}
-use Rattle.clap.specs.Walk.{with_default}
+use Rattle.clap.specs.Walk.{Row, Rule, Text, Walk, finished, first_of, nothing_held, one_of}
+use Rattle.clap.specs.Walk.{reading_by, row_text, settled_rows, walk, with_default}
 use Rattle.clap.specs.Simple.{matches_of}
 use Rattle.clap.specs.declared.parser.matches.ValueSource.TheVariants.{DefaultValue}
-use Rattle.command_line.specs.Code.Commands.{command_of}
-use Rattle.command_line.specs.Words.{is_among, is_flag, names}
+use Rattle.command_line.specs.{Code.Commands.command_of, Words.is_among, Words.is_flag, Words.names}
+use Rattle.command_line.specs.declared.tool.Tool.{Tool}
+use Rattle.command_line.specs.declared.tool.Tool.TheVariants.{Drat, Lrat, Model}
 use Rattle.command_line.proofs.CommandLineLemmas.Rules.{fault_is, flag_full, files_and_texts}
-use Rattle.command_line.proofs.CommandLineLemmas.Rules.{formula_full, matches_are}
-use Rattle.command_line.proofs.CommandLineLemmas.Rules.{rules_of, second_full, top_of}
-use Rattle.command_line.proofs.CommandLineLemmas.Rows.{at_end, has_row-row_for}
-use Rattle.command_line.proofs.CommandLineLemmas.Rows.{option_or-None, row_for}
+use Rattle.command_line.proofs.CommandLineLemmas.Rules.{formula_full, matches_are, rules_of}
+use Rattle.command_line.proofs.CommandLineLemmas.Rules.{second_full, top_of}
+use Rattle.command_line.proofs.CommandLineLemmas.Rows.{at_end, has_row-row_for, option_or-None}
+use Rattle.command_line.proofs.CommandLineLemmas.Rows.{row_for}
 use Rattle.command_line.proofs.CommandLineLemmas.Turns.{at, or_nil}
 use Rattle.command_line.proofs.CommandLineLemmas.Steps.{After, Shows, end_mark, file_row, flag_row}
 use Rattle.command_line.proofs.CommandLineLemmas.Steps.{start_after, words_after}
-use Rattle.command_line.specs.declared.tool.Tool.{Tool}
-use Rattle.command_line.specs.declared.tool.Tool.TheVariants.{Drat, Lrat, Model}
 
 -- ---- defaults
 
@@ -46,22 +40,17 @@ found_stays : (o : Option Row) (x : Option Row) → is_some o ≡ true → optio
 found_stays o x h = search rules
 
 flag_default : (f id : Text) (rows : List Row) → row_for id (with_default rows (flag_full f)) ≡ option_or (row_for id rows) (off_for f id)
-flag_default f id rows =
-    search (
-      rules,
-      row_for,
-      found_stays,
-      bytes_eq-Decides,
-      has_row-row_for,
-      option_or-None,
-      flag_full,
-      at_end,
-      find-append,
-    )
-
--- the rules with no default
-stays : (b : Bool) (rows : List Row) → (if b then rows else rows) ≡ rows
-stays b rows = search rules
+flag_default f id rows = search (
+  rules,
+  row_for,
+  found_stays,
+  bytes_eq-Decides,
+  has_row-row_for,
+  option_or-None,
+  flag_full,
+  at_end,
+  find-append,
+)
 
 files_default : (rows : List Row) → fold with_default rows files_and_texts ≡ rows
 files_default rows = search rules
@@ -123,17 +112,16 @@ first_text a ns k = search rules
 
 reads_shown : (tool : Tool) (words ns : List Text) (rows : List Row) → length ns ≤ 2 → Shows tool words ns rows → Reads tool words (fold with_default rows (rules_of tool))
 unfolding text_at_end
-reads_shown tool words ns rows few s =
-    search (
-      rules,
-      row_at_end,
-      flag_texts,
-      formula_row_end,
-      first_text,
-      formula_full,
-      second_row_end,
-      second_full,
-    )
+reads_shown tool words ns rows few s = search (
+  rules,
+  row_at_end,
+  flag_texts,
+  formula_row_end,
+  first_text,
+  formula_full,
+  second_row_end,
+  second_full,
+)
 
 reads_after : (tool : Tool) (words : List Text) (w : Walk) → After tool words w → Reads tool words (finished (rules_of tool) w.held)
 reads_after tool words w a =

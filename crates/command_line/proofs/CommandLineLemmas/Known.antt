@@ -1,23 +1,21 @@
 -- A word that begins with a hyphen and is no flag is refused.
 use Rattle.std.proofs.Common.{◌≡◌, ◌∙◌, ap, sym, subst, refl, codes, List, [], ◌∷◌, ◌++◌, Bool}
-use Rattle.std.proofs.Common.{true, false, Option, Some, None, ℕ, true≢false, map, arith}
-use Rattle.std.proofs.Common.{rules}
+use Rattle.std.proofs.Common.{true, false, Option, Some, None, ℕ, true≢false, map, arith, rules}
+use Rattle.std.proofs.lemmas.Str.{IsCharBoundary-after_ascii, IsUtf8-drop, IsUtf8-from_is_utf8}
+use Rattle.std.proofs.lemmas.Str.{IsUtf8-had, is_utf8-from_IsUtf8}
 use Rattle.std.specs.Prelude.{◌==◌, ◌&&◌, ◌||◌, not, is_some, slice_get, String, string_bytes, drop}
 use Rattle.std.specs.Str.{IsUtf8, all_scalars, bytes_eq, chars, encode_utf8_all, is_utf8}
 use Rattle.std.specs.List.{list_all}
-use Rattle.std.proofs.lemmas.Str.{IsCharBoundary-after_ascii, IsUtf8-drop, IsUtf8-from_is_utf8}
-use Rattle.std.proofs.lemmas.Str.{IsUtf8-had, is_utf8-from_IsUtf8}
 use Rattle.clap.specs.Faults.{fault_of, settle_fault, turn_fault, walk_fault}
 use Rattle.clap.specs.Walk.{Row, Text, Walk, walked}
 use Rattle.command_line.specs.Words.{begins_with_hyphen, is_among, is_flag, is_known}
-use Rattle.command_line.specs.Code.Commands.{command_of}
+use Rattle.command_line.specs.{Code.Commands.command_of, declared.tool.Tool.Tool}
 use Rattle.command_line.proofs.CommandLineLemmas.Rules.{fault_is, name_of, rules_of, top_of}
 use Rattle.command_line.proofs.CommandLineLemmas.Turns.{IsName, at, holding, long_met, longs_of}
 use Rattle.command_line.proofs.CommandLineLemmas.Turns.{nat_eq_same, or_nil, short_refused}
 use Rattle.command_line.proofs.CommandLineLemmas.Turns.{shorts_of}
 use Rattle.command_line.proofs.CommandLineLemmas.Steps.{After, end_mark, start_after, step_after}
 use Rattle.command_line.proofs.CommandLineLemmas.Steps.{tail_free}
-use Rattle.command_line.specs.declared.tool.Tool.{Tool}
 
 -- the text after a hyphen is text, and has a first character
 tail_is_text : (y : ℕ) (ys : Text) → is_utf8 (45 ∷ y ∷ ys) ≡ true → is_utf8 (y ∷ ys) ≡ true

@@ -2,21 +2,20 @@
 use Rattle.std.proofs.Common.{◌≡◌, ◌∙◌, ap, sym, subst, refl, codes, List, [], ◌∷◌, Bool, true}
 use Rattle.std.proofs.Common.{false, Option, Some, None, map, rules}
 use Rattle.std.specs.Prelude.{◌&&◌, drop, Err, string_bytes, String}
+use Rattle.std.specs.List.{list_all}
 use Rattle.clap.specs.Words.{App, FailsBy, Text, fault_of, found_of, is_simple_and_free, kind_of}
 use Rattle.clap.specs.Words.{one_of, one_text, rows_of}
-use Rattle.clap.proofs.WalkLemmas.{one_text-rows}
 use Rattle.clap.specs.Simple.{HasMatchesOf, is_simple, matches_of}
-use Rattle.clap.specs.declared.error.Error.{Error}
+use Rattle.clap.specs.declared.{error.Error.Error, parser.matches.ArgMatches.ArgMatches}
 use Rattle.clap.specs.declared.error.kind.ErrorKind.TheVariants as kind
-use Rattle.clap.specs.declared.parser.matches.ArgMatches.{ArgMatches}
+use Rattle.clap.proofs.WalkLemmas.{one_text-rows}
 use Rattle.command_line.specs.Code.Commands.{command_of}
 use Rattle.command_line.specs.Words.{is_known, Accepts, end_mark, is_among, is_flag, said_by}
+use Rattle.command_line.specs.declared.tool.Tool.{Tool}
 use Rattle.command_line.proofs.CommandLineLemmas.Rules.{is_plain, is_simple_too}
 use Rattle.command_line.proofs.CommandLineLemmas.Ends.{Reads, flag_text, parse_reads}
-use Rattle.std.specs.List.{list_all}
 use Rattle.command_line.proofs.CommandLineLemmas.Known.{all_text, parse_knows}
 use Rattle.command_line.proofs.CommandLineLemmas.Accepted.{known_free, no_fault}
-use Rattle.command_line.specs.declared.tool.Tool.{Tool}
 
 pub said_is : {Z : Type 0} (words : List (String Z)) → drop 1 (map string_bytes words) ≡ said_by words
 said_is [] = refl

@@ -1,17 +1,12 @@
 -- The rows that uses add, and what is found in them.
 use Rattle.std.proofs.Common.{◌≡◌, ◌∙◌, ap, refl, List, [], ◌∷◌, ◌++◌, append-nil, Bool, true}
 use Rattle.std.proofs.Common.{false, Option, Some, None, cond, true≢false, rules}
+use Rattle.std.proofs.lemmas.List.{Folds.find-append, Folds.list_any-append, Elements.filter-append}
 use Rattle.std.specs.Prelude.{◌||◌, is_some, not}
-use Rattle.std.specs.Str.{bytes_eq}
-use Rattle.std.specs.List.{find}
-use Rattle.std.specs.Option.{option_or}
-use Rattle.std.proofs.lemmas.List.Folds.{find-append, list_any-append}
-use Rattle.std.proofs.lemmas.List.Elements.{filter-append}
-use Rattle.clap.specs.Walk.{Row, Rule, Text, at_row, has_row, reading_by, with_values}
-use Rattle.clap.specs.Walk.{without}
+use Rattle.std.specs.{Str.bytes_eq, List.find, Option.option_or}
+use Rattle.clap.specs.Walk.{Row, Rule, Text, at_row, has_row, reading_by, with_values, without}
 use Rattle.clap.specs.declared.parser.matches.ValueSource.TheVariants.{CommandLine}
-use Rattle.command_line.specs.Words.{is_among, is_flag, names}
-use Rattle.command_line.specs.declared.tool.Tool.{Tool}
+use Rattle.command_line.specs.{Words.is_among, Words.is_flag, Words.names, declared.tool.Tool.Tool}
 
 abbrev pub row_for : Text → List Row → Option Row
 row_for id rows = find (λ r. bytes_eq r.id id) rows

@@ -1,11 +1,10 @@
 -- What `clap` makes of the commands when it builds them.
-use Rattle.std.proofs.Common.{◌≡◌, codes, refl, List, [], ◌∷◌, true, false}
+use Rattle.std.proofs.Common.{◌≡◌, codes, refl, List, [], ◌∷◌, true, false, rules}
 use Rattle.std.specs.Prelude.{drop}
-use Rattle.std.proofs.Common.{rules}
 use Rattle.clap.specs.Faults.{built_fault, fault_of, is_simple_and_free, level_fault}
 use Rattle.clap.specs.Walk.{Held, Rule, Text, nothing_held, rows_after}
-use Rattle.clap.specs.Simple.{Shape, filled, help_rule, is_simple, matches_of}
-use Rattle.clap.specs.Simple.{version_rule, with_index}
+use Rattle.clap.specs.Simple.{Shape, filled, help_rule, is_simple, matches_of, version_rule}
+use Rattle.clap.specs.Simple.{with_index}
 use Rattle.command_line.specs.Code.Commands.{command_of, flag_rule, formula_rule, second_rule}
 use Rattle.command_line.specs.declared.tool.Tool.{Tool}
 use Rattle.command_line.specs.declared.tool.Tool.TheVariants.{Drat, Lrat, Model}

@@ -1,15 +1,14 @@
 -- What is held after each word, and what the walk gives at the end.
-use Rattle.std.proofs.Common.{◌≤◌, ◌≡◌, ◌∙◌, ◌<◌, ap, sym, subst, refl, codes, List, [], ◌∷◌}
-use Rattle.std.proofs.Common.{◌++◌, append_assoc, append-nil, Bool, true, false, Option, Some, None}
-use Rattle.std.proofs.Common.{ℕ, cond, suc, true≢false, ◌⊎◌, ⊎_elim, arith, length, rules}
-use Rattle.std.specs.Prelude.{◌==◌, ◌&&◌, ◌||◌, is_some, option_map, slice_get}
-use Rattle.std.specs.Str.{bytes_eq}
-use Rattle.std.specs.List.{fold}
+use Rattle.std.proofs.Common.{◌≤◌, ◌≡◌, ◌∙◌, ◌<◌, ap, sym, subst, refl, codes, List, [], ◌∷◌, ◌++◌}
+use Rattle.std.proofs.Common.{append_assoc, append-nil, Bool, true, false, Option, Some, None, ℕ}
+use Rattle.std.proofs.Common.{cond, suc, true≢false, ⊎_elim, arith, length, rules}
 use Rattle.std.proofs.lemmas.Slice.Eq.{bytes_eq-Decides}
+use Rattle.std.specs.Prelude.{◌==◌, ◌&&◌, ◌||◌, is_some, option_map, slice_get}
+use Rattle.std.specs.{Str.bytes_eq, List.fold}
 use Rattle.clap.specs.Faults.{settle_fault, step_fault, turn_fault, walk_fault}
 use Rattle.clap.specs.Kinds.{or_else}
-use Rattle.clap.specs.Walk.{Row, Rule, Text, Walk, arg_by_index, has_row}
-use Rattle.clap.specs.Walk.{settled_rows, to_positional, used, value, walked}
+use Rattle.clap.specs.Walk.{Row, Rule, Text, Walk, arg_by_index, has_row, settled_rows}
+use Rattle.clap.specs.Walk.{to_positional, used, value, walked}
 use Rattle.clap.specs.declared.error.kind.ErrorKind.TheVariants as kind
 use Rattle.clap.proofs.OnLiterals.{clap_on_literals}
 use Rattle.command_line.proofs.CommandLineLemmas.Rules.{flag_full, formula_full, name_of, rules_of}
@@ -88,8 +87,7 @@ module _ (tool : Tool) (done ns : List Text) (rows : List Row) (s : Shows tool d
 
   flag_shown : (flag : Text) → bytes_eq flag (codes "formula") ≡ false → bytes_eq flag (codes "second") ≡ false → is_flag tool (45 ∷ 45 ∷ flag) ≡ true → has_row flag rows ≡ false
       → Shows tool (done ++ (45 ∷ 45 ∷ flag) ∷ []) ns (rows ++ flag_row flag ∷ [])
-  flag_shown flag no_formula no_second is new =
-      search (rules, names_kept, set_after, file_kept)
+  flag_shown flag no_formula no_second is new = search (rules, names_kept, set_after, file_kept)
 
 -- what the walk asks of a flag, and what it makes of it
 abbrev FlagTurn : Tool → Text → List Row → Option (Text × List Text) → ℕ → Type 0
@@ -139,9 +137,6 @@ module _ (tool : Tool) (done : List Text) (name : Text) (r : List Row) (p : Opti
       }
 
 -- ---- a flag of the tool, by its name
-
-either : (a b : Bool) → (a || b) ≡ true → (a ≡ true) ⊎ (b ≡ true)
-either a b h = search rules
 
 -- the flag was not there before, and what is held after it
 record FlagMet (tool : Tool) (done : List Text) (r : List Row) (p : Option (Text × List Text)) (ns : List Text) (word : Text) : Type 0 where
@@ -272,8 +267,7 @@ step_at tool done r p ns few settles shows word mark f = go (is_flag tool word) 
     go true flag = (flag_met tool done r p ns few settles shows word flag).after f
     go false flag = ⊎_elim
         (λ taken. subst (After tool (done ++ word ∷ [])) (sym taken.1) ((file_met tool done r p settles word flag ns shows).after (sym taken.0 ∙ f)))
-        (λ refused. absurd (refused f))
-        (name_met tool r p (suc (length ns)) word flag mark settles)
+        (λ refused. absurd (refused f)) (name_met tool r p (suc (length ns)) word flag mark settles)
 
 pub step_after : (tool : Tool) (done : List Text) (w : Walk) → After tool done w → (word : Text) → bytes_eq word end_mark ≡ false
     → turn_fault (top_of tool) [] w word ≡ [] → After tool (done ++ word ∷ []) (walked (rules_of tool) [] w word)

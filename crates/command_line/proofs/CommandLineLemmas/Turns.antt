@@ -2,25 +2,21 @@
 use Rattle.std.proofs.Common.{◌≡◌, ◌∙◌, ap, ap₂, sym, subst, refl, codes, List, [], ◌∷◌, Bool, true}
 use Rattle.std.proofs.Common.{false, Option, Some, None, ℕ, cond, suc, true≢false, inl, inr, ◌⊎◌}
 use Rattle.std.proofs.Common.{arith, length, rules}
+use Rattle.std.proofs.lemmas.Bool.Decides.{nat_tests}
 use Rattle.std.specs.Prelude.{◌==◌, ◌&&◌, ◌||◌, not, if◌then◌else◌, slice_get, take, ◌+◌}
 use Rattle.std.specs.Str.{bytes_eq, chars}
-use Rattle.std.specs.List.{before_first, prefix_len}
-use Rattle.std.specs.Option.{option_map_or}
-use Rattle.std.proofs.lemmas.Bool.Decides.{nat_tests}
+use Rattle.std.specs.{List.before_first, List.prefix_len, Option.option_map_or}
 use Rattle.clap.specs.Lexer.{has_byte, long_of, short_of}
-use Rattle.clap.specs.Faults.{bundle_fault, bundle_step_fault, flags_fault}
-use Rattle.clap.specs.Faults.{long_fault, settle_fault, short_fault, step_fault}
-use Rattle.clap.specs.Faults.{turn_fault}
+use Rattle.clap.specs.Faults.{bundle_fault, bundle_step_fault, flags_fault, long_fault}
+use Rattle.clap.specs.Faults.{settle_fault, short_fault, step_fault, turn_fault}
 use Rattle.clap.specs.Kinds.{Kinds, or_else}
 use Rattle.clap.specs.Walk.{Held, Outcome, Row, Rule, Step, Text, Walk, after_flag, after_step}
-use Rattle.clap.specs.Walk.{arg_by_index, arg_by_long, arg_by_short, bundle_met, idle}
-use Rattle.clap.specs.Walk.{plain, short_or_plain, to_positional}
-use Rattle.clap.specs.Walk.{value, walked}
+use Rattle.clap.specs.Walk.{arg_by_index, arg_by_long, arg_by_short, bundle_met, idle, plain}
+use Rattle.clap.specs.Walk.{short_or_plain, to_positional, value, walked}
 use Rattle.clap.specs.declared.error.kind.ErrorKind.{ErrorKind}
 use Rattle.command_line.proofs.CommandLineLemmas.Rules.{flag_full, help_full, name_of, rules_of}
 use Rattle.command_line.proofs.CommandLineLemmas.Rules.{shape, top_of, version_full}
-use Rattle.command_line.specs.Words.{is_flag}
-use Rattle.command_line.specs.declared.tool.Tool.{Tool}
+use Rattle.command_line.specs.{Words.is_flag, declared.tool.Tool.Tool}
 use Rattle.command_line.specs.declared.tool.Tool.TheVariants.{Drat, Lrat, Model}
 
 -- what is held between two words
@@ -75,10 +71,9 @@ module _ (c : List Rule) (name : Text) (r : List Row) (p : Option (Text × List 
       × (walked c [] (at r p n) word ≡ to_positional c (arg_by_index c n) word (at r p n) (holding r p))
 
   -- neither `--`, nor a long flag
-  short_fault_is : (word : Text) → bytes_eq word (45 ∷ 45 ∷ []) ≡ false → long_of word ≡ None → (s : Option Text) → short_of word ≡ s
-      → turn_fault (shape name c) [] (at r p n) word
-      ≡ or_else (option_map_or (λ flags. bundle_fault c false flags (holding r p)) s [])
-      (step_fault (shape name c) n (short_or_plain c idle word s (holding r p)).0 (short_or_plain c idle word s (holding r p)).1)
+  short_fault_is : (word : Text) → bytes_eq word (45 ∷ 45 ∷ []) ≡ false → long_of word ≡ None
+      → (s : Option Text) → short_of word ≡ s → turn_fault (shape name c) [] (at r p n) word
+      ≡ or_else (option_map_or (λ flags. bundle_fault c false flags (holding r p)) s []) (step_fault (shape name c) n (short_or_plain c idle word s (holding r p)).0 (short_or_plain c idle word s (holding r p)).1)
   short_fault_is word b l s e = search rules
 
   short_walk_is : (word : Text) → bytes_eq word (45 ∷ 45 ∷ []) ≡ false → long_of word ≡ None → (s : Option Text) → short_of word ≡ s
@@ -174,10 +169,8 @@ module _ (c : List Rule) (name : Text) (r : List Row) (p : Option (Text × List 
 
   pub long_met : (P : Text → Type 0) → ((name : Text) → IsLong P name (arg_by_long c name)) → (z : ℕ) (zs : Text) → (P (z ∷ zs) → ⊥)
       → settle_fault c false (holding r p) ≡ [] → turn_fault (shape name c) [] (at r p n) (45 ∷ 45 ∷ z ∷ zs) ≡ [] → ⊥
-  long_met P longs z zs refuted s f =
-      long_refused P _ _ (longs _) _ s
-      (λ none has. refuted (subst P (whole (z ∷ zs) (no_mark _ _ none)) has))
-      (or_nil _ _ f).0
+  long_met P longs z zs refuted s f = long_refused P _ _ (longs _) _ s
+      (λ none has. refuted (subst P (whole (z ∷ zs) (no_mark _ _ none)) has)) (or_nil _ _ f).0
 
 -- ---- the three tools
 
@@ -199,11 +192,9 @@ module _ (tool : Tool) (name : Text) where
   flag_or f h b h2 o h3 = search rules
 
 pub longs_of : (tool : Tool) (name : Text) → IsLong [] [] [] None 0 (IsName tool) name (arg_by_long (rules_of tool) name)
-longs_of Drat name =
-    flag_or Drat name (codes "binary") refl _ refl _
+longs_of Drat name = flag_or Drat name (codes "binary") refl _ refl _
     (flag_or Drat name (codes "trace") refl _ refl _
-    (flag_or Drat name (codes "strict") refl _ refl _
-    (flag_or Drat name (codes "pr") refl _ refl _
+    (flag_or Drat name (codes "strict") refl _ refl _ (flag_or Drat name (codes "pr") refl _ refl _
     (flag_or Drat name (codes "keep-units") refl _ refl _
     (text_or_none Drat name (bytes_eq (codes "help") name || false) (bytes_eq (codes "version") name || false))))))
 longs_of Lrat name = search rules

@@ -13,8 +13,7 @@ use Rattle.command_line.proofs.reader.read_args.Goals.{in-Some-get_str+in_ok-to_
 use Rattle.command_line.proofs.reader.read_args.Goals.{in-None, After-is_any_empty}
 
 pub returns-in-Err-clause-accepts : goal.returns-in-Err-clause-accepts
-returns-in-Err-clause-accepts c accepts =
-    c.fault_from.ensures
+returns-in-Err-clause-accepts c accepts = c.fault_from.ensures
     (fails_for_memory c.args.tool (app_of c.in_ok-command.command) c.in_ok-command.ensures
     c.args.words.now c.in-Err.error c.in-Err.ensures.kinds accepts)
 
@@ -36,26 +35,20 @@ abbrev Found : After-is_any_empty → Type 0
 Found c = Reads c.args.tool (said_by c.args.words.now) (rows_of (found_of c.in-Ok.matches))
 
 -- the first name that was found
-formula_found : (c : After-is_any_empty) → Found c →
-    Some (string_bytes c.in_ok-formula.formula) ≡
-    slice_get (names c.args.tool (said_by c.args.words.now)) 0
-formula_found c read =
-    ap (λ l. Some l) c.in_ok-formula.ensures.ok ∙ c.in-Some.ensures
+formula_found : (c : After-is_any_empty) → Found c → Some (string_bytes c.in_ok-formula.formula)
+    ≡ slice_get (names c.args.tool (said_by c.args.words.now)) 0
+formula_found c read = ap (λ l. Some l) c.in_ok-formula.ensures.ok ∙ c.in-Some.ensures
     ∙ first_value-rows (found_of c.in-Ok.matches) (codes "formula") ∙ read.formula
 
 -- the second one
-second_found : (c : After-is_any_empty) → Found c →
-    option_map string_bytes c.match-get_str-2.second ≡
-    slice_get (names c.args.tool (said_by c.args.words.now)) 1
-second_found c read =
-    elim c.match-get_str-2.branch [
-      | in-Some-get_str+in_ok-to_string-in-Some-get_str w ↦
-          ap (option_map string_bytes) w.second-is
-          ∙ (ap (λ l. Some l) w.in_ok-to_string-in-Some-get_str.ensures.ok
-          ∙ w.in-Some-get_str.ensures)
-      | in-None w ↦ ap (option_map string_bytes) w.second-is ∙ w.in-None.ensures
-    ]
-    ∙ first_value-rows (found_of c.in-Ok.matches) (codes "second") ∙ read.second
+second_found : (c : After-is_any_empty) → Found c → option_map string_bytes c.match-get_str-2.second
+    ≡ slice_get (names c.args.tool (said_by c.args.words.now)) 1
+second_found c read = elim c.match-get_str-2.branch [
+  | in-Some-get_str+in_ok-to_string-in-Some-get_str w ↦ ap (option_map string_bytes) w.second-is
+      ∙ (ap (λ l. Some l) w.in_ok-to_string-in-Some-get_str.ensures.ok
+      ∙ w.in-Some-get_str.ensures)
+  | in-None w ↦ ap (option_map string_bytes) w.second-is ∙ w.in-None.ensures
+] ∙ first_value-rows (found_of c.in-Ok.matches) (codes "second") ∙ read.second
 
 -- both, where the words are accepted
 named_in : (c : After-is_any_empty) → Accepts c.args.tool (said_by c.args.words.now) →
@@ -90,8 +83,7 @@ returns-clause-asked c free =
       binary =
           flag (codes "binary") (λ read. read.binary) c.get_flag.result binary.none binary.value
           binary.other i;
-      trace =
-          flag (codes "trace") (λ read. read.trace) c.get_flag-2.result trace.none trace.value
+      trace = flag (codes "trace") (λ read. read.trace) c.get_flag-2.result trace.none trace.value
           trace.other i;
       strict =
           flag (codes "strict") (λ read. read.strict) c.get_flag-3.result strict.none strict.value
