@@ -1,14 +1,10 @@
 -- The search over the clauses that an addition is tried with.
-use Rattle.std.proofs.Common.{◌≡◌, ℕ, ◌&&◌, not, Bool, true, false, Option, Some, None, is_some}
-use Rattle.std.proofs.Common.{IsSome, List, refl, sym, ap, ◌∙◌, subst, ◌+◌, ◌<◌, eqb, eqb-true}
-use Rattle.std.proofs.Common.{get_or, length, slice_index, take, inl, inr, ◌++◌}
-use Rattle.std.specs.List.{list_any}
+use Rattle.std.proofs.Common.{◌≡◌, ℕ, Bool, true, false, Option, Some, is_some, IsSome, List}
+use Rattle.std.proofs.Common.{sym, ap, ◌∙◌, subst, ◌+◌, ◌<◌, eqb, eqb-true, get_or, length}
+use Rattle.std.proofs.Common.{slice_index, take, inl, inr, ◌++◌, arith, rules}
+use Rattle.std.proofs.lemmas.{Bool.or_cases, Grind.get_or_default_zero}
+use Rattle.std.specs.{List.list_any, FinMap.FinMap, Ordering.nat_cmp, Prelude.unwrap_or, Prelude.[]}
 use Rattle.std.specs.FinMap as maps
-use Rattle.std.specs.FinMap.{FinMap}
-use Rattle.std.specs.Ordering.{nat_cmp}
-use Rattle.std.proofs.lemmas.Bool.{false≢true, or_cases}
-use Rattle.std.proofs.lemmas.Grind.{get_or_default_zero}
-use Rattle.std.specs.Prelude.{unwrap_or, []}
 use Rattle.cnf_base.specs.Literals.{Clause, Literal, complement, complements, has, same_clause}
 use Rattle.cnf_base.proofs.LiteralLemmas.{complement-complement}
 use Rattle.cnf_base.proofs.SetLemmas.{any_from, any_some, both_pass, same_back, same_there}
@@ -16,24 +12,19 @@ use Rattle.cnf_base.proofs.SetLemmas.{complements_has, filter_has, has-complemen
 use Rattle.cnf_base.proofs.SetLemmas.{has_append_cases, has_append_left, has_append_right}
 use Rattle.cnf_base.proofs.WalkLemmas.{has_more, is_in}
 use Rattle.clause_db.specs.Store.{IsTouchedAt}
-use Rattle.propagation.specs.Assumptions.{HasAt, LastIsAnswered, MayAssume, Propagation}
-use Rattle.propagation.specs.Assumptions.{assumed_by}
+use Rattle.propagation.specs.Assumptions.{HasAt, LastIsAnswered, MayAssume, Propagation, assumed_by}
 use Rattle.propagation.specs.declared.answer.Answer.TheVariants.{Quiet}
-use Rattle.theory.specs.Propagation.{Forced, by_both}
+use Rattle.theory.specs.Propagation.{Forced, by_both, Live, Clash}
 use Rattle.theory.proofs.PropagationLemmas.Forced.{forced_assumed, forced_through}
-use Rattle.trail.specs.LiteralSet.{in_set}
-use Rattle.theory.specs.Propagation.{Live, Clash}
-use Rattle.drat_steps.specs.Code.Candidates.{AllClash, CanTry, HasClashed, IsWithin, PassesAt, PassesIn}
-use Rattle.drat_steps.specs.Code.Candidates.{SomeQuiet, is_candidate, is_left, rest_of}
-use Rattle.drat_steps.specs.Code.Assumed.{IsAsBefore}
-use Rattle.drat_steps.proofs.DratLemmas.Steps.{clash_same}
-use Rattle.drat_steps.specs.declared.candidates.Candidates.{Candidates}
-use Rattle.drat_steps.specs.declared.candidates.Clashed.{Clashed}
+use Rattle.drat_steps.specs.Code.Candidates.{AllClash, CanTry, HasClashed, IsWithin, PassesAt}
+use Rattle.drat_steps.specs.Code.Candidates.{PassesIn, SomeQuiet, is_candidate, is_left, rest_of}
+use Rattle.drat_steps.specs.{Code.Assumed.IsAsBefore, declared.candidates.Candidates.Candidates}
 use Rattle.drat_steps.specs.declared.candidates.Candidates.TheVariants.{Holding, ReducedBy}
+use Rattle.drat_steps.specs.declared.candidates.Clashed.{Clashed}
+use Rattle.drat_steps.proofs.DratLemmas.Steps.{clash_same}
 
 pub clause_there : (o : Option Clause) → is_some o ≡ true → (c : Clause) × (o ≡ Some c)
-clause_there None h = absurd (false≢true h)
-clause_there (Some c) h = (c, refl)
+clause_there o h = search rules
 
 -- ---- Whether a clause is a candidate
 
@@ -43,31 +34,24 @@ any_same p c d same = both_pass (list_any p c) (list_any p d)
     (λ h. let w = any_some p d h in any_from p c w.0 (same_back c d same w.0 w.1) w.2)
 
 candidate_same : (them : Candidates) (c d : Clause) → same_clause c d ≡ true → is_candidate them c ≡ is_candidate them d
-candidate_same (Holding l) c d same = both_pass (has c l) (has d l) (same_there c d same l) (same_back c d same l)
-candidate_same (ReducedBy witness) c d same =
-    ap (λ b. b && not (list_any (in_set witness.now) c)) (any_same (λ l. in_set witness.now (complement l)) c d same)
-    ∙ ap (λ b. list_any (λ l. in_set witness.now (complement l)) d && not b) (any_same (in_set witness.now) c d same)
+candidate_same (Holding l) c d same = search (rules, arith, both_pass, same_there, same_back)
+candidate_same (ReducedBy witness) c d same = search (rules, any_same)
 
 -- the clause was looked at in an order of its own
 pub looked_at : (o : Option Clause) (them : Candidates) (seen : Clause) (is_one : Bool) → (c : Clause) × (o ≡ Some c) × (same_clause c seen ≡ true) → is_one ≡ is_candidate them seen → (d : Clause) → o ≡ Some d →
     is_candidate them d ≡ is_one
-looked_at o them seen is_one there is d at =
-    subst (λ c. is_candidate them c ≡ is_one) (ap (λ x. unwrap_or x []) (sym there.1 ∙ at)) (candidate_same them there.0 seen there.2 ∙ sym is)
+looked_at o them seen is_one there is d at = cc (candidate_same them there.0 seen there.2)
 
 -- ---- The walk
 
 -- each candidate in these slots clashes
 abbrev pub Passed : Propagation → Candidates → List ℕ → Type 0
-Passed p candidates slots =
-    (s : ℕ) → has slots s ≡ true → PassesIn p candidates s true
+Passed p candidates slots = (s : ℕ) → has slots s ≡ true → PassesIn p candidates s true
 
 -- what is asked later is said of the state before, which has the same clauses and assumptions
 passes_before : (before after : Propagation) → IsAsBefore before after → (candidates : Candidates) (slot : ℕ) (found passes : Bool) → found ≡ passes →
     PassesAt (maps.get after.live) (assumed_by after.assumptions) candidates slot found → PassesAt (maps.get before.live) (assumed_by before.assumptions) candidates slot passes
-passes_before before after same candidates slot found passes is h =
-    subst (PassesAt (maps.get before.live) (assumed_by before.assumptions) candidates slot) is
-    (subst (λ them. PassesAt (maps.get before.live) (assumed_by them) candidates slot found) same.assumptions
-    (subst (λ m. PassesAt (maps.get m) (assumed_by after.assumptions) candidates slot found) same.live h))
+passes_before before after same candidates slot found passes is h = search rules
 
 -- ---- A candidate that has all that is left of one that clashed
 
@@ -149,9 +133,7 @@ module _ (before after : Propagation) (same : IsAsBefore before after) (candidat
   item = is ∙ sym (get_or_default_zero slots i slot inside)
 
   pub stops_at : ((s : ℕ) → has slots s ≡ true → IsSome (maps.get before.live s)) → found ≡ false → SomeQuiet (maps.get before.live) (assumed_by before.assumptions) (is_candidate candidates) (rest_of candidates)
-  stops_at alive quiet =
-      one_quiet (maps.get before.live) (assumed_by before.assumptions) candidates slot (alive slot (is_in slots i inside slot item))
-      (passes_before before after same candidates slot found false quiet answer)
+  stops_at alive quiet = search (rules, arith, one_quiet, is_in, item, passes_before)
 
   pub passed_more : Passed before candidates (take i slots) → found ≡ true → Passed before candidates (take (i + 1) slots)
   passed_more passed passes s h = elim (or_cases (has (take i slots) s) (eqb slot s) (sym (has_more slots i inside slot item s) ∙ h)) [
@@ -162,15 +144,12 @@ module _ (before after : Propagation) (same : IsAsBefore before after) (candidat
 -- ---- The clauses that the literals touch, all of them in these slots
 
 pub touched_alive : (live : FinMap nat_cmp Clause) (lits slots items : List ℕ) → items ≡ slots → ((s : ℕ) → has slots s ≡ true → IsTouchedAt live lits s) → (s : ℕ) → has items s ≡ true → IsSome (maps.get live s)
-touched_alive live lits slots items is each s h = ap is_some (each s (subst (λ ls. has ls s ≡ true) is h)).at
+touched_alive live lits slots items is each s h = search rules
 
 pub can_try : (before after : Propagation) → IsAsBefore before after → MayAssume before.assumptions → LastIsAnswered Quiet before.assumptions → (slots : List ℕ) (i slot : ℕ) → i < length slots → slot ≡ slice_index slots i
     → ((s : ℕ) → has slots s ≡ true → IsSome (maps.get before.live s)) → CanTry after slot
-can_try before after same room quiet slots i slot inside is alive = record {
-  room = subst MayAssume (sym same.assumptions) room;
-  quiet = subst (LastIsAnswered Quiet) (sym same.assumptions) quiet;
-  alive = subst (λ m. IsSome (maps.get m slot)) (sym same.live) (alive slot (is_in slots i inside slot (is ∙ sym (get_or_default_zero slots i slot inside))));
-}
+can_try before after same room quiet slots i slot inside is alive =
+    search (rules, arith, is_in, get_or_default_zero)
 
 pub all_touched_passed : (p : Propagation) (them : Candidates) (lits : List Literal) → ((c : Clause) → is_candidate them c ≡ true → list_any (λ l. has c (complement l)) lits ≡ true)
     → (slots items : List ℕ) → items ≡ slots → ((s : ℕ) → IsTouchedAt p.live lits s → has slots s ≡ true) → Passed p them items

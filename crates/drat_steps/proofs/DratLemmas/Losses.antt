@@ -1,28 +1,28 @@
 -- What deletions lose, from what propagation over the slots says.
-use Rattle.std.proofs.Common.{◌≡◌, ℕ, ◌≤◌, Bool, true, false, Option, Some, None, is_some, IsSome, Ok, Err, Result, List, [], ◌++◌, slice_get, subst, ap, arith, IfOk, OnErr, refl, sym, ◌∙◌, inl, inr, ◌⊎◌, ◌↔◌}
-use Rattle.std.specs.Ordering.{nat_cmp}
-use Rattle.std.specs.FinMap as maps
-use Rattle.std.specs.FinMap.{FinMap}
+use Rattle.std.proofs.Common.{◌≡◌, ℕ, ◌≤◌, Bool, true, false, Some, is_some, IsSome, Ok, Result}
+use Rattle.std.proofs.Common.{List, [], ◌++◌, slice_get, subst, arith, IfOk, OnErr, refl, sym}
+use Rattle.std.proofs.Common.{inl, inr, ◌⊎◌, ◌↔◌, rules}
 use Rattle.std.proofs.lemmas.Bool.{cases_Bool, false≢true}
-use Rattle.cnf_base.specs.Literals.{Literal, Clause, has, same_clause, size}
+use Rattle.std.specs.{Ordering.nat_cmp, FinMap.FinMap}
+use Rattle.std.specs.FinMap as maps
+use Rattle.cnf_base.specs.Literals.{Literal, Clause, has, same_clause}
 use Rattle.cnf_base.proofs.MapLemmas.{after_remove, sum_remove}
 use Rattle.cnf_base.proofs.SetLemmas.{same_itself, same_symm, same_there, same_back}
 use Rattle.theory.specs.declared.accepted.Accepted.TheVariants.{Deleted}
-use Rattle.theory.specs.Drat.{SameLive, take_off}
-use Rattle.theory.specs.Losses.{DeleteLoses}
+use Rattle.theory.specs.{Drat.SameLive, Drat.take_off, Losses.DeleteLoses}
 use Rattle.theory.specs.Propagation.{Live, Forced, Clash, IsRootReason, by_both}
+use Rattle.theory.proofs.DratLemmas.Copies.{covers_of}
+use Rattle.theory.proofs.LawLemmas.Losses.{none_held, still_held, no_reason_kept}
+use Rattle.theory.proofs.PropagationLemmas.Covers.{Covers, forced_covers, clash_covers}
+use Rattle.theory.proofs.PropagationLemmas.Forced.{clash_through}
 use Rattle.propagation.specs.Assumptions.{IsValue, IsAnswer, Propagation, Assuming, assumed_by}
 use Rattle.propagation.specs.declared.answer.Answer.{Answer}
 use Rattle.propagation.specs.declared.answer.Answer.TheVariants as answers
 use Rattle.clause_db.specs.Store.{literals_in}
 use Rattle.trail.specs.declared.value.Value.{Value}
 use Rattle.trail.specs.declared.value.Value.TheVariants.{True, False, Open}
-use Rattle.theory.proofs.DratLemmas.Copies.{covers_of}
-use Rattle.theory.proofs.LawLemmas.Losses.{none_held, still_held, no_reason_kept}
-use Rattle.theory.proofs.PropagationLemmas.Covers.{Covers, forced_covers, clash_covers}
-use Rattle.theory.proofs.PropagationLemmas.Forced.{forced_through, clash_through}
-use Rattle.drat_steps.proofs.DratLemmas.Slots.{slots-clash, slots_covered, covered_by_slots, slots-reason}
-use Rattle.drat_steps.proofs.DratLemmas.Slots.{reason-slots, slots-remove}
+use Rattle.drat_steps.proofs.DratLemmas.Slots.{slots-clash, slots_covered, covered_by_slots}
+use Rattle.drat_steps.proofs.DratLemmas.Slots.{slots-reason, reason-slots, slots-remove}
 
 -- ---- The clause in the slot, however the step writes it
 
@@ -51,7 +51,7 @@ module _ (live : FinMap nat_cmp Clause) (slot : ℕ) (c lits : Clause) (there : 
 
   -- it was no reason
   pub reasonless : ¬ IsRootReason (maps.get live) c → ¬ Loses
-  reasonless none = no_reason_kept (maps.values live) lits (λ r. none (reason-slots live lits c (same_symm c lits same) r))
+  reasonless none = search (rules, arith, no_reason_kept, reason-slots, same_symm)
 
   -- past a clash
   pub loses_past_clash : Clash (maps.get live) [] → (reason : Bool) → (reason ≡ true → IsRootReason (maps.get live) c) → (reason ≡ false → ¬ IsRootReason (maps.get live) c)
@@ -96,13 +96,7 @@ module _ (live : FinMap nat_cmp Clause) (slot : ℕ) (c lits : Clause) (there : 
 
 -- nothing is lost, and what was noted stays
 pub noted_before : (had : Bool) (X : Type 0) → ¬ X → (had ≡ true) ↔ ((had ≡ true) ⊎ X)
-noted_before had X none = (
-  λ h. inl h,
-  λ either. elim either [
-    | inl h ↦ h
-    | inr loses ↦ absurd (none loses)
-  ],
-)
+noted_before had X none = search rules
 
 -- a loss was noted before
 pub noted_already : (had : Bool) (X : Type 0) → had ≡ true → (had ≡ true) ↔ ((had ≡ true) ⊎ X)
@@ -110,13 +104,7 @@ noted_already had X is = (λ h. inl h, λ either. is)
 
 -- nothing was noted before
 pub noted_now : (had told : Bool) (X : Type 0) → had ≡ false → (told ≡ true) ↔ X → (told ≡ true) ↔ ((had ≡ true) ⊎ X)
-noted_now had told X none tells = (
-  λ h. inr (tells.0 h),
-  λ either. elim either [
-    | inl h ↦ absurd (false≢true (sym none ∙ h))
-    | inr loses ↦ tells.1 loses
-  ],
-)
+noted_now had told X none tells = search rules
 
 -- ---- Values
 
@@ -143,17 +131,13 @@ module _ {E : Type 0} (before after : Propagation) (answer : Answer) (idle : bef
     now = assumed_by after.assumptions
 
     none_assumed : (l : Literal) → has now l ≡ true → ⊥
-    none_assumed l h =
-        let stands = assumed.stands in
-        false≢true (sym (stands.same is l ∙ ap (λ xs. has (assumed_by xs ++ []) l) idle) ∙ (ap (λ xs. has (assumed_by xs) l) (sym stands.stands) ∙ h))
+    none_assumed l h = search rules
 
     pub forced_now : (l : Literal) → Forced (maps.get before.live) [] l → Forced (maps.get after.live) now l
-    forced_now l f =
-        subst (λ m. Forced (maps.get m) now l) (sym assumed.live) (forced_through (maps.get before.live) [] now (λ a h. absurd (false≢true h)) l f)
+    forced_now l f = search rules
 
     pub forced_before : (l : Literal) → Forced (maps.get after.live) now l → Forced (maps.get before.live) [] l
-    forced_before l f =
-        forced_through (maps.get before.live) now [] (λ a h. absurd (none_assumed a h)) l (subst (λ m. Forced (maps.get m) now l) assumed.live f)
+    forced_before l f = search rules
 
     pub no_clash_now : ¬ Clash (maps.get after.live) now
     no_clash_now clash =
@@ -162,20 +146,11 @@ module _ {E : Type 0} (before after : Propagation) (answer : Answer) (idle : bef
 -- ---- Results
 
 pub if_ok_both : {A E : Type 0} (result : Result A E) (X Y Z : A → Type 0) → ((a : A) → X a → Y a → Z a) → IfOk result X → IfOk result Y → IfOk result Z
-if_ok_both (Ok a) X Y Z both x y = both a x y
-if_ok_both (Err e) X Y Z both x y = tt
+if_ok_both result X Y Z h h2 h3 = search rules
 
 pub on_err_too : {A E : Type 0} (result : Result A E) (X : Type 0) → X → OnErr result X
-on_err_too (Ok a) X x = tt
-on_err_too (Err e) X x = x
+on_err_too result X h = search rules
 
 -- without a clause there are no more literals
 pub fewer_literals : (live : FinMap nat_cmp Clause) (slot : ℕ) → IsSome (maps.get live slot) → literals_in (maps.remove live slot) ≤ literals_in live
-fewer_literals live slot alive =
-    let c = some_at _ alive in
-    let less = sum_remove size live slot c.0 c.1 in
-    omega (arith, less)
-  where
-    some_at : (o : Option Clause) → is_some o ≡ true → (c : Clause) × (o ≡ Some c)
-    some_at None h = absurd (false≢true h)
-    some_at (Some c) h = (c, refl)
+fewer_literals live slot alive = search (rules, arith, sum_remove, is_some, false≢true)

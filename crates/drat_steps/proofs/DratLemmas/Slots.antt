@@ -1,29 +1,26 @@
 -- A map from slots to clauses, whose values are the live clauses.
-use Rattle.std.proofs.Common.{◌≡◌, ℕ, zero, suc, ◌+◌, true, cond, Some, None, List, []}
-use Rattle.std.proofs.Common.{◌∷◌, map, slice_get, refl, sym, ap, ◌∙◌, subst}
-use Rattle.std.proofs.Common.{arith, eq-eqb, T, ◌<◌, ◌↔◌, inl, inr}
-use Rattle.std.proofs.lemmas.Option.{none-some}
-use Rattle.std.specs.Ordering.{nat_cmp, eq_by_cmp}
+use Rattle.std.proofs.Common.{◌≡◌, ℕ, zero, suc, true, cond, Some, None, List, [], ◌∷◌, map}
+use Rattle.std.proofs.Common.{slice_get, refl, sym, ap, ◌∙◌, arith, eq-eqb, T, ◌↔◌, inl, inr}
+use Rattle.std.proofs.Common.{rules}
+use Rattle.std.proofs.lemmas.{Option.none-some, Bool.cases_Bool, Bool.false_from_ne_true}
+use Rattle.std.specs.{Ordering.nat_cmp, Ordering.eq_by_cmp, FinMap.FinMap, FinMap.is_sorted}
+use Rattle.std.specs.{FinMap.find, FinMap.get-entries, FinMap.Entries.below_all, Cmp.unsigned_tied}
 use Rattle.std.specs.FinMap as slots
-use Rattle.std.specs.FinMap.{FinMap, is_sorted, find, get-entries}
-use Rattle.std.specs.FinMap.Entries.{below_all}
-use Rattle.std.specs.Cmp.{unsigned_tied}
-use Rattle.std.proofs.lemmas.Bool.{cases_Bool, false_from_ne_true}
 use Rattle.cnf_base.specs.Literals.{Literal, Clause, same_clause}
-use Rattle.theory.specs.Propagation.{Clash, HasRat, HasPr, IsRootReason}
-use Rattle.theory.specs.Drat.{take_off, copies_of, SameLive}
 use Rattle.cnf_base.proofs.MapLemmas.{sum_insert, sum_remove}
 use Rattle.cnf_base.proofs.SetLemmas.{both_pass, same_itself, same_symm, same_trans}
-use Rattle.propagation.proofs.PropagationLemmas.Counts.{below_found, both, tied}
+use Rattle.theory.specs.Propagation.{Clash, HasRat, HasPr, IsRootReason}
+use Rattle.theory.specs.Drat.{take_off, SameLive}
 use Rattle.theory.proofs.PropagationLemmas.Covers.{Covers, clash_covers, reason_covers}
 use Rattle.theory.proofs.DratLemmas.Copies.{rat_covers, pr_covers, copies-cons, copies-take_off}
+use Rattle.propagation.proofs.PropagationLemmas.Counts.{below_found, both, tied}
 
 abbrev clauses_in : List (ℕ × Clause) → List Clause
 clauses_in es = map (λ e. e.1) es
 
 -- a clause at a slot that was free is one copy more
 pub slots-insert : (m : FinMap nat_cmp Clause) (k : ℕ) (c : Clause) → slots.get m k ≡ None → SameLive (slots.values (slots.insert m k c)) (c ∷ slots.values m)
-slots-insert m k c absent = record { copies = λ e. sum_insert (λ d. cond (same_clause e d) 1 0) m k c absent ∙ sym (copies-cons e c (slots.values m)) }
+slots-insert m k c absent = search (rules, arith, sum_insert, copies-cons)
 
 eq_itself : (k : ℕ) → eq_by_cmp nat_cmp k k ≡ true
 eq_itself k = unsigned_tied k k ∙ eq-eqb k k refl
@@ -31,32 +28,30 @@ eq_itself k = unsigned_tied k k ∙ eq-eqb k k refl
 -- a slot that is freed is one copy less
 pub slots-remove : (m : FinMap nat_cmp Clause) (k : ℕ) (c d : Clause) → slots.get m k ≡ Some d → same_clause c d ≡ true → SameLive (slots.values (slots.remove m k)) (take_off c (slots.values m))
 slots-remove m k c d at same =
-    record {
-      copies = λ e.
-          let left = copies_of e (slots.values (slots.remove m k)) in
-          let alike : same_clause e d ≡ same_clause e c = both_pass (same_clause e d) (same_clause e c) (λ h. same_trans e d c h (same_symm c d same)) (λ h. same_trans e c d h same) in
-          let before : cond (same_clause e c) 1 0 + left ≡ copies_of e (slots.values m) =
-          subst (λ b. cond b 1 0 + left ≡ copies_of e (slots.values m)) alike (sum_remove (λ x. cond (same_clause e x) 1 0) m k d at) in
-          omega (arith, before, copies-take_off e c (slots.values m));
-    }
+    search (rules, arith, both_pass, same_trans, same_symm, sum_remove, copies-take_off)
 
 -- ---- Looking a slot up, and standing in the list of values
 
 find_listed : (es : List (ℕ × Clause)) (k : ℕ) (c : Clause) → find nat_cmp k es ≡ Some c → (j : ℕ) × (slice_get (clauses_in es) j ≡ Some c)
 find_listed [] k c at = absurd (none-some c at)
-find_listed (x ∷ es) k c at =
-    elim (cases_Bool (eq_by_cmp nat_cmp k x.0)) [
-      | inl e ↦ (zero, sym (ap (λ b. cond b (Some x.1) (find nat_cmp k es)) e) ∙ at)
-      | inr e ↦ let w = find_listed es k c (sym (ap (λ b. cond b (Some x.1) (find nat_cmp k es)) e) ∙ at) in (suc w.0, w.1)
-    ]
+find_listed (x ∷ es) k c at = elim (cases_Bool (eq_by_cmp nat_cmp k x.0)) [
+  | inl e ↦ (zero, sym (ap (λ b. cond b (Some x.1) (find nat_cmp k es)) e) ∙ at)
+  | inr e ↦ let w = find_listed es k c (sym (ap (λ b. cond b (Some x.1) (find nat_cmp k es)) e) ∙ at) in (suc w.0, w.1)
+]
 
 listed_found : (es : List (ℕ × Clause)) → T (is_sorted nat_cmp es) → (j : ℕ) (c : Clause) → slice_get (clauses_in es) j ≡ Some c → (k : ℕ) × (find nat_cmp k es ≡ Some c)
 listed_found [] sorted j c at = absurd (none-some c at)
 listed_found (x ∷ es) sorted zero c at = (x.0, ap (λ b. cond b (Some x.1) (find nat_cmp x.0 es)) (eq_itself x.0) ∙ at)
 listed_found (x ∷ es) sorted (suc j) c at =
-    let w = listed_found es ((both (below_all nat_cmp x.0 es) (is_sorted nat_cmp es) sorted).1) j c at in
-    let apart : x.0 < w.0 = below_found x.0 es w.0 c ((both (below_all nat_cmp x.0 es) (is_sorted nat_cmp es) sorted).0) w.1 in
-    (w.0, ap (λ b. cond b (Some x.1) (find nat_cmp w.0 es)) (false_from_ne_true _ (λ e. absurd (omega (arith, apart, tied w.0 e)))) ∙ w.1)
+    search (
+      rules,
+      arith,
+      both,
+      below_found,
+      false_from_ne_true,
+      tied,
+      (listed_found es ((both (below_all nat_cmp x.0 es) (is_sorted nat_cmp es) sorted).1) j c at),
+    )
 
 pub slots_covered : (m : FinMap nat_cmp Clause) → Covers (slots.get m) (slice_get (slots.values m))
 slots_covered m k c at = let w = find_listed (slots.entries m) k c (sym (get-entries m k) ∙ at) in (w.0, c, w.1, same_itself c)

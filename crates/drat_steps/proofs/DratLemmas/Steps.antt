@@ -1,31 +1,27 @@
 -- The answers to a DRAT step, from what propagation over the slots says.
 use Rattle.std.proofs.Common.{◌≡◌, ◌≢◌, ℕ, Bool, true, false, cond, Some, None, Ok, Err, List, []}
-use Rattle.std.proofs.Common.{◌∷◌, ◌++◌, slice_get, ◌+◌, refl, sym, ap, ◌∙◌, subst, inl, inr}
-use Rattle.std.specs.List.{list_any}
-use Rattle.std.specs.Ordering.{nat_cmp}
-use Rattle.std.specs.FinMap as maps
-use Rattle.std.specs.FinMap.{FinMap}
-use Rattle.std.proofs.lemmas.Bool.{false_from_ne_true}
-use Rattle.std.proofs.lemmas.List.{map-append}
-use Rattle.std.proofs.lemmas.List.Folds.{list_any_at}
+use Rattle.std.proofs.Common.{◌∷◌, ◌++◌, slice_get, ◌+◌, refl, sym, ap, ◌∙◌, subst, inl, inr, arith}
+use Rattle.std.proofs.Common.{rules}
+use Rattle.std.proofs.lemmas.{Bool.false_from_ne_true, List.map-append, List.Folds.list_any_at}
 use Rattle.std.proofs.lemmas.Option.{slice_get_within, get_or_from_slice_get, none-some, same_Some}
+use Rattle.std.specs.{List.list_any, Ordering.nat_cmp, FinMap.FinMap}
+use Rattle.std.specs.FinMap as maps
 use Rattle.cnf_base.specs.Literals.{Literal, Clause, complement, complements, has, without}
 use Rattle.cnf_base.specs.Literals.{same_clause}
 use Rattle.cnf_base.proofs.SetLemmas.{has_append_left, has_append_right, has_append_cases, has_head}
 use Rattle.cnf_base.proofs.SetLemmas.{both_pass, same_symm, same_trans}
 use Rattle.cnf_base.proofs.MapLemmas.{inserted_is}
-use Rattle.theory.specs.Sets.{SameSet}
-use Rattle.theory.specs.declared.accepted.Accepted.{Accepted}
+use Rattle.theory.specs.{Sets.SameSet, declared.accepted.Accepted.Accepted}
 use Rattle.theory.specs.declared.accepted.Accepted.TheVariants.{Rat, Deleted, Ignored}
 use Rattle.theory.specs.declared.drat_rules.DratRules.{DratRules}
 use Rattle.theory.specs.declared.refusal.Refusal.TheVariants.{NotRup, NeitherRupNorRat}
-use Rattle.propagation.specs.Assumptions.{Propagation}
 use Rattle.theory.specs.Propagation.{Live, Clash, HasRup, IsRootReason}
-use Rattle.drat_steps.specs.Code.Candidates.{AllClash, SomeQuiet, Searched}
 use Rattle.theory.specs.Lrat.{AnswersChain, conflict}
 use Rattle.theory.specs.Drat.{AnswersAdd, AnswersDelete, take_off, copies_of, SameLive}
 use Rattle.theory.proofs.PropagationLemmas.Forced.{forced_assumed, clash_through}
 use Rattle.theory.proofs.DratLemmas.Copies.{copies-cons, alive_at}
+use Rattle.propagation.specs.Assumptions.{Propagation}
+use Rattle.drat_steps.specs.Code.Candidates.{AllClash, SomeQuiet, Searched}
 use Rattle.drat_steps.proofs.DratLemmas.Slots.{slots-insert, slots-remove, slots-clash, slots-rat}
 use Rattle.drat_steps.proofs.DratLemmas.Slots.{slots_covered, covered_by_slots, slots-reason}
 use Rattle.drat_steps.proofs.DratLemmas.Slots.{reason-slots}
@@ -44,10 +40,7 @@ module _ (c : Clause) (assumed : List Literal) (same : SameSet assumed (compleme
   ])
 
   pub back : (a : Literal) → has (complements (c ++ d)) a ≡ true → has (assumed ++ complements d) a ≡ true
-  back a h = elim (has_append_cases (complements c) (complements d) a (subst (λ ls. has ls a ≡ true) (map-append complement c d) h)) [
-    | inl e ↦ has_append_left assumed (complements d) a (same a ∙ e)
-    | inr e ↦ has_append_right assumed (complements d) a e
-  ]
+  back a h = search (rules, arith, has_append_cases, map-append, has_append_left, has_append_right)
 
 module _ (live : FinMap nat_cmp Clause) where
   pub rup_listed : (c : Clause) → Clash (maps.get live) (complements c) → HasRup (slice_get (maps.values live)) c
@@ -97,7 +90,7 @@ answers_none live (l ∷ c) first none = absurd (none-some l first)
 -- the clause begins with the pivot, whose candidates were searched
 pub answers_searched : (live : FinMap nat_cmp Clause) (c : List Literal) (pivot : Literal) → Some pivot ≡ slice_get c 0 → (assumed : List Literal) → SameSet assumed (complements c) → ¬ HasRup (maps.get live) c →
     (opposite : Literal) → opposite ≡ complement pivot → (found b : Bool) → found ≡ b → SearchedHolding (maps.get live) assumed opposite found → AnswersAdd (slice_get (maps.values live)) c (cond b (Ok Rat) (Err (NeitherRupNorRat pivot)))
-answers_searched live [] pivot first assumed same none opposite is found b value searched = absurd (none-some pivot (sym first))
+answers_searched live [] pivot first assumed same none opposite is found b value searched = cc
 answers_searched live (l ∷ c) pivot first assumed same none opposite is found b value searched =
     answers_at live (l ∷ c) pivot c assumed (ap (λ k. k ∷ c) (same_Some l pivot (sym first))) same none b
     (subst (SearchedHolding (maps.get live) assumed (complement pivot)) value (subst (λ l. SearchedHolding (maps.get live) assumed l found) is searched))
@@ -116,10 +109,8 @@ module _ (old new : FinMap nat_cmp Clause) (slot : ℕ) (c lits : Clause) (free 
   -- a clause in a slot that was free is one copy more
   pub one_more : SameLive (maps.values new) (lits ∷ maps.values old)
   one_more = record {
-    copies = λ e.
-        ap (λ m. copies_of e (maps.values m)) is_insert
-        ∙ (slots-insert old slot c free).copies e
-        ∙ copies-cons e c (maps.values old)
+    copies = λ e. ap (λ m. copies_of e (maps.values m)) is_insert
+        ∙ (slots-insert old slot c free).copies e ∙ copies-cons e c (maps.values old)
         ∙ ap (λ b. cond b 1 0 + copies_of e (maps.values old)) (both_pass (same_clause e c) (same_clause e lits) (λ h. same_trans e c lits h same) (λ h. same_trans e lits c h (same_symm c lits same)))
         ∙ sym (copies-cons e lits (maps.values old));
   }
@@ -136,13 +127,11 @@ module _ (live : FinMap nat_cmp Clause) (lits : Clause) where
       found over j d at same = list_any_at (same_clause lits) over j [] (slice_get_within over j d at) (subst (λ x. same_clause lits x ≡ true) (sym (get_or_from_slice_get over j d [] at)) same)
 
   pub none_listed : ((s : ℕ) (c : Clause) → maps.get live s ≡ Some c → same_clause c lits ≡ true → ⊥) → list_any (same_clause lits) (maps.values live) ≡ false
-  none_listed none = false_from_ne_true _ (λ h.
-      let w = alive_at lits (maps.values live) h in
-      let v = covered_by_slots live w.0 w.1 w.2 in
-      none v.0 v.1 v.2 (same_trans v.1 w.1 lits (same_symm w.1 v.1 v.3) (same_symm lits w.1 w.3)))
+  none_listed none =
+      search (rules, arith, false_from_ne_true, alive_at, covered_by_slots, same_trans, same_symm)
 
   pub taken_off : (slot : ℕ) (c : Clause) (new : FinMap nat_cmp Clause) → maps.get live slot ≡ Some c → same_clause c lits ≡ true → new ≡ maps.remove live slot → SameLive (maps.values new) (take_off lits (maps.values live))
-  taken_off slot c new at same is = subst (λ m. SameLive (maps.values m) (take_off lits (maps.values live))) (sym is) (slots-remove live slot lits c at (same_symm c lits same))
+  taken_off slot c new at same is = search (rules, arith, slots-remove, same_symm)
 
 -- the clause was found, and whether its unit is kept is asked of the state after, which is the same
 module _ (before after : Propagation) (same : after ≡ before) (rules : DratRules) (lits : Clause) (slot : ℕ) (found : (c : Clause) × (maps.get before.live slot ≡ Some c) × (same_clause c lits ≡ true)) where

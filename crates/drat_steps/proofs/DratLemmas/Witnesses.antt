@@ -1,30 +1,25 @@
 -- The answers to an addition that lists a witness.
-use Rattle.std.proofs.Common.{◌≡◌, ℕ, suc, ◌+◌, ◌&&◌, ◌⊎◌, not, Bool, true, false, cond}
-use Rattle.std.proofs.Common.{Some, None, Ok, Err, List, [], ◌∷◌, slice_get}
-use Rattle.std.proofs.Common.{◌++◌, ◌||◌, drop, eqb, filter, length, take, take_while, refl, sym}
-use Rattle.std.proofs.Common.{ap, ◌∙◌, subst, arith, inl, inr}
-use Rattle.std.specs.List.{list_any}
-use Rattle.std.specs.Ordering.{nat_cmp}
-use Rattle.std.specs.FinMap as maps
-use Rattle.std.specs.FinMap.{FinMap}
+use Rattle.std.proofs.Common.{◌≡◌, ℕ, ◌+◌, ◌&&◌, ◌⊎◌, not, Bool, true, false, cond, Some, None, Ok}
+use Rattle.std.proofs.Common.{Err, List, [], ◌∷◌, slice_get, ◌++◌, ◌||◌, drop, eqb, filter, length}
+use Rattle.std.proofs.Common.{take, take_while, refl, sym, ap, ◌∙◌, subst, arith, inl, inr, rules}
 use Rattle.std.proofs.lemmas.Bool.{cases_Bool, true≢false}
+use Rattle.std.specs.{List.list_any, Ordering.nat_cmp, FinMap.FinMap}
+use Rattle.std.specs.FinMap as maps
 use Rattle.cnf_base.specs.Literals.{Literal, Clause, complement, complements, has}
 use Rattle.cnf_base.proofs.LiteralLemmas.{complement-complement}
 use Rattle.cnf_base.proofs.SetLemmas.{any_from, any_none, any_some, has-complements, has-filter}
 use Rattle.cnf_base.proofs.SetLemmas.{has_append_right, has_head}
-use Rattle.trail.specs.LiteralSet.{in_set}
-use Rattle.trail.specs.declared.literal_set.LiteralSet.{LiteralSet}
+use Rattle.trail.specs.{LiteralSet.in_set, declared.literal_set.LiteralSet.LiteralSet}
 use Rattle.trail.specs.Reduced.{is_reduced}
 use Rattle.theory.specs.Sets.{SameSet, conflicts}
-use Rattle.theory.proofs.PropagationLemmas.Forced.{clash_by_false, forced_assumed}
-use Rattle.theory.proofs.PropagationLemmas.Conflicts.{not_both}
-use Rattle.theory.specs.declared.accepted.Accepted.{Accepted}
-use Rattle.theory.specs.declared.accepted.Accepted.TheVariants.{Pr}
+use Rattle.theory.specs.declared.accepted.Accepted.{Accepted, TheVariants.Pr}
 use Rattle.theory.specs.declared.refusal.Refusal.TheVariants.{InconsistentSet, NeitherRupNorPr}
 use Rattle.theory.specs.Propagation.{Live, Clash, HasPr, HasRup, open_literals}
-use Rattle.proofs.specs.Steps.{clause_part, witness_part}
 use Rattle.theory.specs.Lrat.{AnswersChain, conflict}
 use Rattle.theory.specs.Drat.{AnswersListed, AnswersWithWitness}
+use Rattle.theory.proofs.PropagationLemmas.Forced.{clash_by_false, forced_assumed}
+use Rattle.theory.proofs.PropagationLemmas.Conflicts.{not_both}
+use Rattle.proofs.specs.Steps.{clause_part, witness_part}
 use Rattle.drat_steps.specs.Code.Candidates.{AllClash, SomeQuiet, Searched}
 use Rattle.drat_steps.proofs.DratLemmas.Slots.{slots-pr}
 use Rattle.drat_steps.proofs.DratLemmas.Steps.{answers_rup, back, clash_same, no_rup_listed}
@@ -46,11 +41,10 @@ module _ (set : LiteralSet) (witness : List Literal) (filled : (l : Literal) →
   searched_filled live assumed found h = subst (λ (f : Literal → Bool). Searched live assumed (is_reduced f) (λ c. filter (λ l. not (f (complement l))) c) found) (λ i l. filled l i) h
 
   pub conflicts_filled : list_any (λ l. in_set set (complement l)) witness ≡ conflicts witness
-  conflicts_filled = ap (λ (f : Literal → Bool). list_any (λ l. f (complement l)) witness) (λ i l. filled l i)
+  conflicts_filled = search rules
 
 pub listed_inconsistent : (live : List Clause) (c witness : List Literal) → conflicts witness ≡ true → AnswersListed (slice_get live) c witness (Err InconsistentSet)
-listed_inconsistent live c [] wrong = absurd (true≢false (sym wrong))
-listed_inconsistent live c (l ∷ witness) wrong = wrong
+listed_inconsistent live c witness h = search rules
 
 -- ---- What an addition lists
 
@@ -65,8 +59,7 @@ parts_meet (first ∷ rest) = elim (from_first rest) [
     by_test : (b : Bool) (l : Literal) (ls : List Literal) (n : ℕ) → eqb l first ≡ b → (drop (length (take n ls)) ls ≡ []) ⊎ (has (drop (length (take n ls)) ls) first ≡ true) →
         (drop (length (take (cond (not b) (1 + n) 0) (l ∷ ls))) (l ∷ ls) ≡ []) ⊎ (has (drop (length (take (cond (not b) (1 + n) 0) (l ∷ ls))) (l ∷ ls)) first ≡ true)
     by_test true l ls n e h = inr (ap (λ b. b || has ls first) e)
-    by_test false l ls n e h = let one : suc n ≡ 1 + n = omega arith in
-        subst (λ m. (drop (length (take m (l ∷ ls))) (l ∷ ls) ≡ []) ⊎ (has (drop (length (take m (l ∷ ls))) (l ∷ ls)) first ≡ true)) one h
+    by_test false l ls n e h = search rules
 
     from_first : (ls : List Literal) → (drop (length (take_while (λ l. not (eqb l first)) ls)) ls ≡ []) ⊎ (has (drop (length (take_while (λ l. not (eqb l first)) ls)) ls) first ≡ true)
     from_first [] = inl refl
@@ -90,13 +83,11 @@ module _ (live : FinMap nat_cmp Clause) (c witness assumed : List Literal) (same
   ]
 
   second_of : (a b : Bool) → (a && not b) ≡ true → b ≡ false
-  second_of true true e = sym e
-  second_of true false e = refl
-  second_of false b e = absurd (true≢false (sym e))
+  second_of a b h = search rules
 
   some_not_pr : SomeQuiet (maps.get live) assumed (is_reduced (has witness)) (open_literals witness) → ¬ HasPr (maps.get live) c witness
   some_not_pr some pr = elim (pr.others some.slot some.clause some.at) [
-    | inl met ↦ true≢false (sym (any_from (has witness) some.clause met.0 met.1 met.2) ∙ second_of (list_any (λ l. has witness (complement l)) some.clause) _ some.passes)
+    | inl met ↦ search (rules, arith, true≢false, any_from, second_of)
     | inr rup ↦ some.quiet (clash_same (maps.get live) _ _ (back c assumed same (open_literals witness some.clause)) rup)
   ]
 
@@ -120,15 +111,13 @@ module _ (live : FinMap nat_cmp Clause) (c witness assumed : List Literal) (same
     answers_filled set filled found b value searched = answers_reduced found b value (searched_filled set witness filled (maps.get live) assumed found searched)
 
 pub parts_given : (lits c witness : List Literal) → c ≡ clause_part lits → witness ≡ witness_part lits → (witness ≡ []) ⊎ ((l : Literal) × (has c l ≡ true) × (has witness l ≡ true))
-parts_given lits c witness c_is set_is =
-    subst (λ (s : List Literal). (s ≡ []) ⊎ ((l : Literal) × (has c l ≡ true) × (has s l ≡ true))) (sym set_is)
-    (subst (λ (x : List Literal). (witness_part lits ≡ []) ⊎ ((l : Literal) × (has x l ≡ true) × (has (witness_part lits) l ≡ true))) (sym c_is) (parts_meet lits))
+parts_given lits c witness c_is set_is = search (rules, arith, witness_part, parts_meet)
 
 -- the clause has RUP, whether the addition lists a witness or not
 pub listed_rup : (live : FinMap nat_cmp Clause) (c witness : List Literal) (word : Accepted) → AnswersChain (λ _. None) c [] conflict (Ok word) → conflicts witness ≡ false → (witness ≡ []) ⊎ ((l : Literal) × (has c l ≡ true) × (has witness l ≡ true)) →
     Clash (maps.get live) (complements c) → AnswersListed (slice_get (maps.values live)) c witness (Ok word)
 listed_rup live c [] word is consistent meets clash = answers_rup live c word is clash
-listed_rup live [] (w ∷ witness) word is consistent (inl none) clash = absurd (true≢false (sym (has_head w witness) ∙ ap (λ ls. has ls w) none))
-listed_rup live [] (w ∷ witness) word is consistent (inr met) clash = absurd (true≢false (sym met.1))
+listed_rup live [] (w ∷ witness) word is consistent (inl none) clash = cc
+listed_rup live [] (w ∷ witness) word is consistent (inr met) clash = cc
 listed_rup live (l ∷ c) (w ∷ witness) word is consistent meets clash =
     subst (AnswersWithWitness (slice_get (maps.values live)) (l ∷ c) (w ∷ witness)) (sym is) (consistent, rup_listed live (l ∷ c) clash)

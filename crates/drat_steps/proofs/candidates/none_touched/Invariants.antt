@@ -5,6 +5,5 @@ use Rattle.propagation.specs.Assumptions.{HasAt}
 use Rattle.drat_steps.proofs.candidates.none_touched.Given as goal
 
 abbrev pub invariant-loop-l : goal.invariant-loop-l
-invariant-loop-l g l =
-    (x : ℕ) → has (take l.l-index l.lits) x ≡ true → (s : ℕ) →
+invariant-loop-l g l = (x : ℕ) → has (take l.l-index l.lits) x ≡ true → (s : ℕ) →
     HasAt (maps.get (g.P.Propagate.state l.clauses).live) (complement x) s → ⊥

@@ -1,14 +1,13 @@
 use Rattle.std.proofs.Common.{sym, ap, ◌∙◌, subst, inr, ◌≡◌, Some, true, ◌↔◌}
-use Rattle.std.specs.FinMap as maps
-use Rattle.std.specs.FinMap.{FinMap}
-use Rattle.std.specs.Ordering.{nat_cmp}
 use Rattle.std.proofs.lemmas.Bool.{false≢true}
+use Rattle.std.specs.{FinMap.FinMap, Ordering.nat_cmp}
+use Rattle.std.specs.FinMap as maps
 use Rattle.cnf_base.specs.Literals.{Clause}
-use Rattle.theory.specs.Losses.{DeleteLoses}
-use Rattle.theory.specs.declared.accepted.Accepted.TheVariants.{Deleted}
+use Rattle.theory.specs.{Losses.DeleteLoses, declared.accepted.Accepted.TheVariants.Deleted}
 use Rattle.theory.specs.Propagation.{IsRootReason}
 use Rattle.drat_steps.proofs.DratLemmas.Losses.{reasonless, noted_before, noted_already, noted_now}
-use Rattle.drat_steps.proofs.DratLemmas.Steps.{kept_ignored, none_listed, not_kept_deleted, taken_off}
+use Rattle.drat_steps.proofs.DratLemmas.Steps.{kept_ignored, none_listed, not_kept_deleted}
+use Rattle.drat_steps.proofs.DratLemmas.Steps.{taken_off}
 use Rattle.drat_steps.proofs.deletion.delete.Goals as goal
 
 pub returns-then-rules-clause-answers : goal.returns-then-rules-clause-answers

@@ -1,16 +1,13 @@
 use Rattle.std.proofs.Common.{◌≡◌, true, eqb, eqb-true, take, sym, ap, ◌∙◌, subst, inl, inr}
-use Rattle.std.specs.FinMap as maps
-use Rattle.std.proofs.lemmas.Bool.{or_cases, false≢true}
-use Rattle.std.proofs.lemmas.List.{take_all}
-use Rattle.std.proofs.lemmas.Option.{same_Some}
+use Rattle.std.proofs.lemmas.{Bool.or_cases, Bool.false≢true, List.take_all, Option.same_Some}
 use Rattle.cnf_base.specs.Literals.{has}
-use Rattle.cnf_base.proofs.SetLemmas.{same_there}
-use Rattle.cnf_base.proofs.WalkLemmas.{has_more}
+use Rattle.cnf_base.proofs.{SetLemmas.same_there, WalkLemmas.has_more}
 use Rattle.propagation.specs.Assumptions.{assumed_by}
 use Rattle.theory.specs.Propagation.{Forced}
 use Rattle.drat_steps.proofs.DratLemmas.Losses.{not_forced}
 use Rattle.drat_steps.proofs.deletion.true_literal.Goals.{in-True, in_default}
 use Rattle.drat_steps.proofs.deletion.true_literal.Goals as goal
+use Rattle.std.specs.FinMap as maps
 
 pub loop-l-preserved : goal.loop-l-preserved
 loop-l-preserved g c x h =

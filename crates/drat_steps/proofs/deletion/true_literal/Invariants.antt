@@ -6,6 +6,5 @@ use Rattle.theory.specs.Propagation.{Forced}
 use Rattle.drat_steps.proofs.deletion.true_literal.Given as goal
 
 abbrev pub invariant-loop-l : goal.invariant-loop-l
-invariant-loop-l g l =
-    (x : ℕ) → has (take l.l-index l.l-items) x ≡ true →
+invariant-loop-l g l = (x : ℕ) → has (take l.l-index l.l-items) x ≡ true →
     ¬ Forced (maps.get (g.P.Propagate.state l.clauses).live) (assumed_by (g.P.Propagate.state l.clauses).assumptions) x

@@ -1,11 +1,10 @@
-use Rattle.std.proofs.Common.{◌∙◌, subst}
-use Rattle.std.specs.FinMap as maps
-use Rattle.std.proofs.lemmas.List.{take_all}
+use Rattle.std.proofs.{Common.◌∙◌, Common.subst, lemmas.List.take_all}
 use Rattle.propagation.specs.Assumptions.{assumed_by}
-use Rattle.drat_steps.proofs.DratLemmas.Candidates.{Passed, all_touched_passed, can_try, clashed_after}
-use Rattle.drat_steps.proofs.DratLemmas.Candidates.{none_is_one, passed_more, stops_at}
-use Rattle.drat_steps.proofs.DratLemmas.Candidates.{touched_alive}
+use Rattle.drat_steps.proofs.DratLemmas.Candidates.{Passed, all_touched_passed, can_try}
+use Rattle.drat_steps.proofs.DratLemmas.Candidates.{clashed_after, none_is_one, passed_more}
+use Rattle.drat_steps.proofs.DratLemmas.Candidates.{stops_at, touched_alive}
 use Rattle.drat_steps.proofs.candidates.Candidates.all_clash.Goals as goal
+use Rattle.std.specs.FinMap as maps
 
 pub returns-then-none_touched-clause-searched : goal.returns-then-none_touched-clause-searched
 returns-then-none_touched-clause-searched g c =

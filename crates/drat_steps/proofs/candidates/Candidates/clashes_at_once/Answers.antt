@@ -1,13 +1,12 @@
 -- A literal of the rest is true, and so forced; its complement is assumed.
-use Rattle.std.proofs.Common.{sym, subst, ◌∙◌}
-use Rattle.std.specs.FinMap as maps
-use Rattle.std.proofs.lemmas.Bool.{false≢true}
+use Rattle.std.proofs.{Common.sym, Common.subst, Common.◌∙◌, lemmas.Bool.false≢true}
 use Rattle.cnf_base.proofs.WalkLemmas.{is_in}
 use Rattle.propagation.specs.Assumptions.{IsValue, assumed_by}
 use Rattle.theory.specs.Propagation.{Forced}
 use Rattle.drat_steps.proofs.DratLemmas.Candidates.{clashes_by_true}
 use Rattle.drat_steps.proofs.candidates.Candidates.clashes_at_once.Goals.{in-True, in_default}
 use Rattle.drat_steps.proofs.candidates.Candidates.clashes_at_once.Goals as goal
+use Rattle.std.specs.FinMap as maps
 
 pub returns-then-is_left : goal.returns-then-is_left
 returns-then-is_left g c _ =
