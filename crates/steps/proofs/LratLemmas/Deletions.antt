@@ -1,17 +1,13 @@
 -- Deletions, identifier by identifier.
-use Rattle.std.proofs.Common.{◌≡◌, ℕ, true, false, Option, Some, None, is_some, is_none, List, ◌∷◌}
-use Rattle.std.proofs.Common.{refl, sym, ap, ◌∙◌}
-use Rattle.std.specs.Bool.{then_some}
-use Rattle.std.specs.Option.{option_or}
-use Rattle.std.proofs.lemmas.Bool.{true≢false}
-use Rattle.theory.specs.declared.refusal.Refusal.TheVariants.{UnknownId}
-use Rattle.cnf_base.specs.Literals.{Clause}
-use Rattle.theory.specs.Propagation.{Live}
+use Rattle.std.proofs.Common.{◌≡◌, ℕ, true, false, Option, is_some, is_none, List, ◌∷◌, sym, ap}
+use Rattle.std.proofs.Common.{◌∙◌}
+use Rattle.std.specs.{Bool.then_some, Option.option_or}
+use Rattle.theory.specs.{declared.refusal.Refusal.TheVariants.UnknownId, Propagation.Live}
 use Rattle.theory.specs.Lrat.{without_id, without_ids, deletion_refusal}
+use Rattle.cnf_base.specs.Literals.{Clause}
 
 some_not_none : (o : Option Clause) → true ≡ is_some o → is_none o ≡ false
-some_not_none None h = absurd (true≢false h)
-some_not_none (Some c) h = refl
+some_not_none o h = cc
 
 module _ (live : Live) (ids more : List ℕ) (id : ℕ) (ids_are : ids ≡ id ∷ more) where
   module _ (after : Live) (is : (k : ℕ) → after k ≡ without_id live id k) where
@@ -19,8 +15,7 @@ module _ (live : Live) (ids more : List ℕ) (id : ℕ) (ids_are : ids ≡ id �
     after_is i k = is k i
 
     pub deletion_more : true ≡ is_some (live id) → deletion_refusal after more ≡ deletion_refusal live ids
-    deletion_more h =
-        ap (λ l. deletion_refusal l more) after_is
+    deletion_more h = ap (λ l. deletion_refusal l more) after_is
         ∙ sym (ap (deletion_refusal live) ids_are ∙ ap (λ t. option_or (then_some t (UnknownId id)) (deletion_refusal (without_id live id) more)) (some_not_none (live id) h))
 
     pub without_more : without_ids after more ≡ without_ids live ids

@@ -3,34 +3,32 @@ use Rattle.std.proofs.Common.{◌≡◌, ℕ, ◌+◌, ◌<◌, Bool, true, fals
 use Rattle.std.proofs.Common.{eqb, eqb-true, inl, inr, Option, Some, None, is_some, option_map}
 use Rattle.std.proofs.Common.{subst, List, [], ◌∷◌, ◌++◌, length, get_or, take, drop, refl, sym, ap}
 use Rattle.std.proofs.Common.{◌∙◌, ℤ, pos, nat_abs, w64}
-use lib.Signed.{lt_z}
-use mir.Val.{SFits}
-use Rattle.std.specs.Bool.{then_some}
-use Rattle.std.specs.Option.{option_or, IfNone}
 use Rattle.std.proofs.lemmas.Bool.{false≢true, true≢false, or_cases}
 use Rattle.std.proofs.lemmas.List.Folds.{list_any-append}
+use Rattle.std.specs.{Bool.then_some, Option.option_or, Option.IfNone}
 use Rattle.theory.specs.declared.refusal.Refusal.{Refusal}
 use Rattle.theory.specs.declared.refusal.Refusal.TheVariants.{UnknownId, NotUnit, NotCandidate}
 use Rattle.theory.specs.declared.refusal.Refusal.TheVariants.{NamedTwice, GroupWithoutConflict}
 use Rattle.theory.specs.declared.refusal.Refusal.TheVariants.{Unnamed}
 use Rattle.theory.specs.declared.accepted.Accepted.TheVariants.{Rat}
-use Rattle.steps.specs.declared.lrat.walk.WalkEnd.{WalkEnd}
-use Rattle.steps.specs.declared.lrat.walk.WalkEnd.TheVariants.{Conflict, Open}
-use Rattle.steps.specs.declared.lrat.walk.WalkEnd.TheVariants.{UnknownId as EndUnknown}
-use Rattle.steps.specs.declared.lrat.walk.WalkEnd.TheVariants.{NotUnit as EndNotUnit}
-use Rattle.cnf_base.specs.Literals.{Literal, complement, Clause, has, complements, without}
 use Rattle.theory.specs.Propagation.{Live, open_literals}
 use Rattle.theory.specs.Lrat.{ChainEnd, conflict, open_with, unknown, not_unit, look_at, chain}
 use Rattle.theory.specs.Lrat.{Group, with_candidate, chain_refusal, group_refusal, groups_refusal}
 use Rattle.theory.specs.Lrat.{units_of, groups_of, is_unsettled, is_left_out, AnswersGroups}
 use Rattle.theory.specs.Sets.{conflicts, SameSet}
-use Rattle.live_clauses.specs.LiveClauses.{Holds}
+use Rattle.theory.proofs.LratLemmas.SameSets.{same_set_more}
+use Rattle.steps.specs.declared.lrat.walk.WalkEnd.{WalkEnd, TheVariants.Conflict, TheVariants.Open}
+use Rattle.steps.specs.declared.lrat.walk.WalkEnd.{TheVariants.UnknownId as EndUnknown}
+use Rattle.steps.specs.declared.lrat.walk.WalkEnd.{TheVariants.NotUnit as EndNotUnit}
 use Rattle.steps.specs.Code.Walk.{IsEnd, refusal_at}
 use Rattle.steps.specs.Code.Groups.{named_in, IsGroupEnd, is_unnamed, IsFirstLeftOut}
-use Rattle.theory.proofs.LratLemmas.SameSets.{same_set_more}
 use Rattle.steps.proofs.LratLemmas.Walks.{chain_same}
 use Rattle.steps.proofs.LratLemmas.Hints.{read, groups_skip, groups_more, named_skip, named_more}
 use Rattle.steps.proofs.LratLemmas.Hints.{any_named}
+use Rattle.cnf_base.specs.Literals.{Literal, complement, Clause, has, complements, without}
+use Rattle.live_clauses.specs.LiveClauses.{Holds}
+use lib.Signed.{lt_z}
+use mir.Val.{SFits}
 
 refusal_at_is : (r : Refusal) (trues : List Literal) (walked : WalkEnd) (end : ChainEnd) → IsEnd trues walked end → refusal_at r walked ≡ chain_refusal r end
 refusal_at_is r trues Conflict conflict h = refl
@@ -128,8 +126,7 @@ module _ (live : Live) (ls : List Literal) (pivot : Literal) where
       pub groups_go_on : is_some refusal ≡ false → (after : List ℕ) → ((j : ℕ) → has after j ≡ has named j || eqb k j) → groups_refusal live ls pivot after (groups_of (drop (i + 1) hints)) ≡ all
       groups_go_on h after more =
           groups_earlier (groups_of (drop (i + 1) hints)) after (k ∷ named) (λ j. more j ∙ or-comm (has named j) (eqb k j))
-          ∙ sym (second_wins refusal _ h)
-          ∙ unroll
+          ∙ sym (second_wins refusal _ h) ∙ unroll
         where
           second_wins : (o p : Option Refusal) → is_some o ≡ false → option_or o p ≡ p
           second_wins None p h = refl

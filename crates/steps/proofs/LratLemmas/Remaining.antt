@@ -1,31 +1,23 @@
 -- Candidates without a group: whether there are any, and those that are passed over.
 use Rattle.std.proofs.Common.{◌≡◌, ℕ, ◌+◌, ◌<◌, ◌≤◌, Bool, true, false, not, ◌&&◌, eqb, Option}
 use Rattle.std.proofs.Common.{Some, None, List, ◌∷◌, length, take, get_or, refl, ap, sym, ◌∙◌}
-use Rattle.std.proofs.Common.{subst, slice_index}
-use Rattle.std.proofs.Common.{arith, nat_eq, eqb-true, inl, inr}
-use Rattle.std.specs.List.{IsDistinct}
-use Rattle.std.specs.List.Sorted.{IsStrictlyIncreasing}
-use Rattle.std.specs.Ordering.{nat_cmp}
-use Rattle.std.specs.declared.cmp.Ordering.TheVariants.{Less}
+use Rattle.std.proofs.Common.{subst, slice_index, arith, nat_eq, eqb-true, inl, inr, rules}
 use Rattle.std.proofs.lemmas.Bool.{false≢true, true≢false, false_from_ne_true, and_parts, not-true}
-use Rattle.std.proofs.lemmas.Bool.{cases_lt, cases_eq, or_cases}
-use Rattle.std.proofs.lemmas.Bool.Decides.{nat_tests}
-use Rattle.std.proofs.lemmas.Grind.{get_or_default_zero}
-use Rattle.std.proofs.lemmas.List.{take_all}
+use Rattle.std.proofs.lemmas.Bool.{cases_lt, cases_eq, or_cases, Decides.nat_tests}
+use Rattle.std.proofs.lemmas.{Grind.get_or_default_zero, List.take_all}
 use Rattle.std.proofs.lemmas.Map.Keys.{Less-from_sorted, sorted_from_strictly_increasing}
+use Rattle.std.specs.List.{IsDistinct, Sorted.IsStrictlyIncreasing}
+use Rattle.std.specs.{Ordering.nat_cmp, declared.cmp.Ordering.TheVariants.Less}
 use Rattle.cnf_base.specs.Literals.{Literal, complement, Clause, has}
 use Rattle.cnf_base.proofs.MemberLemmas.{place_of, has_front}
-use Rattle.cnf_base.proofs.SetLemmas.{has_cases}
-use Rattle.cnf_base.proofs.WalkLemmas.{has_more}
-use Rattle.theory.specs.Propagation.{Live}
-use Rattle.theory.specs.Lrat.{is_unsettled}
+use Rattle.cnf_base.proofs.{SetLemmas.has_cases, WalkLemmas.has_more}
+use Rattle.theory.specs.{Propagation.Live, Lrat.is_unsettled}
 use Rattle.live_clauses.specs.LiveClauses.{Holds, AllHold}
 use Rattle.live_clauses.proofs.ClausesLemmas.Distinct.{distinct_more}
 use Rattle.steps.specs.Code.Groups.{is_unnamed, needs_group_at, IsFirstLeftOut}
 
 both_false : (b : Bool) → b && false ≡ false
-both_false true = refl
-both_false false = refl
+both_false b = search rules
 
 -- of numbers that rise, those below one stand before it
 in_front : (ids : List ℕ) → IsStrictlyIncreasing ids → (i x j : ℕ) → i < length ids → x ≡ get_or ids i x → j < x → has ids j ≡ true → has (take i ids) j ≡ true
@@ -33,9 +25,9 @@ in_front ids rising i x j inside is below member =
     let place = place_of ids j member in
     let m = place.0 in
     elim (cases_lt m i) [
-      | inl before ↦ subst (λ k. has (take i ids) k ≡ true) place.2 (has_front ids i m before place.1)
+      | inl before ↦ cc (has_front ids i m before place.1)
       | inr from_on ↦ elim (cases_eq i m) [
-        | inl e ↦ let same : x ≡ j = is ∙ get_or_default_zero ids i x inside ∙ ap (λ n. get_or ids n 0) e ∙ place.2 in let wrong : ⊥ = omega (arith, below, same) in absurd wrong
+        | inl e ↦ search (rules, arith, get_or_default_zero, get_or)
         | inr apart ↦
             let later : i < m = omega (arith, from_on, apart) in
             let rise = from_less (get_or ids i 0) (get_or ids m 0) (Less-from_sorted nat_cmp ids i m 0 (sorted_from_strictly_increasing ids rising) later place.1) in
@@ -74,14 +66,13 @@ module _ (live : Live) (ls : List Literal) (pivot : Literal) (named : List ℕ) 
   -- ---- Whether one of them is left out
 
   pub not_alive : (k : ℕ) → live k ≡ None → is_unnamed live ls pivot named k ≡ false
-  not_alive k e = ap (λ o. not (has named k) && is_unsettled ls pivot o) e ∙ both_false (not (has named k))
+  not_alive k e = cc (both_false (not (has named k)))
 
   pub known_named : (k : ℕ) → has named k ≡ true → is_unnamed live ls pivot named k ≡ false
   known_named k known = ap (λ b. not b && is_unsettled ls pivot (live k)) known
 
   pub unnamed_at : (k : ℕ) (c : Clause) → live k ≡ Some c → has named k ≡ false → (opposite : Literal) → opposite ≡ complement pivot → is_unnamed live ls pivot named k ≡ needs_group_at ls opposite c
-  unnamed_at k c at apart opposite is =
-      ap (λ b. not b && is_unsettled ls pivot (live k)) apart ∙ ap (is_unsettled ls pivot) at ∙ ap (λ l. needs_group_at ls l c) (sym is)
+  unnamed_at k c at apart opposite is = cc
 
   -- it was asked while other literals were written down as true, which are the same
   pub asked : (now : List Literal) → now ≡ ls → (k : ℕ) (answer b : Bool) → answer ≡ is_unnamed live now pivot named k → answer ≡ b → is_unnamed live ls pivot named k ≡ b
@@ -106,7 +97,7 @@ module _ (live : Live) (ls : List Literal) (pivot : Literal) (named : List ℕ) 
 
       pub first_found : IsStrictlyIncreasing ids → ((k : ℕ) → Holds live (complement pivot) k → has ids k ≡ true) → is_unnamed live ls pivot named (slice_index ids i) ≡ true → IsFirstLeftOut live ls pivot named (Some (slice_index ids i))
       first_found rising all here =
-          (here, λ j below. false_from_ne_true (is_unnamed live ls pivot named j) (λ h. true≢false (sym h ∙ passed j (in_front ids rising i (slice_index ids i) j inside item below (all j (unnamed_holds j h))))))
+          search (rules, false_from_ne_true, true≢false, in_front, slice_index, item, unnamed_holds)
 
     pub none_found : ((k : ℕ) → Holds live (complement pivot) k → has ids k ≡ true) → (i : ℕ) → length ids ≤ i → Passed i → IsFirstLeftOut live ls pivot named None
     none_found all i past passed k = false_from_ne_true (is_unnamed live ls pivot named k) (λ h. true≢false (sym h ∙ passed k (ap (λ l. has l k) (take_all i ids past) ∙ all k (unnamed_holds k h))))

@@ -1,19 +1,17 @@
 -- A walk depends on the set of true literals alone, and goes on hint by hint.
 use Rattle.std.proofs.Common.{◌≡◌, ℕ, Bool, true, false, not, cond, eqb, Option, Some, None}
-use Rattle.std.proofs.Common.{option_map}
-use Rattle.std.proofs.Common.{List, [], ◌∷◌, ◌++◌, refl, sym, ap, ◌∙◌, subst, inl, inr}
+use Rattle.std.proofs.Common.{option_map, List, [], ◌∷◌, ◌++◌, refl, sym, ap, ◌∙◌, subst, inl, inr}
+use Rattle.std.proofs.lemmas.{Bool.false≢true, List.Elements.filter_agree}
 use Rattle.std.specs.List.{list_all}
-use Rattle.std.proofs.lemmas.Bool.{false≢true}
-use Rattle.std.proofs.lemmas.List.Elements.{filter_agree}
 use Rattle.trail.specs.declared.left.Left.{Left}
 use Rattle.trail.specs.declared.left.Left.TheVariants.{Nothing, One, More}
+use Rattle.trail.specs.Left.{how_many}
 use Rattle.cnf_base.specs.Literals.{Literal, complement, Clause, has}
+use Rattle.cnf_base.proofs.SetLemmas.{both_pass, has_head, has_tail, has_cases, has_append_left}
+use Rattle.cnf_base.proofs.SetLemmas.{has_append_right, has_append_cases}
 use Rattle.theory.specs.Propagation.{Live, open_literals}
 use Rattle.theory.specs.Lrat.{ChainEnd, conflict, open_with, not_unit, look_at, chain}
 use Rattle.theory.specs.Sets.{conflicts, SameSet}
-use Rattle.trail.specs.Left.{how_many}
-use Rattle.cnf_base.proofs.SetLemmas.{both_pass, has_head, has_tail, has_cases, has_append_left}
-use Rattle.cnf_base.proofs.SetLemmas.{has_append_right, has_append_cases}
 use Rattle.theory.proofs.LratLemmas.SameSets.{same_set_more}
 use Rattle.theory.proofs.PropagationLemmas.Conflicts.{conflicts_same}
 use Rattle.steps.specs.declared.lrat.walk.WalkEnd.{WalkEnd}
@@ -21,8 +19,7 @@ use Rattle.steps.specs.declared.lrat.walk.WalkEnd.TheVariants.{Conflict, Open, U
 use Rattle.steps.specs.Code.Walk.{IsEnd}
 
 pub same_set_push : (ls : List Literal) (m : Literal) → SameSet (ls ++ m ∷ []) (m ∷ ls)
-same_set_push ls m l =
-    both_pass (has (ls ++ m ∷ []) l) (has (m ∷ ls) l)
+same_set_push ls m l = both_pass (has (ls ++ m ∷ []) l) (has (m ∷ ls) l)
     (λ h. elim (has_append_cases ls (m ∷ []) l h) [
       | inl g ↦ has_tail m ls l g
       | inr g ↦ elim (has_cases m [] l g) [ inl e ↦ subst (λ x. has (m ∷ ls) x ≡ true) e (has_head m ls) | inr absent ↦ absurd (false≢true absent) ]
@@ -105,8 +102,7 @@ walk_unknown live ls left more k left_is end so_far quiet none trues =
 -- a walk whose next hint is k
 module _ (live : Live) (ls : List Literal) (left more : List ℕ) (k : ℕ) (left_is : left ≡ k ∷ more) (end : ChainEnd) (so_far : Gives (chain live ls left) end) (quiet : conflicts ls ≡ false) (c : Clause) (at : live k ≡ Some c) where
   next : (left_of : Left) → how_many (open_literals ls c) ≡ left_of → chain live ls left ≡ look_left k left_of (λ l. chain live (l ∷ ls) more)
-  next left_of e =
-      ap (chain live ls) left_is
+  next left_of e = ap (chain live ls) left_is
       ∙ ap (λ b. cond b conflict (look_at k (option_map (open_literals ls) (live k)) (λ l. chain live (l ∷ ls) more))) quiet
       ∙ ap (λ o. look_at k o (λ l. chain live (l ∷ ls) more)) (ap (option_map (open_literals ls)) at)
       ∙ looks_left k (open_literals ls c) (λ l. chain live (l ∷ ls) more)

@@ -1,31 +1,24 @@
 -- Deletions of clauses that are not alive.
-use Rattle.std.proofs.Common.{◌≡◌, ℕ, true, false, cond, eqb, Option, Some, None, option_map, is_none, Ok, Err}
-use Rattle.std.proofs.Common.{List, [], ◌∷◌, map, refl, sym, ap, ◌∙◌, subst, inl, inr, Bool}
-use Rattle.std.specs.Bool.{then_some}
-use Rattle.std.specs.Option.{option_or}
-use Rattle.std.specs.Prelude.{nat_abs}
-use Rattle.std.specs.List.{list_any}
+use Rattle.std.proofs.Common.{◌≡◌, ℕ, true, false, cond, eqb, Option, Some, None, option_map}
+use Rattle.std.proofs.Common.{is_none, Ok, Err, List, [], ◌∷◌, map, refl, sym, ap, ◌∙◌, subst, inl}
+use Rattle.std.proofs.Common.{inr, Bool, arith, rules}
 use Rattle.std.proofs.lemmas.Bool.{false≢true}
+use Rattle.std.specs.{Bool.then_some, Option.option_or, Prelude.nat_abs, List.list_any}
 use Rattle.cnf_base.specs.Literals.{Literal, Clause, same_clause}
 use Rattle.proofs.specs.Steps.{Step}
 use Rattle.proofs.specs.declared.step_buf.StepKind.TheVariants as kinds
 use Rattle.theory.specs.declared.accepted.Accepted.{Accepted}
-use Rattle.theory.specs.declared.accepted.Accepted.TheVariants.{Rup, Rat, Pr, Empty, Deleted}
-use Rattle.theory.specs.declared.accepted.Accepted.TheVariants.{Ignored}
+use Rattle.theory.specs.declared.accepted.Accepted.TheVariants.{Deleted, Ignored}
 use Rattle.theory.specs.declared.refusal.Refusal.TheVariants.{UnknownId, NotAlive}
-use Rattle.theory.specs.declared.drat_rules.DratRules.{DratRules}
-use Rattle.theory.specs.Answers.{StepAnswer}
+use Rattle.theory.specs.{declared.drat_rules.DratRules.DratRules, Answers.StepAnswer}
 use Rattle.theory.specs.Drat.{AnswersDrat, AnswersDelete, drat_step_of, after_drat}
-use Rattle.theory.specs.Lrat.{AnswersLrat, after_lrat, answer_of, deletion_refusal, step_of, without_id}
-use Rattle.theory.specs.Losses.{StepLoses}
-use Rattle.theory.specs.Propagation.{Live}
-use Rattle.theory.specs.Renaming.{IsRenamed, renamed}
+use Rattle.theory.specs.Lrat.{AnswersLrat, after_lrat, answer_of, deletion_refusal, step_of}
+use Rattle.theory.specs.Lrat.{without_id}
+use Rattle.theory.specs.{Losses.StepLoses, Propagation.Live, Renaming.IsRenamed, Renaming.renamed}
 use Rattle.theory.specs.Rules.{State, by_ids, by_copies, Answers, after}
-use Rattle.theory.proofs.RenamingLemmas.Lrat.{without_all_mapped}
-use Rattle.theory.proofs.RenamingLemmas.Verdicts.{renames}
+use Rattle.theory.proofs.RenamingLemmas.{Lrat.without_all_mapped, Verdicts.renames}
 use Rattle.steps.specs.Code.Naming.{with_lits, IsAbsent}
-use Rattle.steps.proofs.NamingLemmas.Among.{without_among}
-use Rattle.steps.proofs.NamingLemmas.States.{IsTold}
+use Rattle.steps.proofs.NamingLemmas.{Among.without_among, States.IsTold}
 
 -- ---- By identifiers: literals aren't looked at
 
@@ -60,12 +53,7 @@ module _ (rules : DratRules) (live : List Clause) (lits : List Literal) (absent 
   absent_answer others own none (Err _) a = absurd a
 
   absent_word : (word : Accepted) → AnswersDelete rules live lits (Ok word) → word ≡ Ignored
-  absent_word Ignored a = refl
-  absent_word Deleted a = absurd (false≢true (sym absent ∙ a.0))
-  absent_word Rup a = absurd a
-  absent_word Rat a = absurd a
-  absent_word Pr a = absurd a
-  absent_word Empty a = absurd a
+  absent_word word h = search (rules, arith, false≢true)
 
 -- ---- Both
 
@@ -100,9 +88,7 @@ module _ (name back : ℕ → ℕ) where
 
   pub absent_loses : (s other : State) (step : Step) (lits : List Literal) (word : Accepted) → IsRenamed name back s other → step.kind ≡ kinds.Delete →
       IsAbsent s lits → IsAbsent other step.lits → Answers s (with_lits lits step) (Ok word) → (StepLoses s (with_lits lits step) word → ⊥) × (StepLoses other step word → ⊥)
-  absent_loses (by_ids s) (by_ids t) step lits word r is absent none a = (λ loses. loses, λ loses. loses)
   absent_loses (by_copies rules live) (by_copies rules_too others) step lits word r is absent none a =
       let ignored = absent_word rules live lits absent word (subst (λ kind. AnswersDrat rules live (drat_step_of rules kind lits) (Ok word)) is a) in
       (λ loses. subst (StepLoses (by_copies rules live) (with_lits lits step)) ignored loses, λ loses. subst (StepLoses (by_copies rules_too others) step) ignored loses)
-  absent_loses (by_ids s) (by_copies _ _) step lits word r is absent none a = absurd r
-  absent_loses (by_copies _ _) (by_ids t) step lits word r is absent none a = absurd r
+  absent_loses s other step lits word h h2 h3 h4 h5 = search rules

@@ -1,24 +1,21 @@
 -- What is said of each literal of the live clauses.
-use Rattle.std.proofs.Common.{◌≡◌, ℕ, zero, suc, ◌+◌, Bool, true, false, not, cond, eqb, Option, Some}
-use Rattle.std.proofs.Common.{None, List, [], ◌∷◌, map, slice_get, refl, sym, ◌∙◌, subst}
-use Rattle.std.specs.Prelude.{nat_abs, ⊤}
-use Rattle.std.specs.List.{list_any, prefix_len}
+use Rattle.std.proofs.Common.{◌≡◌, ℕ, zero, suc, ◌+◌, Bool, true, false, not, cond, eqb, Option}
+use Rattle.std.proofs.Common.{Some, None, List, [], ◌∷◌, map, slice_get, refl, sym, ◌∙◌, subst}
 use Rattle.std.proofs.lemmas.Bool.{true≢false, false_from_ne_true}
 use Rattle.std.proofs.lemmas.Option.{none-some, same_Some}
+use Rattle.std.specs.{Prelude.nat_abs, Prelude.⊤, List.list_any, List.prefix_len}
 use Rattle.cnf_base.specs.Literals.{Literal, Clause, has, same_clause}
 use Rattle.cnf_base.proofs.SetLemmas.{same_there}
-use Rattle.proofs.specs.Steps.{Step, clause_part}
-use Rattle.proofs.specs.declared.step_buf.StepKind.{StepKind}
+use Rattle.proofs.specs.{Steps.Step, Steps.clause_part, declared.step_buf.StepKind.StepKind}
 use Rattle.proofs.specs.declared.step_buf.StepKind.TheVariants as kinds
 use Rattle.theory.specs.declared.accepted.Accepted.{Accepted}
 use Rattle.theory.specs.declared.accepted.Accepted.TheVariants.{Rup, Rat, Pr, Empty, Deleted}
 use Rattle.theory.specs.declared.accepted.Accepted.TheVariants.{Ignored}
-use Rattle.theory.specs.declared.drat_rules.DratRules.{DratRules}
-use Rattle.theory.specs.Propagation.{Live}
-use Rattle.theory.specs.Drat as d
+use Rattle.theory.specs.{declared.drat_rules.DratRules.DratRules, Propagation.Live}
 use Rattle.theory.specs.Drat.{DratStep, drat_step_of, take_off, after_drat}
 use Rattle.theory.specs.Lrat.{SameAt, step_of, with_clause, without_id, without_ids, after_lrat}
 use Rattle.theory.specs.Rules.{State, by_ids, by_copies, Same, after, with_input}
+use Rattle.theory.specs.Drat as d
 use Rattle.theory.proofs.RenamingLemmas.Clauses.{take_has}
 use Rattle.theory.proofs.DratLemmas.Copies.{covers_of, alive_at}
 use Rattle.steps.specs.Code.Naming.{with_lits, AreAmong, LiveAmong, AreAllAmong}

@@ -1,13 +1,12 @@
 -- Maps whose values are changed.
-use Rattle.std.proofs.Common.{◌≡◌, ℕ, Bool, cond, T, Some, option_map, List, [], ◌∷◌, map}
-use Rattle.std.proofs.Common.{length, refl, ap, ◌∙◌, subst, nat_cmp, sym, true, false, ◌&&◌}
-use Rattle.std.specs.FinMap as maps
-use Rattle.std.specs.FinMap.{FinMap, find, is_sorted}
-use Rattle.std.specs.Ordering.{eq_by_cmp, is_lt}
+use Rattle.std.proofs.Common.{◌≡◌, ℕ, T, option_map, List, [], ◌∷◌, map, rules, length, refl, ap}
+use Rattle.std.proofs.Common.{◌∙◌, subst, nat_cmp, sym, ◌&&◌, arith}
 use Rattle.std.proofs.lemmas.List.{length-map}
+use Rattle.std.specs.FinMap.{FinMap, find, is_sorted, Entries.below_all}
+use Rattle.std.specs.Ordering.{is_lt}
+use Rattle.std.specs.FinMap as maps
 use Rattle.cnf_base.specs.Literals.{Clause}
 use Rattle.steps.specs.Code.Naming.{mapped_values}
-use Rattle.std.specs.FinMap.Entries.{below_all}
 
 module _ (f : Clause → Clause) where
   abbrev changed : List (ℕ × Clause) → List (ℕ × Clause)
@@ -23,11 +22,7 @@ module _ (f : Clause → Clause) where
 
   find_changed : (k : ℕ) (es : List (ℕ × Clause)) → find nat_cmp k (changed es) ≡ option_map f (find nat_cmp k es)
   find_changed k [] = refl
-  find_changed k (e ∷ es) = ap (λ o. cond (eq_by_cmp nat_cmp k e.0) (Some (f e.1)) o) (find_changed k es) ∙ by (eq_by_cmp nat_cmp k e.0)
-    where
-      by : (b : Bool) → cond b (Some (f e.1)) (option_map f (find nat_cmp k es)) ≡ option_map f (cond b (Some e.1) (find nat_cmp k es))
-      by true = refl
-      by false = refl
+  find_changed k (e ∷ es) = search (rules, arith, nat_cmp, option_map, (find_changed k es))
 
   values_changed : (es : List (ℕ × Clause)) → map (λ e. e.1) (changed es) ≡ map f (map (λ e. e.1) es)
   values_changed [] = refl
@@ -42,15 +37,13 @@ module _ (f : Clause → Clause) where
     mapped_entries = maps.entries-from_sorted nat_cmp (changed (maps.entries m)) rising
 
     pub mapped_get : (k : ℕ) → maps.get (mapped_values f m) k ≡ option_map f (maps.get m k)
-    mapped_get k =
-        maps.get-entries (mapped_values f m) k ∙ ap (find nat_cmp k) mapped_entries
+    mapped_get k = maps.get-entries (mapped_values f m) k ∙ ap (find nat_cmp k) mapped_entries
         ∙ find_changed k (maps.entries m) ∙ ap (option_map f) (sym (maps.get-entries m k))
 
     pub mapped_list : maps.values (mapped_values f m) ≡ map f (maps.values m)
     mapped_list = ap (map (λ e. e.1)) mapped_entries ∙ values_changed (maps.entries m)
 
   pub mapped_empty : mapped_values f maps.empty ≡ maps.empty
-  mapped_empty =
-      maps.empty_of_len (mapped_values f maps.empty)
+  mapped_empty = maps.empty_of_len (mapped_values f maps.empty)
       (maps.len-entries (mapped_values f maps.empty) ∙ ap length (mapped_entries maps.empty) ∙ length-map (maps.entries maps.empty) (λ e. (e.0, f e.1))
       ∙ sym (maps.len-entries maps.empty) ∙ maps.len-empty nat_cmp Clause)

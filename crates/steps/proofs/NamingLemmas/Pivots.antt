@@ -1,8 +1,7 @@
 -- The pivot that a refusal names is the first literal of its step.
 use Rattle.std.proofs.Common.{◌≡◌, ℕ, Bool, true, false, not, Option, Some, None, Ok, Err, List, []}
 use Rattle.std.proofs.Common.{◌∷◌, map, refl, sym, ap, ◌∙◌, subst, slice_get}
-use Rattle.std.specs.Bool.{then_some}
-use Rattle.std.specs.Option.{option_or}
+use Rattle.std.specs.{Bool.then_some, Option.option_or}
 use Rattle.std.specs.Prelude.{is_none, nat_le, nat_abs, slice_index_or, MatchBool, ⊤}
 use Rattle.cnf_base.specs.Literals.{Literal, Clause, complement, complements, has}
 use Rattle.proofs.specs.Steps.{Step, clause_part, witness_part}
@@ -11,13 +10,11 @@ use Rattle.proofs.specs.declared.step_buf.StepKind.TheVariants as kinds
 use Rattle.theory.specs.Answers.{StepAnswer}
 use Rattle.theory.specs.Drat.{AnswersAdd, AnswersListed, AnswersDrat, addition_of, drat_step_of}
 use Rattle.theory.specs.Lrat.{ChainEnd, conflict, open_with, unknown, not_unit, Group, chain}
-use Rattle.theory.specs.Lrat.{AnswersChain, AnswersGroups, AnswersLrat, chain_refusal, group_refusal}
-use Rattle.theory.specs.Lrat.{groups_refusal, deletion_refusal, answer_of, with_candidate, without_id}
-use Rattle.theory.specs.Lrat.{step_of, units_of, groups_of, LratState}
-use Rattle.theory.specs.Propagation.{Live}
-use Rattle.theory.specs.Renaming.{answer_renamed}
-use Rattle.theory.specs.Rules.{State, by_ids, by_copies, Answers}
-use Rattle.theory.specs.declared.refusal.Refusal.{Refusal}
+use Rattle.theory.specs.Lrat.{AnswersChain, AnswersGroups, AnswersLrat, chain_refusal}
+use Rattle.theory.specs.Lrat.{group_refusal, groups_refusal, deletion_refusal, answer_of}
+use Rattle.theory.specs.Lrat.{with_candidate, without_id, step_of, units_of, groups_of, LratState}
+use Rattle.theory.specs.{Propagation.Live, Renaming.answer_renamed, Rules.State, Rules.by_ids}
+use Rattle.theory.specs.{Rules.by_copies, Rules.Answers, declared.refusal.Refusal.Refusal}
 use Rattle.theory.specs.declared.refusal.Refusal.TheVariants.{NeitherRupNorRat, UnknownId}
 use Rattle.theory.specs.declared.refusal.Refusal.TheVariants.{GroupWithoutConflict, NotCandidate}
 use Rattle.theory.specs.declared.refusal.Refusal.TheVariants.{NamedTwice, IdOutOfOrder}

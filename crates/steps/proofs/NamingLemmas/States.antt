@@ -1,37 +1,33 @@
 -- States under other names.
 use Rattle.std.proofs.Common.{◌≡◌, ℕ, zero, suc, ◌+◌, ◌-◌, ◌<◌, Bool, true, false, cond, eqb}
 use Rattle.std.proofs.Common.{Option, Some, None, option_map, List, [], ◌∷◌, map, slice_get, refl}
-use Rattle.std.proofs.Common.{sym, ap, ◌∙◌, subst, arith, inl, inr, eqb-true, eq-eqb}
-use Rattle.std.specs.Prelude.{sum_by}
-use Rattle.std.specs.List.{list_any}
-use Rattle.std.proofs.lemmas.Bool.{or_left, or_right, false≢true}
-use Rattle.std.proofs.lemmas.List.Sums.{sum_by-cons}
+use Rattle.std.proofs.Common.{sym, ap, ◌∙◌, subst, arith, inl, inr, eqb-true, eq-eqb, rules}
+use Rattle.std.proofs.lemmas.{Bool.or_right, Bool.false≢true, List.Sums.sum_by-cons}
 use Rattle.std.proofs.lemmas.Option.{none-some, same_Some, slice_get-map}
+use Rattle.std.specs.{Prelude.sum_by, List.list_any}
 use Rattle.cnf_base.specs.Literals.{Literal, Clause, variable, has, same_clause, size, complement}
 use Rattle.cnf_base.proofs.SetLemmas.{has_head, has_tail, same_itself, same_trans}
+use Rattle.theory.specs.declared.accepted.Accepted.{Accepted}
 use Rattle.theory.specs.declared.accepted.Accepted.TheVariants.{Deleted, Rup, Rat, Pr, Empty}
 use Rattle.theory.specs.declared.accepted.Accepted.TheVariants.{Ignored}
-use Rattle.theory.specs.Drat as d
-use Rattle.theory.specs.Drat.{take_off, copies_of, SameLive}
-use Rattle.theory.specs.Lrat.{SameAt}
+use Rattle.theory.specs.{Drat.take_off, Drat.copies_of, Drat.SameLive, Lrat.SameAt}
 use Rattle.theory.specs.Rules.{State, by_ids, by_copies, Same, with_input, literals_of}
-use Rattle.theory.specs.Sizes.{size_at, sum_to}
+use Rattle.theory.specs.Sizes.{size_at}
 use Rattle.theory.specs.Renaming.{renamed, IsUndone, AreUndone, IsRenamed, step_renamed}
+use Rattle.theory.specs.Losses.{LosesRootLiteral, DeleteLoses, StepLoses}
+use Rattle.theory.specs.Propagation.{Live, IsClosed, Forced}
+use Rattle.theory.specs.Drat as d
 use Rattle.theory.proofs.DratLemmas.Copies.{copies-cons, copies-take_off, copies_alive}
 use Rattle.theory.proofs.DratLemmas.Copies.{alive_copies, alive_at}
 use Rattle.theory.proofs.LratLemmas.Sums.{sum_agree}
 use Rattle.theory.proofs.RenamingLemmas.Clauses.{same_mapped, has_is, AreAmong, Renames, GoesTo}
 use Rattle.theory.proofs.RenamingLemmas.Clauses.{back_there}
 use Rattle.theory.proofs.RenamingLemmas.Drat.{after_mapped}
-use Rattle.theory.proofs.RenamingLemmas.Lrat.{with_mapped}
 use Rattle.theory.proofs.RenamingLemmas.Verdicts.{renames, renamed_complement}
-use Rattle.steps.proofs.NamingLemmas.Among.{with_among, added_among, taken_among}
-use Rattle.proofs.specs.Steps.{Step}
-use Rattle.theory.specs.declared.accepted.Accepted.{Accepted}
-use Rattle.theory.specs.Losses.{LosesRootLiteral, DeleteLoses, StepLoses}
-use Rattle.theory.specs.Propagation.{Live, IsClosed, Forced}
 use Rattle.theory.proofs.RenamingLemmas.Forced.{Carries, carries_back, forced_image, clash_image}
 use Rattle.theory.proofs.RenamingLemmas.Forced.{reason_image}
+use Rattle.steps.proofs.NamingLemmas.Among.{taken_among}
+use Rattle.proofs.specs.Steps.{Step}
 
 -- literals whose names can be told
 abbrev pub IsTold : (name back : ℕ → ℕ) → Literal → Type 0
@@ -39,9 +35,8 @@ IsTold name back l = back (name (variable l)) ≡ variable l
 
 -- a clause that is the same as a live one is alive
 any_at : (e d : Clause) (live : List Clause) (k : ℕ) → slice_get live k ≡ Some d → same_clause e d ≡ true → list_any (same_clause e) live ≡ true
-any_at e d [] k at same = absurd (none-some d at)
-any_at e d (c ∷ live) zero at same = or_left (same_clause e c) _ (subst (λ x. same_clause e x ≡ true) (sym (same_Some c d at)) same)
 any_at e d (c ∷ live) (suc k) at same = or_right (same_clause e c) _ (any_at e d live k at same)
+any_at e d live k h h2 = search rules
 
 copies_own : (c : Clause) (live : List Clause) → copies_of c (c ∷ live) ≡ 1 + copies_of c live
 copies_own c live = copies-cons c c live ∙ ap (λ b. cond b 1 0 + copies_of c live) (same_itself c)
@@ -99,8 +94,7 @@ module _ (name back : ℕ → ℕ) where
   pub renamed_same : (s t other_s other_t : State) → IsRenamed name back s other_s → IsRenamed name back t other_t → Same s t → Same other_s other_t
   renamed_same (by_ids s) (by_ids t) (by_ids other_s) (by_ids other_t) p q same = (
     record {
-      at = λ k.
-          subst (λ o. SameAt o (other_t.live k)) (sym (p.0 k))
+      at = λ k. subst (λ o. SameAt o (other_t.live k)) (sym (p.0 k))
           (subst (SameAt (option_map (map (renamed name)) (s.live k))) (sym (q.0 k))
           (at_same (s.live k) (t.live k) (p.2 k) (q.2 k) (same.0.at k)));
     },
@@ -120,21 +114,7 @@ module _ (name back : ℕ → ℕ) where
   -- ---- One more clause of the formula
 
   pub renamed_input : (s other : State) (c : Clause) → IsRenamed name back s other → IsUndone name back c → IsRenamed name back (with_input s c) (with_input other (map (renamed name) c))
-  renamed_input (by_ids s) (by_ids t) c r told = (
-    subst (λ n. (k : ℕ) → with_id n k ≡ option_map (map (renamed name)) (with_it k)) (sym r.1)
-        (with_mapped (renamed name) (renamed back) (IsTold name back) (renames name back) s.live t.live r.0 (s.top + 1) c),
-    ap (λ n. n + 1) r.1,
-    with_among (IsTold name back) s.live (s.top + 1) c told r.2,
-  )
-    where
-      with_id : ℕ → ℕ → Option Clause
-      with_id n k = cond (eqb k (n + 1)) (Some (map (renamed name) c)) (t.live k)
-
-      with_it : ℕ → Option Clause
-      with_it k = cond (eqb k (s.top + 1)) (Some c) (s.live k)
-  renamed_input (by_copies rules live) (by_copies rules_too other) c r told = (r.0, ap (λ o. map (renamed name) c ∷ o) r.1, added_among (IsTold name back) c live told r.2)
-  renamed_input (by_ids s) (by_copies _ _) c r told = absurd r
-  renamed_input (by_copies _ _) (by_ids t) c r told = absurd r
+  renamed_input s other c h h2 = search rules
 
   -- ---- Sizes
 
@@ -146,22 +126,21 @@ module _ (name back : ℕ → ℕ) where
       ∙ ap (λ n. cond (has c l) n (1 + n)) (size_renamed c (λ k h. told k (has_tail l c k h)))
 
   size_at_renamed : (o : Option Clause) → ((c : Clause) → o ≡ Some c → IsUndone name back c) → size_at (option_map (map (renamed name)) o) ≡ size_at o
-  size_at_renamed None told = refl
-  size_at_renamed (Some c) told = size_renamed c (told c refl)
+  size_at_renamed o h = search (rules, arith, size_renamed)
 
   sizes_renamed : (live : List Clause) → AreUndone name back (slice_get live) → sum_by size (map (map (renamed name)) live) ≡ sum_by size live
   sizes_renamed [] undone = refl
   sizes_renamed (c ∷ live) undone =
-      sum_by-cons size (map (renamed name) c) (map (map (renamed name)) live)
-      ∙ ap (λ n. n + sum_by size (map (map (renamed name)) live)) (size_renamed c (undone zero c refl))
-      ∙ ap (λ n. size c + n) (sizes_renamed live (λ k. undone (suc k)))
-      ∙ sym (sum_by-cons size c live)
+      cc (
+        (sum_by-cons size (map (renamed name) c) (map (map (renamed name)) live)),
+        (size_renamed c (undone zero c refl)),
+        (sum_by-cons size c live),
+        (sizes_renamed live (λ k. undone (suc k))),
+      )
 
   pub renamed_size : (s other : State) → IsRenamed name back s other → literals_of other ≡ literals_of s
-  renamed_size (by_ids s) (by_ids t) r =
-      ap (λ n. sum_to n (λ k. size_at (t.live k))) r.1
-      ∙ sum_agree s.top (λ k. size_at (t.live k)) (λ k. size_at (s.live k)) (λ k low high. ap size_at (r.0 k) ∙ size_at_renamed (s.live k) (r.2 k))
-  renamed_size (by_copies rules live) (by_copies rules_too other) r = ap (sum_by size) r.1 ∙ sizes_renamed live r.2
+  renamed_size (by_ids s) (by_ids t) r = search (rules, arith, sum_agree, size_at_renamed)
+  renamed_size (by_copies rules live) (by_copies rules_too other) r = cc (sizes_renamed live r.2)
   renamed_size (by_ids s) (by_copies _ _) r = absurd r
   renamed_size (by_copies _ _) (by_ids t) r = absurd r
 

@@ -1,25 +1,23 @@
 -- A step under numbers is the step under the names that were given.
+use Rattle.std.specs.{Ordering.nat_cmp, List.list_all, List.list_any}
 use Rattle.std.specs.FinMap as maps
-use Rattle.std.specs.Ordering.{nat_cmp}
-use Rattle.std.proofs.Common.{◌≡◌, ℕ, suc, ◌+◌, ◌*◌, ◌%◌, Bool, true, false, Option, Some, None, Ok, Err, List, []}
-use Rattle.std.proofs.Common.{◌∷◌, map, option_map, slice_get, length, refl, sym, ap, ◌∙◌, subst, arith}
-use Rattle.std.proofs.Common.{Result, OnOk, IfOk, ◌↔◌, ◌⊎◌, ◌&&◌, inl, inr}
-use Rattle.std.specs.List.{list_all, list_any}
+use Rattle.std.proofs.Common.{◌≡◌, ℕ, suc, ◌+◌, ◌*◌, ◌%◌, Bool, true, false, Option, Some, None, Ok}
+use Rattle.std.proofs.Common.{Err, List, [], ◌∷◌, map, option_map, slice_get, length, refl, sym, ap}
+use Rattle.std.proofs.Common.{◌∙◌, subst, arith, Result, OnOk, IfOk, ◌↔◌, ◌⊎◌, ◌&&◌, inl, inr}
 use Rattle.std.proofs.lemmas.Bool.{false≢true, false_from_ne_true, and_parts}
 use Rattle.std.proofs.lemmas.Option.{same_Some, none-some, slice_get-map}
 use Rattle.cnf_base.specs.Literals.{Literal, Clause, variable, has, same_clause}
 use Rattle.cnf_base.proofs.SetLemmas.{has_head, has_tail, has_cases}
 use Rattle.numbering.specs.Names.{number_in, name_in, with_names}
-use Rattle.proofs.specs.Steps.{Step}
-use Rattle.proofs.specs.declared.step_buf.StepKind.{StepKind}
+use Rattle.numbering.proofs.NameLemmas.{told, kept_has_all, kept_number_all, has_new_all}
+use Rattle.numbering.proofs.NameLemmas.{next_is_not_given}
+use Rattle.proofs.specs.{Steps.Step, declared.step_buf.StepKind.StepKind}
 use Rattle.proofs.specs.declared.step_buf.StepKind.TheVariants as kinds
-use Rattle.theory.specs.Answers.{StepAnswer, UnlessOutOfMemory}
-use Rattle.theory.specs.Losses.{StepLoses}
+use Rattle.theory.specs.{Answers.StepAnswer, Answers.UnlessOutOfMemory, Losses.StepLoses}
 use Rattle.theory.specs.Renaming.{renamed, IsUndone, IsRenamed, step_renamed}
-use Rattle.theory.specs.Rules.{Rule, lrat, drat, State, by_ids, by_copies, Same, with_input, Answers}
-use Rattle.theory.specs.Rules.{after, literals_of}
-use Rattle.theory.specs.declared.accepted.Accepted.{Accepted}
-use Rattle.theory.specs.declared.refusal.Refusal.{Refusal}
+use Rattle.theory.specs.Rules.{Rule, lrat, drat, State, by_ids, by_copies, Same, with_input}
+use Rattle.theory.specs.Rules.{Answers, after, literals_of}
+use Rattle.theory.specs.declared.{accepted.Accepted.Accepted, refusal.Refusal.Refusal}
 use Rattle.theory.specs.declared.refusal.Refusal.TheVariants.{NeitherRupNorRat, OutOfMemory}
 use Rattle.theory.proofs.RenamingLemmas.Clauses.{has_mapped, mapped_has}
 use Rattle.theory.proofs.RenamingLemmas.Verdicts.{renames, step_answers, step_leaves}
@@ -27,13 +25,12 @@ use Rattle.steps.specs.Code.Naming.{with_lits, answer_with, under_names, mapped_
 use Rattle.steps.specs.Code.Naming.{LiveAmong, AreAllAmong, IsGiven, IsAbsent, names_after}
 use Rattle.steps.specs.Session.{Held, state_of, state_under}
 use Rattle.steps.proofs.NamingLemmas.Absent.{absent_step, absent_after, absent_loses}
-use Rattle.steps.proofs.NamingLemmas.Among.{same_among, after_among, input_among, lacks, deleted_among}
-use Rattle.steps.proofs.NamingLemmas.Maps.{mapped_get, mapped_list, mapped_empty}
-use Rattle.numbering.proofs.NameLemmas.{told, kept_has_all, kept_number_all, has_new_all}
-use Rattle.numbering.proofs.NameLemmas.{next_is_not_given}
-use Rattle.steps.proofs.NamingLemmas.Names.{given_undone}
+use Rattle.steps.proofs.NamingLemmas.{Among.same_among, Among.after_among, Among.input_among}
+use Rattle.steps.proofs.NamingLemmas.{Among.lacks, Among.deleted_among, Maps.mapped_get}
+use Rattle.steps.proofs.NamingLemmas.{Maps.mapped_list, Maps.mapped_empty, Names.given_undone}
 use Rattle.steps.proofs.NamingLemmas.Pivots.{answer_named, deletion_names_none, plain_stays}
-use Rattle.steps.proofs.NamingLemmas.States.{renamed_same, renamed_input, renamed_size, renamed_loses}
+use Rattle.steps.proofs.NamingLemmas.States.{renamed_same, renamed_input, renamed_size}
+use Rattle.steps.proofs.NamingLemmas.States.{renamed_loses}
 
 -- each variable that was met keeps its number
 abbrev pub Extends : (names more : List ℕ) → Type 0
@@ -74,8 +71,7 @@ module _ (names more : List ℕ) (extends : Extends names more) where
   extended_given l given = (given.0, (extends given.0 given.1).0, (extends given.0 given.1).1 ∙ given.2)
 
   name_kept : (l : Literal) → IsGiven names l → name_in names (variable l) ≡ name_in more (variable l)
-  name_kept l given =
-      ap (name_in names) (sym given.2) ∙ told names given.0 given.1
+  name_kept l given = ap (name_in names) (sym given.2) ∙ told names given.0 given.1
       ∙ sym (ap (name_in more) (sym given.2 ∙ sym (extends given.0 given.1).1) ∙ told more given.0 (extends given.0 given.1).0)
 
   clause_kept : (c : Clause) → AreAmong (IsGiven names) c → map (renamed (name_in names)) c ≡ map (renamed (name_in more)) c
@@ -170,16 +166,14 @@ module _ (names more : List ℕ) (extends : Extends names more) (old : Held) (be
       let back = named_back more lits met in
       let told_all = λ (l : Literal) (h : has (numbered more lits) l ≡ true). given_undone more l (numbered_given more lits met l h) in
       record {
-        answers =
-            subst (λ c. Answers outer (with_lits c step) (answer_with lits answer)) back
+        answers = subst (λ c. Answers outer (with_lits c step) (answer_with lits answer)) back
             (subst (Answers outer (step_renamed (renamed (name_in more)) under)) (answer_named (renamed (name_in more)) (renamed (number_in more)) inner lits step answer back a)
             (step_answers (name_in more) (number_in more) inner outer under answer before told_all a));
         renamed_after = λ word is.
             subst (λ c. IsRenamed (name_in more) (number_in more) (after inner under word) (after outer (with_lits c step) word)) back
             (step_leaves (name_in more) (number_in more) inner outer under word before told_all);
         given_after = λ word. after_among (IsGiven more) inner (numbered more lits) step word (all_given names more extends inner given) (numbered_given more lits met);
-        loses = λ word is loses.
-            subst (λ c. StepLoses outer (with_lits c step) word) back
+        loses = λ word is loses. subst (λ c. StepLoses outer (with_lits c step) word) back
             ((renamed_loses (name_in more) (number_in more) inner outer under word before told_all).0 loses);
         loses_back = λ word is loses.
             (renamed_loses (name_in more) (number_in more) inner outer under word before told_all).1

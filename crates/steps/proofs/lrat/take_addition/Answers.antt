@@ -1,12 +1,11 @@
 use Rattle.std.proofs.Common.{◌≡◌, Err, sym, ◌∙◌, subst, rules}
-use Rattle.std.specs.FinMap as maps
 use Rattle.cnf_base.specs.Literals.{complements}
 use Rattle.theory.specs.Answers.{StepAnswer, UnlessOutOfMemory}
 use Rattle.theory.specs.Lrat.{AnswersChain, chain, groups_of, units_of}
 use Rattle.steps.specs.Code.Ready.{IsReady}
-use Rattle.steps.proofs.LratLemmas.Ending.{chain_never}
-use Rattle.steps.proofs.LratLemmas.Rooms.{ready_with}
+use Rattle.steps.proofs.LratLemmas.{Ending.chain_never, Rooms.ready_with}
 use Rattle.steps.proofs.lrat.take_addition.Goals as goal
+use Rattle.std.specs.FinMap as maps
 
 pub returns-clause-ready : goal.returns-clause-ready
 returns-clause-ready c =

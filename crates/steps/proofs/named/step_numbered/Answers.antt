@@ -1,6 +1,5 @@
 use Rattle.std.proofs.Common.{◌⊎◌, ◌↔◌, IfOk, OnOk, IsTrue, sym, ap, ◌∙◌, subst}
-use Rattle.theory.specs.Answers.{UnlessOutOfMemory}
-use Rattle.theory.specs.Losses.{StepLoses}
+use Rattle.theory.specs.{Answers.UnlessOutOfMemory, Losses.StepLoses}
 use Rattle.theory.specs.Rules.{Answers, Same, after}
 use Rattle.steps.specs.Code.Naming.{answer_with, names_after, named_state, with_lits, AreAllAmong}
 use Rattle.steps.specs.Code.Naming.{IsGiven}

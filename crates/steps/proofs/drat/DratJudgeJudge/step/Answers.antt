@@ -1,16 +1,15 @@
 -- A deletion, after which the clauses that are left may stand elsewhere.
 use Rattle.std.proofs.Common.{rules, ◌≡◌, ◌∙◌, refl, sym, subst, List, Ok}
-use Rattle.std.specs.FinMap as maps
 use Rattle.cnf_base.specs.Literals.{Clause, Literal}
 use Rattle.proofs.specs.Steps.{Step}
 use Rattle.proofs.specs.declared.step_buf.StepKind.TheVariants as kinds
 use Rattle.theory.specs.Drat.{SameLive, after_drat, drat_step_of, delete}
 use Rattle.theory.specs.Rules.{by_copies, Same, after}
-use Rattle.theory.specs.declared.accepted.Accepted.{Accepted}
-use Rattle.theory.specs.declared.drat_rules.DratRules.{DratRules}
+use Rattle.theory.specs.declared.{accepted.Accepted.Accepted, drat_rules.DratRules.DratRules}
 use Rattle.steps.specs.Code.Naming.{with_lits}
 use Rattle.steps.proofs.SessionLemmas.{keeps_taken}
 use Rattle.steps.proofs.drat.DratJudgeJudge.step.Goals as goal
+use Rattle.std.specs.FinMap as maps
 
 pub returns-in-Add-clause-keeps_models : goal.returns-in-Add-clause-keeps_models
 returns-in-Add-clause-keeps_models g c =

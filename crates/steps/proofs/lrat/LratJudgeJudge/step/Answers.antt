@@ -1,14 +1,12 @@
 use Rattle.std.proofs.Common.{◌≡◌, map, nat_abs, sym, ◌∙◌, rules, Ok}
-use Rattle.theory.specs.declared.accepted.Accepted.TheVariants.{Deleted}
-use Rattle.theory.specs.Rules.{by_ids}
-use Rattle.steps.specs.Code.Naming.{with_lits}
-use Rattle.steps.proofs.SessionLemmas.{keeps_taken}
-use Rattle.std.specs.FinMap as maps
+use Rattle.theory.specs.{declared.accepted.Accepted.TheVariants.Deleted, Rules.by_ids}
 use Rattle.theory.specs.Lrat.{LratState, after_lrat, lrat_step, SameClauses}
-use Rattle.live_clauses.specs.LiveClauses.{lrat_state}
-use Rattle.steps.proofs.LratLemmas.Rooms.{ready_without, deleted_same}
+use Rattle.steps.specs.Code.Naming.{with_lits}
+use Rattle.steps.proofs.{SessionLemmas.keeps_taken, LratLemmas.Rooms.ready_without}
+use Rattle.steps.proofs.{LratLemmas.Rooms.deleted_same, lrat.LratJudgeJudge.step.Goals.In-None}
 use Rattle.steps.proofs.lrat.LratJudgeJudge.step.Goals as goal
-use Rattle.steps.proofs.lrat.LratJudgeJudge.step.Goals.{In-None}
+use Rattle.live_clauses.specs.LiveClauses.{lrat_state}
+use Rattle.std.specs.FinMap as maps
 
 -- what is left
 left : (c : In-None) → SameClauses (maps.get c.delete_all.new.live.live) (after_lrat (lrat_state c.args.self.now.held) (lrat_step (with_lits c.args.lits.now c.args.step.now))).live × (c.delete_all.new.live.top ≡ (after_lrat (lrat_state c.args.self.now.held) (lrat_step (with_lits c.args.lits.now c.args.step.now))).top)

@@ -1,9 +1,8 @@
 use Rattle.std.proofs.Common.{ap, sym, subst}
-use Rattle.std.specs.FinMap as maps
-use Rattle.steps.specs.Code.Ready.{IsReady}
-use Rattle.steps.specs.declared.lrat.LratJudge.{LratJudge}
+use Rattle.steps.specs.{Code.Ready.IsReady, declared.lrat.LratJudge.LratJudge}
 use Rattle.steps.proofs.LratLemmas.Rooms.{ready_empty}
 use Rattle.steps.proofs.lrat.Session+Named+LratJudge.new.Goals as goal
+use Rattle.std.specs.FinMap as maps
 
 pub over-requires-clause-ready : goal.over-requires-clause-ready
 over-requires-clause-ready c = (

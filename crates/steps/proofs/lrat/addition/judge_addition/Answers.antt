@@ -1,11 +1,10 @@
 use Rattle.std.proofs.Common.{subst}
-use Rattle.std.specs.FinMap as maps
 use Rattle.cnf_base.specs.Literals.{complements}
 use Rattle.theory.specs.Lrat.{chain, units_of, groups_of}
 use Rattle.steps.specs.Code.Walk.{IsEnd}
-use Rattle.steps.proofs.LratLemmas.Starts.{answers_open, first_is}
-use Rattle.steps.proofs.LratLemmas.Ending.{unless_map}
+use Rattle.steps.proofs.LratLemmas.{Starts.answers_open, Starts.first_is, Ending.unless_map}
 use Rattle.steps.proofs.lrat.addition.judge_addition.Goals as goal
+use Rattle.std.specs.FinMap as maps
 
 pub returns-in-Some-clause-answer : goal.returns-in-Some-clause-answer
 returns-in-Some-clause-answer c =

@@ -1,16 +1,14 @@
 use Rattle.std.proofs.Common.{◌≡◌, ℕ, true, [], take, drop}
-use Rattle.std.specs.FinMap as maps
 use Rattle.cnf_base.specs.Literals.{complement, has}
-use Rattle.theory.specs.Lrat.{groups_refusal, groups_of}
+use Rattle.theory.specs.{Lrat.groups_refusal, Lrat.groups_of, Sets.SameSet}
 use Rattle.live_clauses.specs.LiveClauses.{Holds}
 use Rattle.steps.specs.Code.Groups.{named_in}
-use Rattle.theory.specs.Sets.{SameSet}
+use Rattle.std.specs.FinMap as maps
 use Rattle.steps.proofs.lrat.candidates.judge_groups.Given as goal
 
 abbrev pub invariant-loop-i : goal.invariant-loop-i
 invariant-loop-i l = record {
-  refusal :
-      groups_refusal (maps.get l.live.live) l.fn.trues.lits l.fn.pivot l.named
+  refusal : groups_refusal (maps.get l.live.live) l.fn.trues.lits l.fn.pivot l.named
       (groups_of (drop l.i l.hints))
       ≡ groups_refusal (maps.get l.live.live) l.fn.trues.lits l.fn.pivot [] (groups_of l.hints);
   named : SameSet l.named (named_in (take l.i l.hints));

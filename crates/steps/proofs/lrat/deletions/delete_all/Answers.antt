@@ -1,8 +1,7 @@
 use Rattle.std.proofs.Common.{sym, ◌∙◌, arith, rules}
-use Rattle.std.specs.FinMap as maps
-use Rattle.steps.proofs.LratLemmas.Hints.{abs_more}
-use Rattle.steps.proofs.LratLemmas.Deletions.{deletion_more, without_more}
+use Rattle.steps.proofs.LratLemmas.{Hints.abs_more, Deletions.deletion_more, Deletions.without_more}
 use Rattle.steps.proofs.lrat.deletions.delete_all.Goals as goal
+use Rattle.std.specs.FinMap as maps
 
 pub loop-id-preserved : goal.loop-id-preserved
 loop-id-preserved c =

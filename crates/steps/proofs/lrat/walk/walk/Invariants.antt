@@ -2,15 +2,13 @@ use Rattle.std.proofs.Common.{◌≡◌, ◌≤◌, ◌<◌, false, length, take
 use Rattle.std.proofs.Common.{slice_index_or}
 use Rattle.std.specs.Option.{option_copied}
 use Rattle.std.specs.FinMap as maps
-use Rattle.theory.specs.Lrat.{chain, units_of}
-use Rattle.theory.specs.Sets.{conflicts, SameSet}
+use Rattle.theory.specs.{Lrat.chain, Lrat.units_of, Sets.conflicts, Sets.SameSet}
 use Rattle.steps.proofs.LratLemmas.Walks.{Gives}
 use Rattle.steps.proofs.lrat.walk.walk.Given as goal
 
 abbrev pub invariant-loop-i : goal.invariant-loop-i
 invariant-loop-i l = record {
-  so_far :
-      Gives (chain (maps.get l.live.live) l.trues.lits (units_of (drop l.i l.hints)))
+  so_far : Gives (chain (maps.get l.live.live) l.trues.lits (units_of (drop l.i l.hints)))
       (chain (maps.get l.live.live) l.fn.trues.lits (units_of l.hints));
   quiet : conflicts l.trues.lits ≡ false;
   begins : take (length l.fn.trues.lits) l.trues.lits ≡ l.fn.trues.lits;

@@ -8,6 +8,5 @@ returns-clause-live_alone g c = λ ready.
     let beside = length c.args.self.now.numbered.items in
     let none : beside ≡ 0 = ap length ready.0.none_beside in
     let same : held.stored + beside ≡ held.stored = omega arith in
-    same
-    ∙ c.literals.ensures.live_alone ready.1
+    same ∙ c.literals.ensures.live_alone ready.1
     ∙ sym (named_size c.args.self.now.numbering held beside ready.0.given)

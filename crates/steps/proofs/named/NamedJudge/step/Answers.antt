@@ -1,8 +1,6 @@
 use Rattle.std.proofs.Common.{ℕ, ◌⊎◌, ◌↔◌, IfOk, OnOk, IsTrue, length, sym, ap, subst}
-use Rattle.theory.specs.Losses.{StepLoses}
-use Rattle.theory.specs.Rules.{IsSatisfiable}
-use Rattle.steps.specs.Code.Naming.{under_names, with_lits}
-use Rattle.steps.specs.Session.{state_of}
+use Rattle.theory.specs.{Losses.StepLoses, Rules.IsSatisfiable}
+use Rattle.steps.specs.{Code.Naming.under_names, Code.Naming.with_lits, Session.state_of}
 use Rattle.steps.proofs.SessionLemmas.{keeps_taken}
 use Rattle.steps.proofs.named.NamedJudge.step.Goals as goal
 
