@@ -1,10 +1,9 @@
 -- Lists of the variables that were met.
-use Rattle.std.proofs.Common.{◌≡◌, ◌≢◌, ℕ, suc, ◌+◌, ◌<◌, Bool, true, false, not, cond, eqb, List}
-use Rattle.std.proofs.Common.{[], ◌∷◌, ◌++◌, map, ◌*◌, ◌%◌, slice_index_or, length, refl, sym, ap, ◌∙◌, subst, arith, inl, inr}
-use Rattle.std.proofs.Common.{eqb-true, eq-eqb}
+use Rattle.std.proofs.Common.{◌≡◌, ◌≢◌, ℕ, suc, ◌+◌, ◌<◌, true, false, not, cond, eqb, List, []}
+use Rattle.std.proofs.Common.{◌∷◌, ◌++◌, map, ◌*◌, ◌%◌, slice_index_or, length, refl, sym, ap, ◌∙◌}
+use Rattle.std.proofs.Common.{arith, inl, inr, eq-eqb, rules}
+use Rattle.std.proofs.lemmas.{Bool.cases_Bool, Bool.false≢true, Bool.or_parts, List.map-append}
 use Rattle.std.specs.List.{position_or_len}
-use Rattle.std.proofs.lemmas.Bool.{cases_Bool, false≢true, or_parts}
-use Rattle.std.proofs.lemmas.List.{map-append}
 use Rattle.theory.specs.Renaming.{renamed}
 use Rattle.cnf_base.specs.Literals.{Literal, variable, has}
 use Rattle.cnf_base.proofs.SetLemmas.{has_head, has_tail, has_cases, has_append_left}
@@ -18,13 +17,8 @@ place names v = position_or_len (λ w. eqb w v) names
 place_inside : (names : List ℕ) (v : ℕ) → has names v ≡ true → (place names v < length names) × (slice_index_or names (place names v) 0 ≡ v)
 place_inside [] v h = absurd (false≢true h)
 place_inside (w ∷ names) v h = elim (cases_Bool (eqb w v)) [
-  | inl is ↦ subst (λ b. (cond (not b) (1 + place names v) 0 < suc (length names)) × (slice_index_or (w ∷ names) (cond (not b) (1 + place names v) 0) 0 ≡ v)) (sym is) (omega arith, eqb-true w v is)
-  | inr apart ↦
-      let below = place_inside names v (rest apart) in
-      let low = below.0 in
-      let more : 1 + place names v ≡ suc (place names v) = omega arith in
-      subst (λ b. (cond (not b) (1 + place names v) 0 < suc (length names)) × (slice_index_or (w ∷ names) (cond (not b) (1 + place names v) 0) 0 ≡ v)) (sym apart)
-      (omega arith, ap (λ n. slice_index_or (w ∷ names) n 0) more ∙ below.1)
+  | inl is ↦ search rules
+  | inr apart ↦ search (rules, arith, slice_index_or, (place_inside names v (rest apart)))
 ]
   where
     rest : eqb w v ≡ false → has names v ≡ true
@@ -41,28 +35,18 @@ place_outside (w ∷ names) v none =
 place_kept : (names more : List ℕ) (v : ℕ) → has names v ≡ true → place (names ++ more) v ≡ place names v
 place_kept [] more v h = absurd (false≢true h)
 place_kept (w ∷ names) more v h = elim (has_cases w names v h) [
-  | inl e ↦ ap (λ b. cond (not b) (1 + place (names ++ more) v) 0) (eq-eqb w v e) ∙ sym (ap (λ b. cond (not b) (1 + place names v) 0) (eq-eqb w v e))
+  | inl e ↦ cc (eq-eqb w v e)
   | inr g ↦ ap (λ n. cond (not (eqb w v)) (1 + n) 0) (place_kept names more v g)
 ]
 
 pub told : (names : List ℕ) (v : ℕ) → has names v ≡ true → name_in names (number_in names v) ≡ v
-told names v h =
-    let more : 1 + place names v ≡ suc (place names v) = omega arith in
-    ap (name_in names) more ∙ (place_inside names v h).1
+told names v h = search (rules, (place_inside names v h))
 
 pub kept_number : (names : List ℕ) (v w : ℕ) → has names v ≡ true → number_in (with_name names w) v ≡ number_in names v
-kept_number names v w h = by (has names w)
-  where
-    by : (b : Bool) → number_in (cond b names (names ++ w ∷ [])) v ≡ number_in names v
-    by true = refl
-    by false = ap (λ n. 1 + n) (place_kept names (w ∷ []) v h)
+kept_number names v w h = search (rules, (place_kept names (w ∷ []) v h))
 
 pub kept_has : (names : List ℕ) (v w : ℕ) → has names v ≡ true → has (with_name names w) v ≡ true
-kept_has names v w h = by (has names w)
-  where
-    by : (b : Bool) → has (cond b names (names ++ w ∷ [])) v ≡ true
-    by true = h
-    by false = has_append_left names (w ∷ []) v h
+kept_has names v w h = search (rules, arith, has_append_left)
 
 pub kept_has_all : (names : List ℕ) (v : ℕ) (lits : List Literal) → has names v ≡ true → has (with_names names lits) v ≡ true
 kept_has_all names v [] h = h
@@ -74,24 +58,17 @@ kept_number_all names v (l ∷ lits) h =
     kept_number_all (with_name names (variable l)) v lits (kept_has names v (variable l) h) ∙ kept_number names v (variable l) h
 
 pub has_new : (names : List ℕ) (w : ℕ) → has (with_name names w) w ≡ true
-has_new names w = elim (has names w) as (λ b. has names w ≡ b → has (cond b names (names ++ w ∷ [])) w ≡ true) [
-  | true ↦ λ h. h
-  | false ↦ λ h. has_append_right names (w ∷ []) w (has_head w [])
-] refl
+has_new names w = search (rules, arith, has_append_right, has_head)
 
 pub has_new_all : (names : List ℕ) (lits : List Literal) (l : Literal) → has lits l ≡ true → has (with_names names lits) (variable l) ≡ true
 has_new_all names [] l h = absurd (false≢true h)
 has_new_all names (k ∷ lits) l h = elim (has_cases k lits l h) [
-  | inl e ↦ subst (λ x. has (with_names names (k ∷ lits)) (variable x) ≡ true) e (kept_has_all (with_name names (variable k)) (variable k) lits (has_new names (variable k)))
+  | inl e ↦ search (rules, arith, kept_has_all, has_new)
   | inr g ↦ has_new_all (with_name names (variable k)) lits l g
 ]
 
 pub next_is_not_given : (names : List ℕ) (v : ℕ) → has names v ≡ false → (w : ℕ) → has names w ≡ true → number_in names w ≢ number_in names v
-next_is_not_given names v none w h e =
-    let inside = (place_inside names w h).0 in
-    let outside = place_outside names v none in
-    let wrong : ⊥ = omega arith in
-    wrong
+next_is_not_given names v none w h e = omega (arith, place_inside, place_outside)
 
 -- ---- One literal more
 

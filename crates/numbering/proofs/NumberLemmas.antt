@@ -1,12 +1,10 @@
 -- Numbers by variable, and the list of the variables in the order of their numbers.
-use Rattle.std.proofs.Common.{◌≡◌, ◌≢◌, ℕ, zero, suc, ◌+◌, ◌≤◌, ◌<◌, true, false, cond, eqb}
-use Rattle.std.proofs.Common.{List, [], ◌∷◌, ◌++◌, length, length-append, refl, sym, ap, ◌∙◌}
-use Rattle.std.proofs.Common.{arith, inl, inr, eq-eqb, ne_eqb, add-one, ◌*◌, ◌↔◌, Bool, Option, Some, None}
-use Rattle.std.proofs.Common.{unwrap_or, IsSome, IfSome}
-use Rattle.std.proofs.Common.{slice_get}
-use Rattle.std.proofs.lemmas.Bool.{cases_eq, cases_lt, false≢true}
+use Rattle.std.proofs.Common.{◌≡◌, ◌≢◌, ℕ, zero, suc, ◌+◌, ◌≤◌, ◌<◌, true, false, cond, eqb, List}
+use Rattle.std.proofs.Common.{[], ◌∷◌, ◌++◌, length, length-append, refl, sym, ap, ◌∙◌, arith, inl}
+use Rattle.std.proofs.Common.{inr, eq-eqb, ne_eqb, add-one, ◌*◌, ◌↔◌, Option, Some, unwrap_or}
+use Rattle.std.proofs.Common.{IsSome, IfSome, slice_get, rules}
+use Rattle.std.proofs.lemmas.Bool.{cases_eq, cases_lt, Decides.nat_tests}
 use Rattle.std.proofs.lemmas.Option.{slice_get_past}
-use Rattle.std.proofs.lemmas.Bool.Decides.{nat_tests}
 use Rattle.cnf_base.specs.Literals.{has}
 use Rattle.numbering.specs.Names.{number_in}
 use Rattle.numbering.specs.Code.Numbers.{name_up_to, names_of, counted_as, met_up_to, number_or}
@@ -37,8 +35,7 @@ has_none names v none = grind (arith, nat_tests)
 name_same : (f g : ℕ → ℕ) (n : ℕ) → ((v : ℕ) → eqb (g v) n ≡ eqb (f v) n) → (b : ℕ) → name_up_to g n b ≡ name_up_to f n b
 unfolding name_up_to
 name_same f g n same zero = refl
-name_same f g n same (suc b) =
-    ap (λ t. cond t (suc b) (name_up_to g n b)) (same (suc b)) ∙ ap (cond (eqb (f (suc b)) n) (suc b)) (name_same f g n same b)
+name_same f g n same (suc b) = search (rules, arith, (name_same f g n same b))
 
 names_same : (f g : ℕ → ℕ) (count : ℕ) → ((n v : ℕ) → 1 ≤ n → n ≤ count → eqb (g v) n ≡ eqb (f v) n) → names_of g count ≡ names_of f count
 unfolding names_of
@@ -64,7 +61,7 @@ name_is f n w here from one (suc b) to = elim (cases_eq (f (suc b)) n) [
   | inl is ↦ ap (λ t. cond t (suc b) (name_up_to f n b)) (eq-eqb (f (suc b)) n is) ∙ one (suc b) is
   | inr apart ↦
       let other : suc b ≢ w = λ e. apart (ap f e ∙ here) in
-      ap (λ t. cond t (suc b) (name_up_to f n b)) (ne_eqb (f (suc b)) n apart) ∙ name_is f n w here from one b (omega (arith, other))
+      search (rules, ne_eqb, from, one, (name_is f n w here from one b (omega (arith, other))))
 ]
 
 -- ---- How many were met
@@ -93,48 +90,38 @@ met_more : (f g : ℕ → ℕ) (w n : ℕ) → f w ≡ 0 → n ≢ 0 → 1 ≤ w
 unfolding met_up_to
 met_more f g w n none some from writes zero to = absurd (let wrong : ⊥ = omega arith in wrong)
 met_more f g w n none some from writes (suc b) to = elim (cases_eq w (suc b)) [
-  | inl is ↦
-      let before = met_same f g b (λ v to. writes v ∙ ap (λ t. cond t n (f v)) (ne_eqb v w (λ e. absurd (let wrong : ⊥ = omega arith in wrong)))) in
-      let old = ap f (sym is) ∙ none in
-      let new = writes (suc b) ∙ ap (λ t. cond t n (f (suc b))) (eq-eqb (suc b) w (sym is)) in
-      grind (arith, nat_tests)
-  | inr apart ↦
-      let before = met_more f g w n none some from writes b (omega (arith, apart)) in
-      let same = writes (suc b) ∙ ap (λ t. cond t n (f (suc b))) (ne_eqb (suc b) w (λ e. apart (sym e))) in
-      grind (arith, nat_tests)
+  | inl is ↦ search (rules, arith, met_same, to, ne_eqb, none, eq-eqb)
+  | inr apart ↦ search (
+    rules,
+    arith,
+    none,
+    from,
+    ne_eqb,
+    (met_more f g w n none some from writes b (omega (arith, apart))),
+  )
 ]
 
 -- ---- The code's values
 
-written_at : (b : Bool) (o : Option ℕ) (n : ℕ) → unwrap_or (cond b (Some n) o) 0 ≡ cond b n (unwrap_or o 0)
-written_at true o n = refl
-written_at false o n = refl
-
 -- room is made, and then a number is written at one variable
 all_written : (first room last : ℕ → Option ℕ) (key w n : ℕ) → key ≡ w → ((v : ℕ) → unwrap_or (room v) 0 ≡ unwrap_or (first v) 0) → ((v : ℕ) → last v ≡ cond (eqb v key) (Some n) (room v)) → (v : ℕ) →
     unwrap_or (last v) 0 ≡ cond (eqb v w) n (unwrap_or (first v) 0)
-all_written first room last key w n is same writes v =
-    ap (λ o. unwrap_or o 0) (writes v) ∙ written_at (eqb v key) (room v) n ∙ ap (λ k. cond (eqb v k) n (unwrap_or (room v) 0)) is
-    ∙ ap (cond (eqb v w) n) (same v)
+all_written first room last key w n is same writes v = search rules
 
 -- the number of a variable that stands among the first ones
 pub number_near : (all : ℕ → Option ℕ) (near : List ℕ) → ((k : ℕ) → k < length near → slice_get near k ≡ all k) → (v n : ℕ) → n ≡ unwrap_or (slice_get near v) 0 → n ≢ 0 → unwrap_or (all v) 0 ≡ n
-number_near all near is v n at some = elim (cases_lt v (length near)) [
-  | inl low ↦ ap (λ o. unwrap_or o 0) (sym (is v low)) ∙ sym at
-  | inr high ↦ absurd (some (at ∙ ap (λ o. unwrap_or o 0) (slice_get_past near v high)))
-]
+number_near all near is v n at some = search (rules, arith, cases_lt, unwrap_or, slice_get_past)
 
 -- a literal under the number of a variable
 pub under_is : (o : Option ℕ) (n m s d : ℕ) → (IsSome o ↔ ((1 ≤ n) × (n ≤ 268435455))) → IfSome o (λ l. l ≡ 2 * n + s) → n ≡ m → 1 ≤ m → m ≤ 268435455 → unwrap_or o d ≡ 2 * m + s
-under_is (Some l) n m s d some value is from to = value ∙ ap (λ k. 2 * k + s) is
-under_is None n m s d some value is from to = absurd (false≢true (some.1 (omega (arith, is, from), omega (arith, is, to))))
+under_is o n m s d h h2 h3 h4 h5 = search rules
 
 -- ---- A numbering
 
 met_none : (f : ℕ → ℕ) → ((v : ℕ) → f v ≡ 0) → (b : ℕ) → met_up_to f b ≡ 0
 unfolding met_up_to
 met_none f none zero = refl
-met_none f none (suc b) = let e = met_none f none b in let here = none (suc b) in grind (arith, nat_tests)
+met_none f none (suc b) = cc ((none b), (none (suc b)), (met_none f none b))
 
 pub numbering_empty : (f : ℕ → ℕ) → ((v : ℕ) → f v ≡ 0) → IsNumbering f 0
 unfolding names_of
@@ -158,19 +145,16 @@ module _ (f : ℕ → ℕ) (count : ℕ) (is : IsNumbering f count) where
   unmet_at v none = is.stands v ∙ ap (λ t. cond t (number_in (names_of f count) v) 0) none
 
   pub number_is : (v : ℕ) → f v ≢ 0 → number_in (names_of f count) v ≡ f v
-  number_is v some = sym (is.stands v ∙ ap (λ t. cond t (number_in (names_of f count) v) 0) (is_met v some))
+  number_is v some = search rules
 
   pub next_is : (v : ℕ) → f v ≡ 0 → number_in (names_of f count) v ≡ count + 1
-  next_is v none = let e = number_unmet (names_of f count) v (is_unmet v none) in omega (arith, names_length f count)
+  next_is v none = search (rules, arith, none, number_unmet, is_unmet, names_length)
 
   pub count_most : count ≤ 268435455
   count_most = omega (arith, is.counted, met_most f 268435455)
 
   pub is_none : (v n : ℕ) → n ≡ f v → (1 ≤ n → n ≤ 268435455 → ⊥) → f v ≡ 0
-  is_none v n is_at none = elim (cases_eq (f v) 0) [
-    | inl e ↦ e
-    | inr some ↦ absurd (none (omega (arith, some, is_at)) (omega (arith, is_at, at_most v, count_most)))
-  ]
+  is_none v n is_at none = search (rules, arith, none, cases_eq, at_most, count_most)
 
   pub count_below : (v : ℕ) → f v ≡ 0 → 1 ≤ v → v ≤ 268435455 → count < 268435455
   count_below v none from to = omega (arith, is.counted, met_below f v none from 268435455 to)
@@ -181,37 +165,20 @@ module _ (f : ℕ → ℕ) (count : ℕ) (is : IsNumbering f count) where
     written = writes w ∙ ap (λ t. cond t (count + 1) (f w)) (eq-eqb w w refl)
 
     one : (v : ℕ) → g v ≡ count + 1 → v ≡ w
-    one v is_new = elim (cases_eq v w) [
-      | inl e ↦ e
-      | inr apart ↦
-          let old = writes v ∙ ap (λ t. cond t (count + 1) (f v)) (ne_eqb v w apart) in
-          let most = at_most v in
-          absurd (let wrong : ⊥ = omega arith in wrong)
-    ]
+    one v is_new = search (rules, arith, cases_eq, ne_eqb, at_most)
 
     same_number : (n v : ℕ) → 1 ≤ n → n ≤ count → eqb (g v) n ≡ eqb (f v) n
-    same_number n v low high = elim (cases_eq v w) [
-      | inl e ↦
-          let at = ap f e ∙ none in
-          let new = ap g e ∙ written in
-          grind (arith, nat_tests)
-      | inr apart ↦ ap (λ k. eqb k n) (writes v ∙ ap (λ t. cond t (count + 1) (f v)) (ne_eqb v w apart))
-    ]
+    same_number n v low high = search rules
 
     names_new : names_of g (count + 1) ≡ names_of f count ++ w ∷ []
-    names_new =
-        names_step g count
+    names_new = names_step g count
         ∙ ap (λ ns. ns ++ name_up_to g (count + 1) 268435455 ∷ []) (names_same f g count same_number)
         ∙ ap (λ v. names_of f count ++ v ∷ []) (name_is g (count + 1) w written from one 268435455 to)
 
     numbering_new : IsNumbering g (count + 1)
     numbering_new = record {
       counted = ap (λ n. n + 1) is.counted ∙ sym (met_more f g w (count + 1) none (omega arith) from writes 268435455 to);
-      stands = λ v.
-          writes v ∙ ap (cond (eqb v w) (count + 1)) (is.stands v)
-          ∙ ap (λ n. cond (eqb v w) n (number_or (names_of f count) v)) (omega (arith, names_length f count))
-          ∙ sym (number_push (names_of f count) w v (is_unmet w none))
-          ∙ ap (λ ns. number_or ns v) (sym names_new);
+      stands = search (rules, arith, names_length, number_push, is_unmet, none, names_new);
     }
 
 -- a variable that wasn't met has the next number: room is made, and the number is written

@@ -1,7 +1,6 @@
 use Rattle.std.proofs.Common.{◌+◌, ◌*◌, ◌%◌, sym, ap, ◌∙◌, refl, arith}
 use Rattle.cnf_base.specs.Literals.{has, variable}
-use Rattle.numbering.specs.Names.{number_in}
-use Rattle.numbering.specs.Code.Numbers.{number_at}
+use Rattle.numbering.specs.{Names.number_in, Code.Numbers.number_at}
 use Rattle.numbering.proofs.NumberLemmas.{count_most, count_below, unmet_at, next_is, under_is}
 use Rattle.numbering.proofs.numbering.Numbering.find_next.Goals as goal
 

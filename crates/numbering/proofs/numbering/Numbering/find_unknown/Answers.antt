@@ -1,5 +1,4 @@
-use Rattle.std.proofs.Common.{sym, ap, ◌∙◌}
-use Rattle.std.proofs.lemmas.Bool.{false≢true}
+use Rattle.std.proofs.{Common.sym, Common.ap, Common.◌∙◌, lemmas.Bool.false≢true}
 use Rattle.cnf_base.specs.Literals.{has, variable}
 use Rattle.numbering.specs.Code.Numbers.{number_at}
 use Rattle.numbering.proofs.NumberLemmas.{is_none, is_unmet}

@@ -36,8 +36,7 @@ loop-near-preserved c =
       met =
           ap (with_names names) split ∙ with_names_push names before l ∙ ap (λ ns. with_name ns v) c.loop-near.invariant.met
           ∙ same_names names v met;
-      literals =
-          c.push_reserved.ensures.items
+      literals = c.push_reserved.ensures.items
           ∙ (λ j. c.loop-near.invariant.literals j ++ literal j ∷ [])
           ∙ sym (map-append (renamed (number_in names)) before (l ∷ []))
           ∙ ap (map (renamed (number_in names))) (sym split);

@@ -22,8 +22,7 @@ loop-i-preserved c =
     let new = c.in_ok-l.ensures.literal ∙ ap (λ ns. renamed (number_in ns) l) names in
     record {
       names = names ∙ ap (with_names first) (sym split);
-      literals =
-          c.push_reserved.ensures.items
+      literals = c.push_reserved.ensures.items
           ∙ numbered_push first before l c.in_ok-l.l c.loop-i.numbered.items old new
           ∙ (λ j. under (sym names j) (sym split j));
       len = omega (arith, c.push_reserved.ensures.len, c.loop-i.invariant.len);
