@@ -1,32 +1,26 @@
 -- Identifiers, slots and clauses as one finite map.
-use Rattle.std.proofs.Common.{◌≡◌, ℕ, Bool, true, false, cond, eqb, Option, Some}
-use Rattle.std.proofs.Common.{None, option_map, List, [], ◌∷◌, map, ◌+◌, ◌<◌, ◌≤◌, ◌≢◌, is_some}
-use Rattle.std.proofs.Common.{refl, sym, ap, ◌∙◌, subst, arith, nat_cmp, nat_eq, length, inl, inr}
-use Rattle.std.proofs.Common.{◌⊎◌}
-use Rattle.std.proofs.lemmas.Option.{same_Some, none-some}
-use Rattle.std.specs.Ordering.{eq_by_cmp}
-use Rattle.std.specs.Option.{unwrap_or, IsSome}
-use Rattle.std.specs.Cmp.{nat_cmp_total}
-use Rattle.std.specs.FinMap as maps
+use Rattle.std.proofs.Common.{◌≡◌, ℕ, Bool, true, false, cond, eqb, Option, Some, None, option_map}
+use Rattle.std.proofs.Common.{List, [], ◌∷◌, map, ◌+◌, ◌<◌, ◌≤◌, ◌≢◌, is_some, refl, sym, ap, ◌∙◌}
+use Rattle.std.proofs.Common.{subst, arith, nat_cmp, nat_eq, length, inl, inr, ◌⊎◌, rules}
+use Rattle.std.proofs.lemmas.{Option.same_Some, Option.none-some, Bool.cases_eq, Bool.false≢true}
+use Rattle.std.specs.{Option.unwrap_or, Option.IsSome, Cmp.nat_cmp_total}
 use Rattle.std.specs.FinMap.{FinMap, find, get-entries, get-empty, get-from_entries}
-use Rattle.std.proofs.lemmas.Bool.{cases_eq, false≢true}
-use Rattle.std.specs.Bool.{IsTrue}
-use Rattle.std.specs.List.{IsDistinct}
+use Rattle.std.specs.{Bool.IsTrue, List.IsDistinct}
+use Rattle.std.specs.FinMap as maps
 use Rattle.cnf_base.specs.Literals.{Literal, Clause, has, same_clause, size}
 use Rattle.cnf_base.proofs.SetLemmas.{has_head, has_tail}
-use Rattle.clause_db.specs.Store.{copies_with, literals_in}
 use Rattle.cnf_base.proofs.MapLemmas.{insert_here, insert_other, inserted_is, remove_here}
 use Rattle.cnf_base.proofs.MapLemmas.{remove_other, removed_back, same_maps, sum_empty, sum_insert}
 use Rattle.cnf_base.proofs.MapLemmas.{sum_remove}
+use Rattle.clause_db.specs.Store.{copies_with, literals_in}
 use Rattle.live_clauses.proofs.ClausesLemmas.Distinct.{distinct_head, distinct_tail}
-use Rattle.theory.specs.Propagation.{Live}
-use Rattle.theory.specs.Lrat.{with_clause, without_id, SameAt, SameClauses}
-use Rattle.theory.proofs.LratLemmas.LiveSets.{SameClauses-refl}
-use Rattle.theory.specs.Sizes.{size_at, sum_to}
 use Rattle.live_clauses.specs.Code.LiveClauses.{clause_at, held_at, joined, IsPaired, IsTally}
 use Rattle.live_clauses.specs.Code.LiveClauses.{AreOwners}
 use Rattle.live_clauses.specs.declared.owners.Owners.{Owners}
 use Rattle.live_clauses.specs.LiveClauses.{LiveClausesState, Holds, AllHold}
+use Rattle.theory.specs.{Propagation.Live, Lrat.with_clause, Lrat.without_id, Lrat.SameAt}
+use Rattle.theory.specs.{Lrat.SameClauses, Sizes.size_at, Sizes.sum_to}
+use Rattle.theory.proofs.LratLemmas.LiveSets.{SameClauses-refl}
 use Rattle.theory.proofs.LratLemmas.Sums.{sum_agree, sum_with, sum_without, with_here, with_other}
 use Rattle.theory.proofs.LratLemmas.Sums.{without_here, without_other}
 
@@ -34,11 +28,7 @@ use Rattle.theory.proofs.LratLemmas.Sums.{without_here, without_other}
 
 find_joined : (store : FinMap nat_cmp Clause) (es : List (ℕ × ℕ)) (q : ℕ) → find nat_cmp q (map (λ e. (e.0, clause_at store e.1)) es) ≡ option_map (clause_at store) (find nat_cmp q es)
 find_joined store [] q = refl
-find_joined store (e ∷ es) q = by_test (eq_by_cmp nat_cmp q e.0) _ _ (find_joined store es q)
-  where
-    by_test : (b : Bool) (x : Option Clause) (y : Option ℕ) → x ≡ option_map (clause_at store) y → cond b (Some (clause_at store e.1)) x ≡ option_map (clause_at store) (cond b (Some e.1) y)
-    by_test true x y h = refl
-    by_test false x y h = h
+find_joined store (e ∷ es) q = search (rules, arith, nat_cmp, option_map, (find_joined store es q))
 
 pub joined_is : (ids : FinMap nat_cmp ℕ) (store : FinMap nat_cmp Clause) (k : ℕ) → maps.get (joined ids store) k ≡ held_at ids store k
 joined_is ids store k =
@@ -51,9 +41,7 @@ module _ (ids : FinMap nat_cmp ℕ) (store : FinMap nat_cmp Clause) (state : Liv
   live_at k = ap (λ m. maps.get m k) (sym view) ∙ joined_is ids store k
 
   pub live_total : (top : ℕ) → top ≡ state.top → sum_to top (λ k. size_at (held_at ids store k)) ≡ sum_to state.top (λ k. size_at (maps.get state.live k))
-  live_total top e =
-      sum_agree top (λ k. size_at (held_at ids store k)) (λ k. size_at (maps.get state.live k)) (λ k low high. ap size_at (sym (live_at k)))
-      ∙ ap (λ t. sum_to t (λ k. size_at (maps.get state.live k))) e
+  live_total top e = search (rules, arith, sum_agree, live_at)
 
 pub some_is_some : {X : Type 0} (o : Option X) (x : X) → o ≡ Some x → IsSome o
 some_is_some o x e = ap is_some e
@@ -63,11 +51,7 @@ none_is_not_some o e h = false≢true (sym (ap is_some e) ∙ h)
 
 -- two maps that agree at the slot of k have the same clause there
 held_agree : (ids after_ids : FinMap nat_cmp ℕ) (store after : FinMap nat_cmp Clause) (k : ℕ) → maps.get after_ids k ≡ maps.get ids k → ((slot : ℕ) → maps.get ids k ≡ Some slot → maps.get after slot ≡ maps.get store slot) → held_at after_ids after k ≡ held_at ids store k
-held_agree ids after_ids store after k same agree = ap (option_map (clause_at after)) same ∙ by_slot (maps.get ids k) agree
-  where
-    by_slot : (o : Option ℕ) → ((slot : ℕ) → o ≡ Some slot → maps.get after slot ≡ maps.get store slot) → option_map (clause_at after) o ≡ option_map (clause_at store) o
-    by_slot None agree = refl
-    by_slot (Some slot) agree = ap (λ o. Some (unwrap_or o [])) (agree slot refl)
+held_agree ids after_ids store after k same agree = search rules
 
 -- ---- A clause that is added
 
@@ -100,29 +84,11 @@ module _ (ids : FinMap nat_cmp ℕ) (store after : FinMap nat_cmp Clause) (id sl
 
     -- an identifier that is bound now, and its slot
     slot_cases : (k s : ℕ) → maps.get after_ids k ≡ Some s → ((k ≡ id) × (s ≡ slot)) ⊎ (maps.get ids k ≡ Some s)
-    slot_cases k s at = elim (cases_eq k id) [
-      | inl e ↦ inl (e, same_Some s slot (sym at ∙ ap (maps.get after_ids) e ∙ ids_here))
-      | inr apart ↦ inr (sym (ids_other k apart) ∙ at)
-    ]
+    slot_cases k s at = search (rules, arith, cases_eq, same_Some, ids_here, ids_other)
 
     pub paired_with : maps.get ids id ≡ None → IsPaired after_ids after
-    paired_with unbound = record {
-      filled = λ k s at. elim (slot_cases k s at) [
-        | inl w ↦ some_is_some (maps.get after s) c (ap (maps.get after) w.1 ∙ stored)
-        | inr was ↦ subst IsSome (sym (others s (old_slot k s was))) (paired.filled k s was)
-      ];
-      own = λ j k s first second. elim (slot_cases j s first) [
-        | inl v ↦ elim (slot_cases k s second) [ inl w ↦ v.0 ∙ sym w.0 | inr was ↦ absurd (old_slot k s was v.1) ]
-        | inr was ↦ elim (slot_cases k s second) [ inl w ↦ absurd (old_slot j s was w.1) | inr is ↦ paired.own j k s was is ]
-      ];
-      used = λ s some. elim (cases_eq s slot) [
-        | inl e ↦ (id, ids_here ∙ ap Some (sym e))
-        | inr apart ↦
-            let was = paired.used s (subst IsSome (others s apart) some) in
-            let old : was.0 ≢ id = λ e. absurd (none-some s (sym unbound ∙ ap (maps.get ids) (sym e) ∙ was.1)) in
-            (was.0, ids_other was.0 old ∙ was.1)
-      ];
-    }
+    paired_with unbound =
+        search (rules, slot_cases, some_is_some, old_slot, cases_eq, ids_here, none-some, ids_other)
 
     filled_is : after ≡ maps.insert store slot c
     filled_is = inserted_is store after slot c stored others
@@ -133,19 +99,11 @@ module _ (ids : FinMap nat_cmp ℕ) (store after : FinMap nat_cmp Clause) (id sl
         let grown = ap literals_in filled_is ∙ sum_insert size store slot c free in
         let now = sum_with (held_at ids store) (held_at after_ids after) top id c above tally.none_above held_with in
         let zero_apart : 0 ≢ id = λ e. absurd (let h : ⊥ = omega arith in h) in
-        record {
-          sum_is = omega (arith, was, grown, now);
-          none_at_zero = held_with 0 ∙ with_other (held_at ids store) id c 0 zero_apart ∙ tally.none_at_zero;
-          none_above = λ k past. held_with k ∙ with_other (held_at ids store) id c k (λ e. absurd (let h : ⊥ = omega arith in h)) ∙ tally.none_above k (omega arith);
-        }
+        search (rules, held_with, with_other)
 
 -- an identifier past the greatest is not bound
 pub not_bound : (ids : FinMap nat_cmp ℕ) (store : FinMap nat_cmp Clause) (k : ℕ) → held_at ids store k ≡ None → maps.get ids k ≡ None
-not_bound ids store k h = by_slot (maps.get ids k) h
-  where
-    by_slot : (o : Option ℕ) → option_map (clause_at store) o ≡ None → o ≡ None
-    by_slot None h = refl
-    by_slot (Some s) h = absurd (none-some (clause_at store s) (sym h))
+not_bound ids store k h = search rules
 
 -- ---- A clause that is taken off
 
@@ -158,10 +116,7 @@ module _ (ids after_ids : FinMap nat_cmp ℕ) (store : FinMap nat_cmp Clause) (i
 
   -- an identifier that is still bound was bound, and is another one
   still_bound : (k s : ℕ) → maps.get after_ids k ≡ Some s → (k ≢ id) × (maps.get ids k ≡ Some s)
-  still_bound k s at = elim (cases_eq k id) [
-    | inl e ↦ absurd (none-some s (sym (sym at ∙ ap (maps.get after_ids) e ∙ gone_here)))
-    | inr apart ↦ (apart, sym (gone_other k apart) ∙ at)
-  ]
+  still_bound k s at = search (rules, arith, cases_eq, none-some, gone_here, gone_other)
 
   pub owners_without : (owners : Owners) → AreOwners owners ids → AreOwners owners after_ids
   owners_without owners are kept k s at = are kept k s (still_bound k s at).1
@@ -178,10 +133,7 @@ module _ (ids after_ids : FinMap nat_cmp ℕ) (store : FinMap nat_cmp Clause) (i
     none_held k = held_agree ids after_ids store store k (same_ids k) (λ s at. refl)
 
     pub none_without : (k : ℕ) → held_at after_ids store k ≡ without_id (held_at ids store) id k
-    none_without k = none_held k ∙ elim (cases_eq k id) [
-      | inl e ↦ ap (held_at ids store) e ∙ ap (option_map (clause_at store)) none ∙ sym (ap (without_id (held_at ids store) id) e ∙ without_here (held_at ids store) id)
-      | inr apart ↦ sym (without_other (held_at ids store) id k apart)
-    ]
+    none_without k = search (rules, none_held, cases_eq, option_map, without_here, without_other)
 
     pub none_paired : IsPaired after_ids store
     none_paired = record {
@@ -195,7 +147,7 @@ module _ (ids after_ids : FinMap nat_cmp ℕ) (store : FinMap nat_cmp Clause) (i
     other_slot k s apart at e = apart (paired.own k id slot (at ∙ ap Some e) bound)
 
     kept_slot : (k s : ℕ) → k ≢ id → maps.get ids k ≡ Some s → maps.get after s ≡ maps.get store s
-    kept_slot k s apart at = ap (λ m. maps.get m s) freed ∙ remove_other store slot s (other_slot k s apart at)
+    kept_slot k s apart at = search (rules, arith, remove_other, other_slot)
 
     pub held_without : (k : ℕ) → held_at after_ids after k ≡ without_id (held_at ids store) id k
     held_without k = elim (cases_eq k id) [
@@ -204,17 +156,19 @@ module _ (ids after_ids : FinMap nat_cmp ℕ) (store : FinMap nat_cmp Clause) (i
     ]
 
     pub paired_without : IsPaired after_ids after
-    paired_without = record {
-      filled = λ k s at. let was = still_bound k s at in subst IsSome (sym (kept_slot k s was.0 was.1)) (paired.filled k s was.1);
-      own = λ j k s first second. paired.own j k s (still_bound j s first).1 (still_bound k s second).1;
-      used = λ s some. elim (cases_eq s slot) [
-        | inl e ↦ absurd (none_is_not_some (maps.get after s) (ap (λ m. maps.get m s) freed ∙ ap (maps.get (maps.remove store slot)) e ∙ remove_here store slot slot refl) some)
-        | inr apart ↦
-            let was = paired.used s (subst IsSome (ap (λ m. maps.get m s) freed ∙ remove_other store slot s apart) some) in
-            let other : was.0 ≢ id = λ e. apart (same_Some s slot (sym was.1 ∙ ap (maps.get ids) e ∙ bound)) in
-            (was.0, gone_other was.0 other ∙ was.1)
-      ];
-    }
+    paired_without =
+        search (
+          rules,
+          arith,
+          still_bound,
+          kept_slot,
+          cases_eq,
+          none_is_not_some,
+          remove_here,
+          remove_other,
+          same_Some,
+          gone_other,
+        )
 
     none_stays : (k : ℕ) → held_at ids store k ≡ None → held_at after_ids after k ≡ None
     none_stays k h = held_without k ∙ ap (cond (eqb k id) None) h ∙ none_twice (eqb k id)
@@ -232,11 +186,7 @@ module _ (ids after_ids : FinMap nat_cmp ℕ) (store : FinMap nat_cmp Clause) (i
           let was = tally.sum_is in
           let less = ap (λ m. size c + literals_in m) freed ∙ sum_remove size store slot c at in
           let now = sum_without (held_at ids store) (held_at after_ids after) top id tally.none_at_zero tally.none_above held_without c held_here in
-          record {
-            sum_is = omega (arith, was, less, now);
-            none_at_zero = none_stays 0 tally.none_at_zero;
-            none_above = λ k past. none_stays k (tally.none_above k past);
-          }
+          search (rules, none_stays)
 
 -- the same clauses have the same tally
 pub tally_same : (live after : Live) (top sum : ℕ) → ((k : ℕ) → after k ≡ live k) → IsTally live top sum → IsTally after top sum
@@ -276,8 +226,7 @@ module _ (ids after_ids : FinMap nat_cmp ℕ) (store after : FinMap nat_cmp Clau
 pub undone_invariant : (ids after_ids : FinMap nat_cmp ℕ) (store after freed : FinMap nat_cmp Clause) (id slot top : ℕ) → IsPaired ids store → maps.get store slot ≡ None → ((k : ℕ) → k ≢ slot → maps.get after k ≡ maps.get store k) →
     after_ids ≡ ids → freed ≡ maps.remove after slot → IsTally (held_at ids store) top (literals_in store) → IsPaired after_ids freed × IsTally (held_at after_ids freed) top (literals_in freed)
 undone_invariant ids after_ids store after freed id slot top paired free others ids_are is tally =
-    subst (λ m. IsPaired m freed × IsTally (held_at m freed) top (literals_in freed)) (sym ids_are)
-    (subst (λ s. IsPaired ids s × IsTally (held_at ids s) top (literals_in s)) (sym (is ∙ freed_is ids store after id slot paired free others)) (paired, tally))
+    search (rules, arith, freed_is)
 
 -- ---- What is seen of a look-up and of a removal
 
@@ -295,9 +244,7 @@ module _ (ids : FinMap nat_cmp ℕ) (store : FinMap nat_cmp Clause) (state : Liv
         ∙ ap (λ o. cond (eqb k id) None o) (sym (live_at ids store state view k))
 
     pub absent_live : None ≡ maps.get ids id → (k : ℕ) → maps.get (joined after_ids store) k ≡ without_id (maps.get state.live) id k
-    absent_live none k =
-        joined_is after_ids store k ∙ none_without ids after_ids store id paired unbound (sym none) k
-        ∙ ap (λ o. cond (eqb k id) None o) (sym (live_at ids store state view k))
+    absent_live none k = search (rules, arith, joined_is, none_without, live_at)
 
   pub removed_was : (id slot : ℕ) → Some slot ≡ maps.get ids id → true ≡ is_some (maps.get state.live id)
   removed_was id slot bound = sym (ap is_some (live_at ids store state view id ∙ ap (option_map (clause_at store)) (sym bound)))
@@ -317,8 +264,7 @@ module _ (ids after_ids : FinMap nat_cmp ℕ) (store : FinMap nat_cmp Clause) (i
       (paired_without ids after_ids store id paired unbound slot (sym bound) after freed, tally_without ids after_ids store id paired unbound slot (sym bound) after freed w.0 w.1 top tally)
     where
       clause_of : (o : Option Clause) → IsSome o → (c : Clause) × (o ≡ Some c)
-      clause_of None filled = absurd (false≢true filled)
-      clause_of (Some c) filled = (c, refl)
+      clause_of o h = search rules
 
 -- ---- How many clauses hold a literal
 
@@ -347,17 +293,8 @@ slots_counted ids l own (k ∷ ks) store different hold =
 -- the slot of an identifier whose clause holds the literal, and the clause in it
 pub holder : (ids : FinMap nat_cmp ℕ) (store : FinMap nat_cmp Clause) (state : LiveClausesState) → joined ids store ≡ state.live → IsPaired ids store → (l : Literal) (k : ℕ) → Holds (maps.get state.live) l k →
     (slot : ℕ) × (maps.get ids k ≡ Some slot) × (c : Clause) × (maps.get store slot ≡ Some c) × (has c l ≡ true)
-holder ids store state view paired l k h = by_slot (maps.get ids k) refl
-  where
-    by_slot : (o : Option ℕ) → maps.get ids k ≡ o → (slot : ℕ) × (maps.get ids k ≡ Some slot) × (c : Clause) × (maps.get store slot ≡ Some c) × (has c l ≡ true)
-    by_slot None e = absurd (none-some h.clause (sym (sym h.at ∙ got_none ids store state view k e)))
-    by_slot (Some slot) e = let w = by_clause (maps.get store slot) refl (paired.filled k slot e) in (slot, e, w.0, w.1, w.2)
-      where
-        by_clause : (o : Option Clause) → maps.get store slot ≡ o → IsSome (maps.get store slot) → (c : Clause) × (maps.get store slot ≡ Some c) × (has c l ≡ true)
-        by_clause None g filled = absurd (none_is_not_some (maps.get store slot) g filled)
-        by_clause (Some c) g filled =
-            let same : h.clause ≡ c = same_Some h.clause c (sym h.at ∙ sym (got_some ids store state view k slot e c (sym g))) in
-            (c, g, subst (λ d. has d l ≡ true) same h.member)
+holder ids store state view paired l k h =
+    search (rules, arith, none-some, got_none, none_is_not_some, same_Some, got_some)
 
 pub holding_counts : (ids : FinMap nat_cmp ℕ) (store : FinMap nat_cmp Clause) (state : LiveClausesState) → joined ids store ≡ state.live → IsPaired ids store → (l : Literal) (count : ℕ) → count ≡ copies_with store l →
     (ks : List ℕ) → AllHold (maps.get state.live) l ks → length ks ≤ count

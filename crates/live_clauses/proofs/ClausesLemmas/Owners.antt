@@ -1,14 +1,10 @@
 -- The identifiers that are noted for slots, through a change.
-use Rattle.std.proofs.Common.{◌≡◌, ◌≢◌, ℕ, true, cond, eqb, eq-eqb, ne_eqb, Some, List}
-use Rattle.std.proofs.Common.{slice_index, refl, sym, ap, ◌∙◌, inl, inr}
-use Rattle.std.specs.Ordering.{nat_cmp}
-use Rattle.std.specs.FinMap as maps
-use Rattle.std.specs.FinMap.{FinMap}
-use Rattle.std.specs.Result.{OnOk, OnErr}
+use Rattle.std.proofs.Common.{◌≡◌, ◌≢◌, ℕ, true, cond, eqb, eq-eqb, ne_eqb, Some, List, slice_index}
+use Rattle.std.proofs.Common.{sym, ap, ◌∙◌, arith, rules}
+use Rattle.std.proofs.lemmas.{Bool.cases_eq, Option.same_Some}
+use Rattle.std.specs.{Ordering.nat_cmp, FinMap.FinMap, Result.OnOk, Result.OnErr}
 use Rattle.std.specs.declared.result.Result.{Result}
-use Rattle.std.specs.declared.result.Result.TheVariants.{Ok, Err}
-use Rattle.std.proofs.lemmas.Bool.{cases_eq}
-use Rattle.std.proofs.lemmas.Option.{same_Some}
+use Rattle.std.specs.FinMap as maps
 use Rattle.live_clauses.specs.Code.LiveClauses.{owner_at, AreNoted, AreOwners}
 use Rattle.live_clauses.specs.declared.owners.Owners.{Owners}
 use Rattle.cnf_base.proofs.MapLemmas.{insert_here, insert_other}
@@ -20,13 +16,8 @@ module _ (owners after : Owners) (ids after_ids : FinMap nat_cmp ℕ) (id slot :
   owner_stays are is k s at = noted is s ∙ ap (λ b. cond b id (owner_at owners s)) (ne_eqb s slot (free k s at)) ∙ are (sym kept ∙ is) k s at
 
   pub owners_bound : {X Y : Type 0} (result : Result X Y) → OnOk result (after_ids ≡ maps.insert ids id slot) → OnErr result (after_ids ≡ ids) → AreOwners owners ids → AreOwners after after_ids
-  owners_bound (Ok x) bound same are is k s at = elim (cases_eq k id) [
-    | inl e ↦
-        let here : s ≡ slot = same_Some s slot (sym at ∙ ap (maps.get after_ids) e ∙ ap (λ m. maps.get m id) bound ∙ insert_here ids id id slot refl) in
-        noted is s ∙ ap (λ b. cond b id (owner_at owners s)) (eq-eqb s slot here) ∙ sym e
-    | inr apart ↦ owner_stays are is k s (sym (ap (λ m. maps.get m k) bound ∙ insert_other ids id k slot apart) ∙ at)
-  ]
-  owners_bound (Err y) bound same are is k s at = owner_stays are is k s (sym (ap (λ m. maps.get m k) same) ∙ at)
+  owners_bound result h h2 h3 =
+      search (rules, arith, cases_eq, same_Some, insert_here, eq-eqb, owner_stays, insert_other)
 
 -- each slot has an identifier that is bound to it, and no two are
 pub all_noted : (ids : FinMap nat_cmp ℕ) (by_slot : List ℕ) → ((j k s : ℕ) → maps.get ids j ≡ Some s → maps.get ids k ≡ Some s → j ≡ k) → ((k s : ℕ) → maps.get ids k ≡ Some s → maps.get ids (slice_index by_slot s) ≡ Some s) →

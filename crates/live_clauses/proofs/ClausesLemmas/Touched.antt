@@ -1,13 +1,10 @@
 -- The clauses that a literal touches, by their slots and by their identifiers.
-use Rattle.std.proofs.Common.{◌≡◌, ℕ, Bool, true, false, ◌||◌, eqb, Some, List, [], ◌∷◌, map, refl}
-use Rattle.std.proofs.Common.{sym, ap, ◌∙◌, subst, slice_index}
-use Rattle.std.specs.Ordering.{nat_cmp}
-use Rattle.std.specs.FinMap as maps
-use Rattle.std.specs.FinMap.{FinMap}
+use Rattle.std.proofs.Common.{◌≡◌, ℕ, Bool, true, false, ◌||◌, eqb, Some, List, [], ◌∷◌, map, sym}
+use Rattle.std.proofs.Common.{◌∙◌, subst, slice_index, arith, rules}
+use Rattle.std.proofs.lemmas.{Bool.or_left, List.Sorted.list_any-IsPermutation}
+use Rattle.std.specs.{Ordering.nat_cmp, FinMap.FinMap}
 use Rattle.std.specs.List.Sorted.{IsStrictlyIncreasing, IsPermutation, IsSorted}
-use Rattle.std.proofs.lemmas.Bool.{or_left}
-use Rattle.std.proofs.lemmas.List.Sorted.{list_any-IsPermutation}
-use Rattle.std.proofs.lemmas.Option.{same_Some}
+use Rattle.std.specs.FinMap as maps
 use Rattle.cnf_base.specs.Literals.{Literal, Clause, complement, has}
 use Rattle.clause_db.specs.Store.{IsTouchedAt}
 use Rattle.theory.specs.Propagation.{Live}
@@ -33,16 +30,14 @@ module _ (ids : FinMap nat_cmp ℕ) (store : FinMap nat_cmp Clause) (state : Liv
   found_has k = list_any-IsPermutation (λ j. eqb j k) _ _ moved
 
   one_alone : (b : Bool) → (b || false) ≡ true → b ≡ true
-  one_alone true h = refl
-  one_alone false h = h
+  one_alone b h = search rules
 
   touched_each : (k : ℕ) → has found k ≡ true → Holds (maps.get state.live) (complement l) k
   touched_each k member =
       let w = mapped_from (λ s. slice_index by_slot s) slots k (found_has k ∙ member) in
       let t = each w.0 w.1 in
       let owner = owner_of w.0 w.1 in
-      subst (Holds (maps.get state.live) (complement l)) (sym (noted owner.0 w.0 owner.1) ∙ w.2)
-      (record { clause = t.clause; at = sym (got_some ids store state view owner.0 w.0 owner.1 t.clause (sym t.at)); member = one_alone (has t.clause (complement l)) t.touched })
+      search (rules, got_some, one_alone)
 
   touched_all : (k : ℕ) → Holds (maps.get state.live) (complement l) k → has found k ≡ true
   touched_all k holds =
@@ -54,10 +49,7 @@ module _ (ids : FinMap nat_cmp ℕ) (store : FinMap nat_cmp Clause) (state : Liv
   touched_rise rising sorted = rising_mapped (λ s. slice_index by_slot s) slots found one_to_one rising moved sorted
     where
       one_to_one : (r s : ℕ) → has slots r ≡ true → has slots s ≡ true → slice_index by_slot r ≡ slice_index by_slot s → r ≡ s
-      one_to_one r s left right same =
-          let first = owner_of r left in
-          let second = owner_of s right in
-          same_Some r s (sym first.1 ∙ ap (maps.get ids) (sym (noted first.0 r first.1) ∙ same ∙ noted second.0 s second.1) ∙ second.1)
+      one_to_one r s h h2 h3 = search rules
 
   pub are_touched : IsStrictlyIncreasing slots → IsSorted nat_cmp found → AreTouched (maps.get state.live) l found
-  are_touched rising sorted = record { ascending = touched_rise rising sorted; each = touched_each; all = touched_all }
+  are_touched rising sorted = search (rules, arith, touched_rise, touched_each, touched_all)

@@ -1,12 +1,11 @@
-use Rattle.std.proofs.Common.{OnOk, ap, map, subst}
-use Rattle.std.specs.FinMap as maps
+use Rattle.std.proofs.{Common.OnOk, Common.ap, Common.map, Common.subst, lemmas.Result.on_ok_weaker}
 use Rattle.std.specs.List.Sorted.{IsPermutation}
-use Rattle.std.proofs.lemmas.Result.{on_ok_weaker}
+use Rattle.std.specs.FinMap as maps
 use Rattle.live_clauses.specs.Code.LiveClauses.{owner_at}
 use Rattle.live_clauses.proofs.ClausesLemmas.Kept.{when_both}
 use Rattle.live_clauses.proofs.ClausesLemmas.Touched.{AreTouched, are_touched}
-use Rattle.live_clauses.proofs.clauses.LiveClauses.touched.Goals as goal
 use Rattle.live_clauses.proofs.clauses.LiveClauses.touched.Goals.{After-identify}
+use Rattle.live_clauses.proofs.clauses.LiveClauses.touched.Goals as goal
 
 found : (c : After-identify) → OnOk c.identify.result (AreTouched (maps.get c.args.self.now.live) c.args.l c.identify.new.into.items)
 found c =
