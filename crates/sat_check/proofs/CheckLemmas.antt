@@ -1,47 +1,40 @@
 -- A check, step by step.
-use Rattle.theory.specs.Verdicts.{system_of}
+use Rattle.theory.specs.{Verdicts.system_of, Losses.LostBySteps}
+use Rattle.theory.specs.Rules.{Rule, after, sum_of, IsFinite}
+use Rattle.theory.proofs.LawLemmas.Existence.{after_finite, same_finite}
 use Rattle.std.proofs.Common.{◌≡◌, ℕ, ◌+◌, ◌≤◌, Bool, true, false, Option, None, Some, List, []}
-use Rattle.std.proofs.Common.{◌++◌, refl, sym, ap, ◌∙◌, subst, arith, append_assoc, ◌⊎◌}
-use Rattle.std.proofs.Common.{inl, inr}
+use Rattle.std.proofs.Common.{◌++◌, refl, sym, ap, ◌∙◌, subst, arith, append_assoc, inr, rules}
 use Rattle.std.specs.Prelude.{Result, Ok, Err}
 use Rattle.cnf_base.specs.Stream.{Input, Suffix, from_start, Reader, Stream, Along, unread_stream}
 use Rattle.cnf_base.specs.Stream.{bytes_read}
 use Rattle.cnf_base.specs.Seen.{Seen, IsSeen}
-use Rattle.cnf_base.specs.Lines.{Sink, Writes}
-use Rattle.cnf_base.specs.declared.fault.Fault.{Fault}
+use Rattle.cnf_base.specs.{Lines.Sink, Lines.Writes, declared.fault.Fault.Fault}
 use Rattle.cnf_base.specs.declared.fault.Fault.TheVariants.{Text, Binary, ReadFailed, OutOfMemory}
 use Rattle.cnf_base.proofs.LineLemmas.{Writes-then}
 use Rattle.cnf_base.proofs.StreamLemmas.{Along-then, Along-map, Along-none, Along-within}
 use Rattle.cnf_base.proofs.SeenLemmas.{Seen-nothing, Seen-run, Seen-fact}
 use Rattle.dimacs.specs.Formula.{formula_of}
-use Rattle.proofs.specs.Steps.{Step}
-use Rattle.proofs.specs.declared.step_end.StepEnd.{StepEnd}
+use Rattle.proofs.specs.{Steps.Step, declared.step_end.StepEnd.StepEnd}
 use Rattle.proofs.specs.Reading.{ProofReading, Proof, with_step, IsFaulty, GivesStep, PassesNoEnd}
 use Rattle.steps.specs.ProofSession.{View, is_over}
-use Rattle.theory.specs.Losses.{LostBySteps}
-use Rattle.theory.specs.Rules.{Rule, after, sum_of, IsFinite}
-use Rattle.sat_check.specs.FormulaReach.{ReadsNoFurtherThanFault}
-use Rattle.sat_check.specs.Code.Reach.{IsVerdict}
-use Rattle.sat_check.specs.Reach.{ReadsNoFurther, TellsFault, TellsWhy}
-use Rattle.sat_check.specs.Report.{Report, Outcome, Reports, text_of, with_lines}
-use Rattle.sat_check.specs.Code.Checking.{end_report}
-use Rattle.sat_check.specs.Code.Checking.{Standing, Rest, GoesOn, Stops, IsRefused, LeavesRest}
-use Rattle.sat_check.specs.Code.Checking.{LeavesProof, AllReports, RunsInto, counted, traced}
-use Rattle.sat_check.specs.Code.Writer.{LeavesWriter}
-use Rattle.sat_check.proofs.ShownLemmas.{traced_same}
-use Rattle.sat_check.specs.declared.checked.Checked.{Checked}
+use Rattle.sat_check.specs.{FormulaReach.ReadsNoFurtherThanFault, Code.Reach.IsVerdict}
+use Rattle.sat_check.specs.Code.Checking.{end_report, Standing, Rest, GoesOn, Stops, IsRefused}
+use Rattle.sat_check.specs.Code.Checking.{LeavesRest, LeavesProof, AllReports, RunsInto, counted}
+use Rattle.sat_check.specs.Code.Checking.{traced}
+use Rattle.sat_check.specs.{Code.Writer.LeavesWriter, Reach.ReadsNoFurther, Reach.TellsFault}
+use Rattle.sat_check.specs.{Reach.TellsWhy, Report.Report, Report.Outcome, Report.Reports}
+use Rattle.sat_check.specs.{Report.text_of, Report.with_lines, declared.checked.Checked.Checked}
 use Rattle.sat_check.specs.declared.input_fault.InputFault.TheVariants as of
-use Rattle.report.specs.declared.status.Status.TheVariants.{NotVerified, Malformed}
-use Rattle.report.specs.declared.status.Status.TheVariants.{OutOfMemory as NoMemory, WriteFailed}
-use Rattle.report.specs.declared.status.Status.TheVariants.{ReadFailed as NoRead}
+use Rattle.sat_check.proofs.ShownLemmas.{traced_same}
 use Rattle.sat_check.proofs.OutcomeLemmas.{Outcome-after, Writes-all, Writes-still, text_of-append}
 use Rattle.sat_check.proofs.ReadLemmas.{unread_fault}
 use Rattle.sat_check.proofs.ReachLemmas.{no_verdict, LeavesRest-none, LeavesRest-broken}
-use Rattle.sat_check.proofs.ReachLemmas.{TellsFault-none, TellsLoss-none}
-use Rattle.sat_check.proofs.ReachLemmas.{LeavesRest-decided, LeavesRest-step}
+use Rattle.sat_check.proofs.ReachLemmas.{TellsFault-none, TellsLoss-none, LeavesRest-decided}
+use Rattle.sat_check.proofs.ReachLemmas.{LeavesRest-step}
 use Rattle.sat_check.proofs.ReportLemmas.{some_report}
 use Rattle.sat_check.proofs.RestLemmas.{Rest-clean, Rest-fault, Rest-some, Rest-step}
-use Rattle.theory.proofs.LawLemmas.Existence.{after_finite, same_finite}
+use Rattle.report.specs.declared.status.Status.TheVariants.{NotVerified, Malformed}
+use Rattle.report.specs.declared.status.Status.TheVariants.{OutOfMemory as NoMemory}
 
 abbrev pub fresh_reading : Stream → ProofReading
 fresh_reading s = record { stream = s; kept = None; step_end = None; stored = 0 }
@@ -56,8 +49,7 @@ pub record Checking (trace : Bool) (start now : Standing) (first session : View)
   pub count : ℕ
   pub counts : accepted ≡ counted count
   pub written : List (List ℕ)
-  pub run : Along start.stream now.stream (λ i j. ((r : Report) → Rest trace session.state count session.peak (now.to_come j) r
-      → Rest trace first.state 0 first.peak (start.to_come i) (with_lines written r)) × Leaves first (start.to_come i) session (now.to_come j))
+  pub run : Along start.stream now.stream (λ i j. ((r : Report) → Rest trace session.state count session.peak (now.to_come j) r → Rest trace first.state 0 first.peak (start.to_come i) (with_lines written r)) × Leaves first (start.to_come i) session (now.to_come j))
   pub wrote : Writes was lines (text_of written)
   pub whole : lines.is_broken ≡ false
   pub sound : is_over session ≡ false
@@ -67,9 +59,7 @@ pub record Checking (trace : Bool) (start now : Standing) (first session : View)
 
 -- what has this fault, wherever that ends
 IsFaulty-is : (f : Fault) (p : Proof) → IsFaulty f p → p ≡ record { steps = []; fault = Some f; fault_end = p.fault_end }
-IsFaulty-is f p is =
-    ap (λ s. record { steps = s; fault = p.fault; fault_end = p.fault_end }) is.no_step
-    ∙ ap (λ x. record { steps = []; fault = x; fault_end = p.fault_end }) is.fault
+IsFaulty-is f p is = search rules
 
 pub Checking-start : (trace : Bool) (start : Standing) (first : View) (was : Sink) → was.is_broken ≡ false → is_over first ≡ false
     → IsFinite first.state → sum_of first.state ≤ first.peak → Checking trace start start first first 0 was was
@@ -214,9 +204,7 @@ module _ (trace : Bool) (start now new : Standing) (first session : View) (accep
 pub step_told : (now new : Standing) (result answer : Result Bool Fault) (end : Option StepEnd) (s : Step)
     → Along now.stream new.stream (λ i j. GivesStep result end s (now.to_come i) (new.to_come j) j × PassesNoEnd (now.to_come i) j)
     → result ≡ answer → Along now.stream new.stream (λ i j. GivesStep answer end s (now.to_come i) (new.to_come j) j × PassesNoEnd (now.to_come i) j)
-step_told now new result answer end s gives is =
-    let P : Result Bool Fault → Type 0 = λ r. Along now.stream new.stream (λ i j. GivesStep r end s (now.to_come i) (new.to_come j) j × PassesNoEnd (now.to_come i) j) in
-    subst P is gives
+step_told now new result answer end s gives is = search rules
 
 -- ---- A whole proof
 
@@ -245,29 +233,12 @@ pub runs_nothing : (rule : Rule) (trace : Bool) (steps : Input → Proof) (formu
     → checked ≡ record { status = NoMemory; refused = None; literal_lost = false; fault = None; unmet = None } → ((r : Report) → Outcome NoMemory was.held now.held r) → LeavesWriter NoMemory was now
     → RunsInto rule trace steps formula formula proof new was now checked
 runs_nothing rule trace steps formula proof new checked was now same is o writer =
-    let gone : Checked = record { status = NoMemory; refused = None; literal_lost = false; fault = None; unmet = None } in
-    let P : Checked → Type 0 = λ c. RunsInto rule trace steps formula formula proof new was now c in
-    subst P (sym is) (record {
-      report = reports_nothing rule trace steps formula proof new gone was now same refl refl o refl (λ e. let bad : NoMemory ≡ Malformed = e in cc);
-      read_failed = λ e. absurd (let bad : NoMemory ≡ NoRead = e in cc);
-      write_failed = λ e. absurd (let bad : NoMemory ≡ WriteFailed = e in cc);
-      writer = writer;
-    })
+    search (rules, arith, reports_nothing)
 
 -- what was left of a proof, and that no more than 65536 bytes were read past what was taken, say how far it was read
 reads_no_further : (rule : Rule) (i : Input) (k : Suffix) (p : Proof) (old new : Reader) (checked : Checked) → LeavesProof rule (formula_of i).fault (formula_of i).clauses p old new k checked
     → bytes_read old new + 0 ≤ k.offset + 65536 → ReadsNoFurther (system_of rule) (formula_of i) p old new
-reads_no_further rule i k p old new checked leaves within = record {
-  unread = leaves.unread;
-  past = λ words ending last whole e d. by last.offset (leaves.past words ending last whole e d);
-  fault = λ offset e. by offset (leaves.past_fault offset e);
-}
-  where
-    by : (offset : ℕ) → (new ≡ old) ⊎ (k.offset ≤ offset) → bytes_read old new ≤ offset + 65536
-    by offset (inl same) =
-        let P : Reader → Type 0 = λ r. bytes_read old r ≤ offset + 65536 in
-        subst P (sym same) (omega arith)
-    by offset (inr left) = omega (arith, left, within)
+reads_no_further rule i k p old new checked leaves within = search rules
 
 -- a reader that was fresh was read
 module _ (rule : Rule) (trace : Bool) (to_come : ProofReading → Suffix → Proof) (steps : Input → Proof) (formula formula_new proof : Reader) (borrows : List ℕ) (source last : Stream) (new : Reader) (checked : Checked) (was now : Sink)

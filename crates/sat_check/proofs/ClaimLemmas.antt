@@ -1,16 +1,11 @@
 -- The claim of a solver's output, as the grammar of the output has it.
-use Rattle.std.proofs.Common.{◌≡◌, ℕ, List, reverse, refl, sym, ap, ◌∙◌, subst}
-use Rattle.std.specs.Prelude.{Result, Ok, Err, IfOk}
+use Rattle.std.proofs.Common.{◌≡◌, ℕ, List, reverse, refl, sym, ap, ◌∙◌, subst, arith, rules}
 use Rattle.std.proofs.lemmas.List.{reverse-reverse}
 use Rattle.std.proofs.lemmas.List.Sorted.{IsPermutation-reverse, list_any-IsPermutation}
-use Rattle.cnf_base.specs.Grammar.{word_lines}
-use Rattle.cnf_base.specs.Literals.{Literal, complement, has}
-use Rattle.cnf_base.specs.Printing.{input_of}
-use Rattle.cnf_base.specs.Stream.{Input}
-use Rattle.cnf_base.specs.declared.fault.Fault.{Fault}
-use Rattle.dimacs.specs.Claim.{claim_of, IsConsistent}
-use Rattle.dimacs.specs.Grammar.{ModelText}
-use Rattle.dimacs.specs.Printing.{IsModel}
+use Rattle.std.specs.Prelude.{Result, Ok, IfOk}
+use Rattle.cnf_base.specs.{Grammar.word_lines, Literals.Literal, Literals.complement, Literals.has}
+use Rattle.cnf_base.specs.{Printing.input_of, Stream.Input, declared.fault.Fault.Fault}
+use Rattle.dimacs.specs.{Claim.claim_of, Claim.IsConsistent, Grammar.ModelText, Printing.IsModel}
 use Rattle.dimacs.proofs.ModelGrammar.{model_grammar}
 use Rattle.sat_check.proofs.EndingLemmas.{claim_ends}
 
@@ -21,8 +16,7 @@ has_reverse ls l = sym (list_any-IsPermutation _ ls (reverse ls) (IsPermutation-
 -- the literals of a claim, in the order in which they are written
 pub claim_text : (bytes : List ℕ) (listed : List Literal) → claim_of (input_of bytes) ≡ Ok listed
     → IsModel (reverse listed) × ModelText (word_lines bytes) (reverse listed)
-claim_text bytes listed ok =
-    model_grammar.read_is_written bytes (reverse listed)
+claim_text bytes listed ok = model_grammar.read_is_written bytes (reverse listed)
     (ok ∙ ap (λ ls. Ok ls) (sym (reverse-reverse listed)))
 
 -- a claim holds no complements
@@ -39,5 +33,4 @@ claim_consistent i = by (claim_of i) refl
         λ l h. sym (has_reverse listed (complement l)) ∙ consistent l (has_reverse listed l ∙ h)
 
     by : (r : Result (List Literal) Fault) → claim_of i ≡ r → IfOk r IsConsistent
-    by (Ok listed) ok = of_listed listed ok
-    by (Err f) ok = tt
+    by r h = search (rules, arith, of_listed)

@@ -1,29 +1,25 @@
 -- A formula is judged by listed literals, clause by clause.
-use Rattle.std.proofs.Common.{◌≡◌, ℕ, ◌+◌, ◌-◌, ◌≤◌, cond, Bool, true, false, List, []}
-use Rattle.std.proofs.Common.{◌∷◌, ◌++◌, length, Option, None, Some, refl, sym, ap, ◌∙◌, subst}
-use Rattle.std.proofs.Common.{arith}
-use Rattle.std.specs.Prelude.{Result, Ok, Err, slice_get}
+use Rattle.std.proofs.Common.{◌≡◌, ℕ, ◌+◌, ◌-◌, ◌≤◌, cond, Bool, true, false, List, [], ◌∷◌, ◌++◌}
+use Rattle.std.proofs.Common.{length, Option, None, Some, refl, sym, ap, ◌∙◌, subst, arith, rules}
 use Rattle.std.proofs.lemmas.Option.{none-some}
-use Rattle.cnf_base.specs.Literals.{Literal, Clause}
-use Rattle.cnf_base.specs.Code.Seen.{OfSeen}
-use Rattle.cnf_base.specs.Stream.{Input, Suffix, Reader, Stream, Along, unread_stream, bytes_read}
+use Rattle.std.specs.Prelude.{Result, Ok, Err, slice_get}
+use Rattle.cnf_base.specs.{Literals.Literal, Literals.Clause, Code.Seen.OfSeen}
+use Rattle.cnf_base.specs.Stream.{Input, Suffix, Reader, Stream, Along, unread_stream}
 use Rattle.cnf_base.specs.declared.fault.Fault.{Fault}
 use Rattle.cnf_base.specs.declared.fault.Fault.TheVariants.{Text, Binary, ReadFailed, OutOfMemory}
 use Rattle.cnf_base.proofs.StreamLemmas.{Along-then, Along-map}
-use Rattle.dimacs.specs.Formula.{Body, Formula, formula_at, formula_of, ends_at}
+use Rattle.dimacs.specs.Formula.{Body, Formula, formula_at, formula_of, ends_at, opened}
 use Rattle.dimacs.specs.Reading.{FormulaReading, clauses_to_come, ends_to_come, unopened}
-use Rattle.dimacs.specs.Formula.{opened}
 use Rattle.dimacs.specs.Reading.{PassesNoEnd}
-use Rattle.sat_check.specs.FormulaReach.{ReadsNoFurtherThanFault}
-use Rattle.sat_check.specs.ModelReport.{meets, first_unmet}
-use Rattle.sat_check.specs.Code.FormulaReach.{LeavesFault}
+use Rattle.sat_check.specs.{FormulaReach.ReadsNoFurtherThanFault, ModelReport.meets}
+use Rattle.sat_check.specs.{ModelReport.first_unmet, Code.FormulaReach.LeavesFault}
 use Rattle.sat_check.specs.Code.Judging.{Judges, LeavesUnmet, ReadsToUnmet}
 use Rattle.sat_check.specs.declared.judgement.Judgement.{Judgement}
 use Rattle.sat_check.specs.declared.judgement.Judgement.TheVariants.{Met, Unmet}
 use Rattle.sat_check.proofs.ReadLemmas.{length_push, with_clauses, seen_nothing, past_first}
-use Rattle.sat_check.proofs.ReadLemmas.{fault_left, unread_fault}
-use Rattle.sat_check.proofs.ReadLemmas.{seen_within, seen_map, Reads, Gave, NonePassed, FaultAfter}
-use Rattle.sat_check.proofs.ReadLemmas.{Reads-start, Reads-clause, Reads-done, Reads-fault}
+use Rattle.sat_check.proofs.ReadLemmas.{fault_left, unread_fault, seen_within, seen_map, Reads}
+use Rattle.sat_check.proofs.ReadLemmas.{Gave, NonePassed, FaultAfter, Reads-start, Reads-clause}
+use Rattle.sat_check.proofs.ReadLemmas.{Reads-done, Reads-fault}
 
 -- after clauses that are met, the first that isn't is one of those that follow
 first_unmet-append : (k : ℕ) (listed : List Literal) (cs ds : List Clause) → first_unmet k listed cs ≡ None
@@ -43,8 +39,7 @@ unmet_least k listed [] m h = absurd (none-some m h)
 unmet_least k listed (c ∷ cs) m h = by (meets listed c) h (λ g. unmet_least (k + 1) listed cs m g)
   where
     by : (b : Bool) → cond b (first_unmet (k + 1) listed cs) (Some k) ≡ Some m → (first_unmet (k + 1) listed cs ≡ Some m → k + 1 ≤ m) → k ≤ m
-    by true h next = let later = next h in omega (arith, later)
-    by false h next = let e : Some k ≡ Some m = h in let same : k ≡ m = cc in omega (arith, same)
+    by b h h2 = search rules
 
 -- after clauses that are met, where no end of the others was passed, that of the first one that isn't met wasn't
 not_passed : (listed : List Literal) (read : List Clause) (old : FormulaReading) (i k : Suffix) → first_unmet 1 listed read ≡ None → NonePassed old read i k
@@ -116,10 +111,7 @@ module _ (listed : List Literal) (old now new : FormulaReading) (met : ℕ) (so_
       )))
     where
       by : (f : Fault) (b : Body) → FaultAfter so_far.clauses f b → Judges listed (Err f) b.clauses b.fault
-      by (Text k p) b e = (ap (λ b. first_unmet 1 listed b.clauses) e ∙ so_far.all, ap (λ b. b.fault) e)
-      by (Binary k n) b e = (ap (λ b. first_unmet 1 listed b.clauses) e ∙ so_far.all, ap (λ b. b.fault) e)
-      by ReadFailed b e = (ap (λ b. first_unmet 1 listed b.clauses) e ∙ so_far.all, ap (λ b. b.fault) e)
-      by OutOfMemory b e = tt
+      by f b h = search rules
 
 -- ---- A whole formula
 
@@ -131,16 +123,12 @@ AllJudges listed left new result = OfSeen left new (λ i. JudgesFormula listed r
 
 -- where nothing was read no end was passed
 pub unread_unmet : (listed : List Literal) (i : Input) (left new : Reader) → left ≡ new → ReadsToUnmet listed i left new
-unread_unmet listed i left new same k offset unmet at =
-    let P : Reader → Type 0 = λ r. bytes_read left r ≤ offset + 65536 in
-    subst P same (omega arith)
+unread_unmet listed i left new same k offset unmet at = search rules
 
 -- nothing was read
 pub judges_refused : (listed : List Literal) (left new : Reader) (result : Result Judgement Fault) → left ≡ new → result ≡ Err OutOfMemory → AllJudges listed left new result
 judges_refused listed left new result same is =
-    let P : Result Judgement Fault → Type 0 = AllJudges listed left new in
-    subst P (sym is) (seen_nothing (λ i. JudgesFormula listed (Err OutOfMemory) (formula_of i) × ReadsToUnmet listed i left new × ReadsNoFurtherThanFault i left new) left new same
-    (λ i. (tt, unread_unmet listed i left new same, unread_fault i left new same)))
+    search (rules, arith, seen_nothing, unread_unmet, unread_fault)
 
 module _ (listed : List Literal) (left : Reader) (borrows : List ℕ) (source : Stream) (is : source ≡ unread_stream left borrows)
     (last : Stream) (new : Reader) (kept : new ≡ last.reader) where

@@ -1,42 +1,28 @@
 -- Clauses go into a session one by one.
 use Rattle.std.proofs.Common.{◌≡◌, ℕ, zero, suc, ◌+◌, ◌≤◌, max, Bool, true, false, ◌||◌, List, []}
-use Rattle.std.proofs.Common.{◌∷◌, ◌++◌, length, Some, refl, sym, ap, ◌∙◌, subst, arith, cond}
-use Rattle.std.specs.Prelude.{Result, Ok, Err}
-use Rattle.std.specs.List.{list_any}
-use Rattle.std.specs.Ordering.{nat_cmp}
+use Rattle.std.proofs.Common.{◌∷◌, ◌++◌, length, Some, sym, ap, ◌∙◌, subst, arith, rules}
+use Rattle.std.proofs.lemmas.{Option.none-some, List.Folds.list_any-append, List.Sums.sum_by-append}
+use Rattle.std.specs.{Prelude.Result, Prelude.Ok, Prelude.Err, Ordering.nat_cmp, FinMap.get-empty}
 use Rattle.std.specs.FinMap as maps
-use Rattle.std.specs.FinMap.{get-empty}
-use Rattle.std.proofs.lemmas.Option.{none-some}
-use Rattle.std.proofs.lemmas.List.Folds.{list_any-append}
-use Rattle.std.proofs.lemmas.List.Sums.{sum_by-append}
-use Rattle.cnf_base.specs.Literals.{Clause, same_clause, size}
-use Rattle.cnf_base.specs.Code.Seen.{OfSeen}
+use Rattle.cnf_base.specs.{Literals.Clause, Literals.same_clause, Literals.size, Code.Seen.OfSeen}
 use Rattle.cnf_base.specs.Stream.{Suffix, Reader, Stream, Along, unread_stream}
 use Rattle.cnf_base.specs.declared.place.Place.{Place}
-use Rattle.cnf_base.specs.declared.fault.Fault.{Fault}
-use Rattle.cnf_base.specs.declared.fault.Fault.TheVariants.{Text, Binary, ReadFailed, OutOfMemory}
-use Rattle.cnf_base.proofs.StreamLemmas.{Along-then, Along-map}
-use Rattle.dimacs.specs.Formula.{Body, Formula, formula_at, formula_of, ends_at}
+use Rattle.cnf_base.specs.declared.fault.Fault.{Fault, TheVariants.OutOfMemory}
+use Rattle.cnf_base.proofs.{StreamLemmas.Along-then, StreamLemmas.Along-map, SetLemmas.same_itself}
+use Rattle.dimacs.specs.Formula.{Body, Formula, formula_at, formula_of, ends_at, opened}
 use Rattle.dimacs.specs.declared.header.Header.{Header}
 use Rattle.dimacs.specs.Reading.{FormulaReading, clauses_to_come, ends_to_come, unopened}
-use Rattle.dimacs.specs.Formula.{opened}
 use Rattle.dimacs.specs.Reading.{PassesNoEnd}
-use Rattle.steps.specs.Session.{SessionState, fresh, view_of}
+use Rattle.steps.specs.{Session.SessionState, Session.fresh, Session.view_of, ProofSession.View}
 use Rattle.theory.specs.Rules.{Rule, lrat, drat, State, by_ids, by_copies, start, with_input}
 use Rattle.theory.specs.Rules.{sum_of, Same, rule_of}
 use Rattle.theory.specs.Lrat.{with_clause, numbered, lrat_start}
-use Rattle.theory.proofs.LawLemmas.Existence.{numbered_above}
-use Rattle.theory.specs.Sizes.{total, size_at, sum_to}
-use Rattle.steps.specs.ProofSession.{View}
-use Rattle.theory.specs.Verdicts.{is_empty}
+use Rattle.theory.specs.{Sizes.total, Sizes.size_at, Sizes.sum_to, Verdicts.is_empty}
+use Rattle.theory.proofs.LawLemmas.{Existence.numbered_above, Rules.same_trans, Rules.sum_same}
 use Rattle.theory.proofs.DratLemmas.Copies.{copies-cons, none_alive}
-use Rattle.cnf_base.proofs.SetLemmas.{same_itself}
+use Rattle.theory.proofs.LratLemmas.{LiveSets.SameClauses-eq, SameSets.with_same}
+use Rattle.theory.proofs.LratLemmas.{States.numbered_push, Sums.sum_with}
 use Rattle.drat_steps.proofs.DratLemmas.Steps.{none_listed}
-use Rattle.theory.proofs.LratLemmas.LiveSets.{SameClauses-trans, SameClauses-eq}
-use Rattle.theory.proofs.LawLemmas.Rules.{same_trans, sum_same}
-use Rattle.theory.proofs.LratLemmas.SameSets.{with_same}
-use Rattle.theory.proofs.LratLemmas.States.{numbered_push}
-use Rattle.theory.proofs.LratLemmas.Sums.{sum_with}
 use Rattle.sat_check.specs.FormulaReach.{ReadsNoFurtherThanFault}
 use Rattle.sat_check.specs.Code.Checking.{IsLoaded, LoadsBody, Loads}
 use Rattle.sat_check.specs.Code.FormulaReach.{LeavesFault}
@@ -47,37 +33,21 @@ use Rattle.sat_check.proofs.ReadLemmas.{Reads-fault, fault_left, opened_left, un
 -- no clause has a number past the last
 -- one clause more, and its size more
 total_push : (cs : List Clause) (c : Clause) → total (lrat_start (cs ++ c ∷ [])) ≡ total (lrat_start cs) + size c
-total_push cs c =
-    ap (λ n. sum_to n (λ k. size_at (numbered (cs ++ c ∷ []) k))) (length_push cs c)
+total_push cs c = ap (λ n. sum_to n (λ k. size_at (numbered (cs ++ c ∷ []) k))) (length_push cs c)
     ∙ sum_with (numbered cs) (numbered (cs ++ c ∷ [])) (length cs) (length cs + 1) c (omega arith) (numbered_above cs) (λ k. sym (numbered_push cs c k))
 
 sum_push : (rule : Rule) (cs : List Clause) (c : Clause) → sum_of (start rule cs) ≤ sum_of (start rule (cs ++ c ∷ []))
-sum_push lrat cs c = omega (arith, total_push cs c)
-sum_push (drat rules) cs c = let more = sum_by-append size cs (c ∷ []) in omega (arith, more)
+sum_push rule cs c = search (rules, arith, total_push, sum_by-append)
 
 -- the next clause of a formula
 start_push : (rule : Rule) (cs : List Clause) (c : Clause) → Same (with_input (start rule cs) c) (start rule (cs ++ c ∷ []))
 start_push lrat cs c =
     (SameClauses-eq (with_clause (numbered cs) (length cs + 1) c) (numbered (cs ++ c ∷ [])) (numbered_push cs c), sym (length_push cs c))
-start_push (drat rules) cs c = (
-  refl,
-  record {
-    copies = λ e.
-        let last = copies-cons e c [] in
-        let front = copies-cons e c cs in
-        let all = sum_by-append (λ d. cond (same_clause e d) 1 0) cs (c ∷ []) in
-        omega (arith, last, front, all);
-  },
-)
+start_push (drat rules) cs c = search (rules, arith, copies-cons, sum_by-append)
 
 input_same : (s t : State) (c : Clause) → Same s t → Same (with_input s c) (with_input t c)
-input_same (by_ids s) (by_ids t) c same = (
-  SameClauses-trans _ _ _ (with_same s.live t.live (s.top + 1) c c same.0 (same_itself c))
-      (SameClauses-eq (with_clause t.live (s.top + 1) c) (with_clause t.live (t.top + 1) c) (λ k. ap (λ n. with_clause t.live (n + 1) c k) same.1)),
-  ap (λ n. n + 1) same.1,
-)
-input_same (by_copies a x) (by_copies b y) c same =
-    (same.0, record { copies = λ e. copies-cons e c x ∙ ap (λ n. cond (same_clause e c) 1 0 + n) (same.1.copies e) ∙ sym (copies-cons e c y) })
+input_same (by_ids s) (by_ids t) c same = search (rules, arith, with_same, same_itself)
+input_same (by_copies a x) (by_copies b y) c same = search (rules, arith, copies-cons)
 input_same (by_ids s) (by_copies b y) c same = absurd same
 input_same (by_copies a x) (by_ids t) c same = absurd same
 
@@ -87,26 +57,19 @@ pub loaded_more : (rule : Rule) (old new : View) (cs : List Clause) (c : Clause)
     → new.has_stepped ≡ false → new.is_ended ≡ false → new.has_lost_literal ≡ old.has_lost_literal → old.room ≤ new.room + 1 → IsLoaded rule new (cs ++ c ∷ [])
 loaded_more rule old new cs c l state verified peak unstepped sound reason room = record {
   state = same;
-  verified = verified ∙ ap (λ b. b || is_empty c) l.verified ∙ or_false (list_any is_empty cs) (is_empty c) ∙ sym (list_any-append is_empty cs (c ∷ []));
+  verified = search (rules, arith, list_any-append);
   sound = sound;
   unstepped = unstepped;
   none_lost = reason ∙ l.none_lost;
-  peak =
-      let new_sum = sum_same new.state (start rule (cs ++ c ∷ [])) same in
-      let more = sum_push rule cs c in
-      let was = l.peak in
-      omega (arith, peak, new_sum, more, was);
+  peak = grind (arith, (sum_same new.state (start rule (cs ++ c ∷ [])) same), (sum_push rule cs c));
   room = let was = l.room in let count = length_push cs c in omega (arith, was, count, room);
 }
   where
     or_false : (a b : Bool) → (a || b) ≡ (a || (b || false))
-    or_false true b = refl
-    or_false false true = refl
-    or_false false false = refl
+    or_false a b = search rules
 
     same : Same new.state (start rule (cs ++ c ∷ []))
-    same =
-        same_trans _ (with_input old.state c) _ state
+    same = same_trans _ (with_input old.state c) _ state
         (same_trans _ (with_input (start rule cs) c) _ (input_same old.state (start rule cs) c l.state) (start_push rule cs c))
 
 -- a session that is new
@@ -122,26 +85,14 @@ unused rule s is = let P : SessionState → Type 0 = λ s. IsLoaded (rule_of (vi
 
     none_held : (rule : Rule) → Same (view_of (fresh rule)).state
         (start (rule_of (view_of (fresh rule)).state) [])
-    none_held lrat =
-        (SameClauses-eq (maps.get (fresh lrat).held.live) (numbered []) none_numbered, refl)
-    none_held (drat rules) =
-        let live = (fresh lrat).held.live in
-        (refl, record { copies = λ e. none_alive e (maps.values live) (none_listed live e (none_there e)) })
+    none_held lrat = search (rules, arith, none_numbered)
+    none_held (drat rules) = search (arith, none_alive, none_listed, none_there)
 
     no_sum : (rule : Rule) → 0 ≡ sum_of (start (rule_of (view_of (fresh rule)).state) [])
-    no_sum lrat = refl
-    no_sum (drat rules) = refl
+    no_sum rule = search rules
 
     by : (rule : Rule) → IsLoaded (rule_of (view_of (fresh rule)).state) (view_of (fresh rule)) []
-    by rule = record {
-      state = none_held rule;
-      verified = refl;
-      sound = refl;
-      unstepped = refl;
-      none_lost = refl;
-      peak = no_sum rule;
-      room = omega arith;
-    }
+    by rule = search (rules, arith, none_held, no_sum)
 
 -- ---- A formula's clauses
 
@@ -169,18 +120,14 @@ module _ (rule : Rule) (old now new : FormulaReading) (s : View) (so_far : Loadi
       let P : List Clause → Type 0 = IsLoaded rule s in
       ((ap (λ b. b.fault) e.0, subst P (sym (ap (λ b. b.clauses) e.0)) so_far.loaded), fault_left so_far.clauses old i j e.1))
 
-  pub Loading-fault : (t : View) (c : Clause) (f : Fault) (result : Result (Unit {0}) Fault) → result ≡ Err f
-      → Gave now new (Err f) c
-      → Along old.stream new.stream (Body-loaded t result)
+  pub Loading-fault : (t : View) (c : Clause) (f : Fault) (result : Result (Unit {0}) Fault)
+      → result ≡ Err f → Gave now new (Err f) c → Along old.stream new.stream (Body-loaded t result)
   Loading-fault t c f result is gives =
       let P : Result (Unit {0}) Fault → Type 0 = λ r. Along old.stream new.stream (Body-loaded t r) in
       subst P (sym is) (Along-map _ _ _ _ (Reads-fault old now new so_far.clauses so_far.reads c f gives) (λ i j m e. (by f (clauses_to_come old i) e.0, fault_left so_far.clauses old i j e.1)))
     where
       by : (f : Fault) (b : Body) → FaultAfter so_far.clauses f b → LoadsBody rule t (Err f) b
-      by (Text k p) b e = ap (λ b. b.fault) e
-      by (Binary k n) b e = ap (λ b. b.fault) e
-      by ReadFailed b e = ap (λ b. b.fault) e
-      by OutOfMemory b e = tt
+      by f b h = search rules
 
   pub Loading-refused : (t : View) (c : Clause) → Gave now new (Ok true) c
       → Along old.stream new.stream (Body-loaded t (Err OutOfMemory))
@@ -194,10 +141,7 @@ AllLoads rule s left new result = OfSeen left new (λ i. Loads rule s result (fo
 
 -- nothing was read
 pub loads_refused : (rule : Rule) (s : View) (left new : Reader) (result : Result Header Fault) → left ≡ new → result ≡ Err OutOfMemory → AllLoads rule s left new result
-loads_refused rule s left new result same is =
-    let P : Result Header Fault → Type 0 = AllLoads rule s left new in
-    subst P (sym is) (seen_nothing (λ i. Loads rule s (Err OutOfMemory) (formula_of i) × ReadsNoFurtherThanFault i left new) left new same
-    (λ i. (tt, unread_fault i left new same)))
+loads_refused rule s left new result same is = search (rules, arith, seen_nothing, unread_fault)
 
 module _ (rule : Rule) (s : View) (left : Reader) (borrows : List ℕ) (source : Stream) (is : source ≡ unread_stream left borrows) where
   -- what was loaded of a formula from a place on, and that the token at fault wasn't passed
@@ -212,16 +156,10 @@ module _ (rule : Rule) (s : View) (left : Reader) (borrows : List ℕ) (source :
       (λ i x. (x.1.0, λ offset at. let left = x.1.1 offset at in omega (arith, left, x.2)))
 
   fault_loads : (f : Fault) (x : Formula) → x.fault ≡ Some f → Loads rule s (Err f) x
-  fault_loads (Text k p) x e = e
-  fault_loads (Binary k n) x e = e
-  fault_loads ReadFailed x e = e
-  fault_loads OutOfMemory x e = tt
+  fault_loads f x h = search rules
 
   body_fault : (f : Fault) (x : Formula) (h : Header) (b : Body) → x ≡ opened h b → LoadsBody rule s (Err f) b → Loads rule s (Err f) x
-  body_fault (Text k p) x h b e l = ap (λ y. y.fault) e ∙ l
-  body_fault (Binary k n) x h b e l = ap (λ y. y.fault) e ∙ l
-  body_fault ReadFailed x h b e l = ap (λ y. y.fault) e ∙ l
-  body_fault OutOfMemory x h b e l = tt
+  body_fault f x h b h2 h3 = search rules
 
   pub loads_fault : (f : Fault) (last : Stream) (new : Reader) → new ≡ last.reader
       → Along source last (λ i j. (formula_at source.place i ≡ unopened f) × PassesNoEnd (ends_at source.place i) j) → AllLoads rule s left new (Err f)

@@ -1,55 +1,48 @@
 -- The report of a model, and what a verified one says.
 use Rattle.std.proofs.Common.{◌≡◌, ℕ, zero, suc, ◌+◌, ◌-◌, ◌<◌, ◌≤◌, ◌*◌, ◌/◌, ◌%◌, cond, Bool}
-use Rattle.std.proofs.Common.{true, false, not, ◌||◌, List, [], ◌∷◌, length, Option, None, Some}
-use Rattle.std.proofs.Common.{refl, sym, ap, ◌∙◌, subst, arith, slice_get, codes}
+use Rattle.std.proofs.Common.{true, false, not, List, [], ◌∷◌, length, Option, None, Some}
+use Rattle.std.proofs.Common.{refl, sym, ap, ◌∙◌, subst, arith, slice_get, codes, rules}
+use Rattle.std.proofs.lemmas.{Option.none-some, Bool.Decides.nat_tests}
 use Rattle.std.specs.Prelude.{Result, Ok, Err, IfOk, IsTrue, ◌==◌}
-use Rattle.std.proofs.lemmas.Option.{none-some}
-use Rattle.std.proofs.lemmas.Bool.Decides.{nat_tests}
-use Rattle.cnf_base.specs.Lines.{Sink}
-use Rattle.cnf_base.specs.Literals.{Literal, Clause, complement, has}
-use Rattle.cnf_base.specs.declared.fault.Fault.{Fault}
+use Rattle.cnf_base.specs.{Lines.Sink, Literals.Literal, Literals.Clause, Literals.complement}
+use Rattle.cnf_base.specs.{Literals.has, declared.fault.Fault.Fault}
 use Rattle.cnf_base.specs.declared.fault.Fault.TheVariants.{Text, Binary, ReadFailed, OutOfMemory}
+use Rattle.cnf_base.specs.{Seen.OfBothSeen, Stream.Input, Stream.Reader, Stream.bytes_read}
 use Rattle.cnf_base.proofs.SetLemmas.{any_from, any_some}
-use Rattle.cnf_base.specs.Seen.{OfBothSeen}
-use Rattle.cnf_base.specs.Stream.{Input, Reader, bytes_read}
 use Rattle.dimacs.specs.Claim.{claim_of, IsClaim, IsConsistent}
 use Rattle.dimacs.specs.Formula.{Formula, formula_of, ends_of}
 use Rattle.dimacs.proofs.OffsetLemmas.{ends_of-length}
 use Rattle.theory.specs.Models.{Assignment, holds, satisfies, HasModel}
 use Rattle.sat_check.specs.FormulaReach.{ReadsNoFurtherThanFault}
-use Rattle.report.specs.Lines.{a_model, fault_line, fault_status}
 use Rattle.sat_check.specs.Report.{Outcome, Report, concluded}
 use Rattle.sat_check.specs.ModelReport.{meets, first_unmet, met_report, clauses_report}
 use Rattle.sat_check.specs.ModelReport.{claim_report, model_report, Satisfies, ChecksModel}
-use Rattle.sat_check.specs.ModelReport.{ModelConsequences}
-use Rattle.sat_check.specs.ModelReport.{ReadsFormulaNoFurther, TellsModelFault, TellsUnmet, first_model_fault}
+use Rattle.sat_check.specs.ModelReport.{ModelConsequences, ReadsFormulaNoFurther, TellsModelFault}
+use Rattle.sat_check.specs.ModelReport.{TellsUnmet, first_model_fault}
 use Rattle.sat_check.specs.Reach.{TellsFault, first_fault}
-use Rattle.sat_check.specs.declared.checked.Checked.{Checked}
-use Rattle.sat_check.specs.declared.input_fault.InputFault.TheVariants as of
-use Rattle.sat_check.specs.Code.Judging.{Judges, ReadsToUnmet, judged_report, unmet_in}
-use Rattle.sat_check.specs.declared.judgement.Judgement.{Judgement}
+use Rattle.sat_check.specs.declared.{checked.Checked.Checked, judgement.Judgement.Judgement}
 use Rattle.sat_check.specs.declared.judgement.Judgement.TheVariants.{Met, Unmet}
+use Rattle.sat_check.specs.Code.Judging.{Judges, ReadsToUnmet, judged_report, unmet_in}
+use Rattle.sat_check.specs.declared.input_fault.InputFault.TheVariants as of
+use Rattle.sat_check.proofs.{JudgeLemmas.unread_unmet, ReadLemmas.unread_fault}
+use Rattle.sat_check.proofs.{OutcomeLemmas.both_told, ClaimLemmas.claim_consistent}
+use Rattle.sat_check.proofs.WrittenLemmas.{written_model}
+use Rattle.sat_check.proofs.SoundLemmas.{fault_is_no_verdict, outcome_verified, outcome_complete}
+use Rattle.report.specs.Lines.{a_model, fault_line, fault_status}
 use Rattle.report.specs.declared.status.Status.{Status}
 use Rattle.report.specs.declared.status.Status.TheVariants.{Verified, NotVerified, Malformed}
 use Rattle.report.specs.declared.status.Status.TheVariants.{OutOfMemory as NoMemory}
-use Rattle.sat_check.proofs.JudgeLemmas.{unread_unmet}
-use Rattle.sat_check.proofs.ReadLemmas.{unread_fault}
-use Rattle.sat_check.proofs.OutcomeLemmas.{both_told}
-use Rattle.sat_check.proofs.ClaimLemmas.{claim_consistent}
-use Rattle.sat_check.proofs.WrittenLemmas.{written_model}
-use Rattle.sat_check.proofs.SoundLemmas.{fault_is_no_verdict, outcome_verified, outcome_complete}
 
 -- ---- Literals that are the same set meet the same clauses
 
 meets_same : (xs ys : List Literal) → ((l : Literal) → has xs l ≡ has ys l) → (c : Clause) → meets xs c ≡ meets ys c
 meets_same xs ys same [] = refl
-meets_same xs ys same (l ∷ c) = ap (λ b. b || meets xs c) (same l) ∙ ap (λ b. has ys l || b) (meets_same xs ys same c)
+meets_same xs ys same (l ∷ c) = search rules
 
 first_unmet_same : (k : ℕ) (xs ys : List Literal) → ((l : Literal) → has xs l ≡ has ys l) → (cs : List Clause) → first_unmet k xs cs ≡ first_unmet k ys cs
 first_unmet_same k xs ys same [] = refl
 first_unmet_same k xs ys same (c ∷ cs) =
-    ap (λ b. cond b (first_unmet (k + 1) xs cs) (Some k)) (meets_same xs ys same c)
-    ∙ ap (λ u. cond (meets ys c) u (Some k)) (first_unmet_same (k + 1) xs ys same cs)
+    search (rules, meets_same, (first_unmet_same (k + 1) xs ys same cs))
 
 -- the report of a model is that of the claim
 pub claimed_report : (model : List Literal) (claim : Result (List Literal) Fault) (f : Formula) → IsClaim (Ok model) claim → claim_report (Ok model) f ≡ claim_report claim f
@@ -144,9 +137,7 @@ all_met k listed (d ∷ cs) h i c at = by (meets listed d) refl h (λ g. all_met
     by : (b : Bool) → meets listed d ≡ b → cond b (first_unmet (k + 1) listed cs) (Some k) ≡ None
         → (first_unmet (k + 1) listed cs ≡ None → (i : ℕ) (c : Clause) → slice_get cs i ≡ Some c → IsTrue (meets listed c))
         → (i : ℕ) → slice_get (d ∷ cs) i ≡ Some c → IsTrue (meets listed c)
-    by true is h next Prim.Native.Nat.zero at = let e : ◌≡◌ {A = Option Clause} (Some d) (Some c) = at in let same : d ≡ c = cc in ap (meets listed) (sym same) ∙ is
-    by true is h next (Prim.Native.Nat.suc i) at = next h i c at
-    by false is h next i at = absurd (let e : ◌≡◌ {A = Option ℕ} (Some k) None = h in cc)
+    by b h h2 h3 i h4 = search rules
 
 -- and none is where each is
 none_unmet : (k : ℕ) (listed : List Literal) (cs : List Clause) → ((i : ℕ) (c : Clause) → slice_get cs i ≡ Some c → IsTrue (meets listed c)) → first_unmet k listed cs ≡ None
@@ -156,20 +147,11 @@ none_unmet k listed (c ∷ cs) all =
 
 -- the report of a verified model comes only where its claim meets every clause, and the formula has no fault
 pub verified_satisfied : (claim : Result (List Literal) Fault) (f : Formula) → (claim_report claim f).status ≡ Verified → IfOk claim IsConsistent → Satisfies claim f.clauses × (f.fault ≡ None)
-verified_satisfied (Err e) f is consistent = absurd (fault_is_no_verdict e is)
-verified_satisfied (Ok listed) f is consistent = by (first_unmet 1 listed f.clauses) f.fault refl refl is
-  where
-    by : (u : Option ℕ) (fault : Option Fault) → first_unmet 1 listed f.clauses ≡ u → f.fault ≡ fault → (clauses_report u (record { header = f.header; clauses = f.clauses; fault = fault })).status ≡ Verified → Satisfies (Ok listed) f.clauses × (f.fault ≡ None)
-    by (Some k) fault e whole is = absurd (let bad : NotVerified ≡ Verified = is in cc)
-    by None (Some x) e whole is = absurd (fault_is_no_verdict x is)
-    by None None e whole is = (record { listed = listed; claimed = refl; consistent = consistent; met = all_met 1 listed f.clauses e }, whole)
+verified_satisfied claim f h h2 = search (rules, fault_is_no_verdict, all_met)
 
 -- and of such a claim and formula it is the report
 pub satisfied_verified : (claim : Result (List Literal) Fault) (f : Formula) → f.fault ≡ None → Satisfies claim f.clauses → (claim_report claim f).status ≡ Verified
-satisfied_verified claim f whole s =
-    ap (λ c. (claim_report c f).status) s.claimed
-    ∙ ap (λ u. (clauses_report u f).status) (none_unmet 1 s.listed f.clauses s.met)
-    ∙ ap (λ o. (met_report (length f.clauses) o).status) whole
+satisfied_verified claim f whole s = search (rules, none_unmet)
 
 -- Consistent literals give an assignment: what is listed is true, and no other variable is.
 abbrev pub assigned : List Literal → Assignment
@@ -207,7 +189,7 @@ model_consequences : (i j : Input) (old new : Option (List ℕ)) (status : Statu
 model_consequences i j old new status o = record {
   whole = λ is. (said (outcome_verified status old new (model_report i j) is o)).1;
   satisfied = λ is. (said (outcome_verified status old new (model_report i j) is o)).0;
-  complete = λ whole s. outcome_complete status old new (model_report i j) (satisfied_verified (claim_of j) (formula_of i) whole s) o;
+  complete = search (rules, outcome_complete, satisfied_verified);
   has_model = λ is. satisfied_model (claim_of j) (formula_of i).clauses (said (outcome_verified status old new (model_report i j) is o)).0;
   written = λ w. satisfied_model (claim_of j) (formula_of i).clauses (said (written_model (claim_of j) (formula_of i) status old new o w)).0;
 }
@@ -217,7 +199,7 @@ model_consequences i j old new status o = record {
 
 -- all that is promised of a check of a model
 pub checks_model : (i j : Input) (old new : Option (List ℕ)) (status : Status) → Outcome status old new (model_report i j) → ChecksModel i j old new status
-checks_model i j old new status o = record { outcome = o; consequences = model_consequences i j old new status o }
+checks_model i j old new status o = search (rules, model_consequences)
 
 -- what a run made of the inputs that it saw, and what it told of them
 abbrev pub Made : Reader → Reader → (Input → Input → Type 0) → Status → Option (List ℕ) → Option (List ℕ) → Input → Input → Type 0
@@ -310,21 +292,17 @@ unmet_bound k listed (c ∷ cs) m h = by (meets listed c) h (λ g. unmet_bound (
   where
     by : (b : Bool) → cond b (first_unmet (k + 1) listed cs) (Some k) ≡ Some m → (first_unmet (k + 1) listed cs ≡ Some m → (k + 1 ≤ m) × (m < k + 1 + length cs))
         → (k ≤ m) × (m < k + length (c ∷ cs))
-    by true h next = let later = next h in (omega (arith, later.0), omega (arith, later.1))
-    by false h next = let e : Some k ≡ Some m = h in let same : k ≡ m = cc in (omega (arith, same), omega (arith, same))
+    by b h h2 = search rules
 
 -- and it ends with a `0`
 unmet_offset : (listed : List Literal) (i : Input) (k : ℕ) → first_unmet 1 listed (formula_of i).clauses ≡ Some k
     → (offset : ℕ) × (slice_get (ends_of i) (k - 1) ≡ Some offset)
-unmet_offset listed i k unmet =
-    let bound = unmet_bound 1 listed (formula_of i).clauses k unmet in
-    let many = ends_of-length i in
-    some_at (ends_of i) (k - 1) (omega (arith, bound.0, bound.1, many))
+unmet_offset listed i k unmet = search (rules, unmet_bound, ends_of-length, some_at)
 
 -- how far a formula was read of which the claim's literals are judged
 reads_no_further : (listed : List Literal) (i : Input) (old new : Reader) → ReadsToUnmet listed i old new → (k : ℕ) → first_unmet 1 listed (formula_of i).clauses ≡ Some k
     → (offset : ℕ) × (slice_get (ends_of i) (k - 1) ≡ Some offset) × (bytes_read old new ≤ offset + 65536)
-reads_no_further listed i old new reads k unmet = let at = unmet_offset listed i k unmet in (at.0, at.1, reads k at.0 unmet at.1)
+reads_no_further listed i old new reads k unmet = search (rules, unmet_offset)
 
 -- the formula is left where it isn't looked at
 pub formula_left : (claim : Result (List ℕ) Fault) (i : Input) (reader : Reader) → ReadsFormulaNoFurther claim i reader reader

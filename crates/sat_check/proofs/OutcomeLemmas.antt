@@ -1,15 +1,13 @@
 -- What a run wrote, and how it ended.
-use Rattle.std.proofs.Common.{◌≡◌, ℕ, false, List, [], ◌∷◌, ◌++◌, Option, None, Some, refl, sym, ap}
-use Rattle.std.proofs.Common.{◌∙◌, subst, append_assoc}
-use Rattle.std.specs.Prelude.{Result, Ok, Err, OnOk}
-use Rattle.std.specs.Io.KnownBytes.{Appends}
+use Rattle.std.proofs.Common.{◌≡◌, ℕ, false, List, [], ◌∷◌, ◌++◌, Option, refl, sym, ap, ◌∙◌, subst}
+use Rattle.std.proofs.Common.{append_assoc, arith, rules}
+use Rattle.std.proofs.lemmas.{Grind.common_steps, Bool.Decides.nat_tests}
+use Rattle.std.specs.{Prelude.Result, Prelude.OnOk, Io.KnownBytes.Appends}
 use Rattle.cnf_base.specs.Lines.{Sink, Writes, line_of}
-use Rattle.cnf_base.specs.Seen.{OfBothSeen}
-use Rattle.cnf_base.specs.Stream.{Input, Reader}
+use Rattle.cnf_base.specs.{Seen.OfBothSeen, Stream.Input, Stream.Reader}
 use Rattle.cnf_base.proofs.LineLemmas.{append_nil, Appends-then, Writes-nothing}
 use Rattle.sat_check.specs.Report.{Report, text_of, Outcome, with_lines, concluded}
-use Rattle.report.specs.Lines.{Certificate, sentence}
-use Rattle.report.specs.declared.status.Status.{Status}
+use Rattle.report.specs.{Lines.Certificate, Lines.sentence, declared.status.Status.Status}
 use Rattle.report.specs.declared.status.Status.TheVariants.{Verified, NotVerified, Malformed}
 use Rattle.report.specs.declared.status.Status.TheVariants.{ReadFailed, OutOfMemory, WriteFailed}
 use Rattle.report.specs.declared.status.Status.TheVariants.{Usage}
@@ -21,23 +19,11 @@ text_of-append (line ∷ lines) back =
 
 -- a text of which all was written
 pub Writes-all : (old new : Sink) (text : List ℕ) → Writes old new text → new.is_broken ≡ false → Appends old.held new.held text
-Writes-all old new text w sound =
-    let P : List ℕ → Type 0 = Appends old.held new.held in
-    subst P (sym (w.whole ∙ ap (λ t. w.part ++ t) (w.all sound) ∙ append_nil w.part)) w.appends
+Writes-all old new text w sound = search rules
 
 -- the whole report was written, and its status answered
 pub Outcome-all : (status : Status) (old new : Option (List ℕ)) (r : Report) → status ≡ r.status → Appends old new (text_of r.lines) → Outcome status old new r
-Outcome-all Verified old new r e a = (e, a)
-Outcome-all NotVerified old new r e a = (e, a)
-Outcome-all Malformed old new r e a = (e, a)
-Outcome-all ReadFailed old new r e a = (e, a)
-Outcome-all OutOfMemory old new r e a = (r.lines, [], sym (no_more r.lines), a)
-  where
-    no_more : (lines : List (List ℕ)) → lines ++ [] ≡ lines
-    no_more [] = refl
-    no_more (x ∷ xs) = ap (λ t. x ∷ t) (no_more xs)
-Outcome-all WriteFailed old new r e a = (text_of r.lines, [], sym (append_nil (text_of r.lines)), a)
-Outcome-all Usage old new r e a = (e, a)
+Outcome-all status old new r h h2 = search rules
 
 -- lines, and then the rest of a report
 pub Outcome-after : (status : Status) (old now new : Option (List ℕ)) (front : List (List ℕ)) (r : Report)
@@ -45,7 +31,7 @@ pub Outcome-after : (status : Status) (old now new : Option (List ℕ)) (front :
 Outcome-after status old now new front r a o = by status o
   where
     all : Appends now new (text_of r.lines) → Appends old new (text_of (front ++ r.lines))
-    all b = let P : List ℕ → Type 0 = Appends old new in subst P (sym (text_of-append front r.lines)) (Appends-then old now new _ _ a b)
+    all h = grind (arith, common_steps, nat_tests, text_of-append)
 
     by : (status : Status) → Outcome status now new r → Outcome status old new (with_lines front r)
     by Verified o = (o.0, all o.1)
@@ -117,39 +103,23 @@ module _ (certificate : Certificate) (status : Status) (old first second last : 
 
       pub concluded-whole : last.is_broken ≡ false → Outcome status old.held last.held (concluded certificate text status)
       concluded-whole end =
-          Outcome-line status old first last.held text (record { lines = sentence certificate status ∷ []; status = status }) (written old first bytes text e w) sound
-          (Outcome-line status first second last.held (sentence certificate status) (record { lines = []; status = status }) (written first second last_bytes (sentence certificate status) is v) also
-          (Outcome-all status second.held last.held (record { lines = []; status = status }) refl (Writes-all second last [] flushed end)))
+          grind (arith, common_steps, nat_tests, Outcome-line, written, Outcome-all, Writes-all)
 
 -- a line that broke off
 pub line-broken : (old new : Sink) (bytes text : List ℕ) (r : Report) → bytes ≡ text → Writes old new (line_of bytes) → Outcome WriteFailed old.held new.held (with_lines (text ∷ []) r)
-line-broken old new bytes text r e w = Outcome-broken old new text r (written old new bytes text e w)
+line-broken old new bytes text r e w = search (rules, arith, Outcome-broken, written)
 
 -- nothing was written of no line
 pub Writes-still : (s : Sink) → Writes s s []
-Writes-still s = record {
-  part = [];
-  rest = [];
-  whole = refl;
-  appends = still s.held;
-  all = λ _. refl;
-  none = λ _. refl;
-  stays = λ h. h;
-  same_writer = refl;
-}
-  where
-    still : (held : Option (List ℕ)) → Appends held held []
-    still None = tt
-    still (Some xs) = sym (append_nil xs)
+Writes-still s = search rules
 
 -- one line
 pub Writes-line : (old new : Sink) (text : List ℕ) → Writes old new (line_of text) → Writes old new (text_of (text ∷ []))
-Writes-line old new text w = let P : List ℕ → Type 0 = Writes old new in subst P (sym (line_text text)) w
+Writes-line old new text w = search rules
 
 -- what follows of an answer's fact
 pub on_ok : {A E : Type 0} (r : Result A E) (P Q : Type 0) → OnOk r P → (P → Q) → OnOk r Q
-on_ok (Ok x) P Q h next = next h
-on_ok (Err e) P Q h next = h
+on_ok r P Q h h2 = search rules
 
 -- a fact of all that was seen, and of what the writer holds by another name
 pub both_told : (one one_new two two_new : Reader) (P : Option (List ℕ) → Option (List ℕ) → Input → Input → Type 0) (Q : Input → Input → Type 0) (old new first last : Option (List ℕ)) → old ≡ first → new ≡ last
@@ -157,8 +127,5 @@ pub both_told : (one one_new two two_new : Reader) (P : Option (List ℕ) → Op
 both_told one one_new two two_new P Q old new first last before after next both = record {
   first = both.first;
   second = both.second;
-  fact = λ i j s t.
-      let F : Option (List ℕ) → Type 0 = λ x. P x new i j in
-      let G : Option (List ℕ) → Type 0 = λ x. P first x i j in
-      next i j (subst G after (subst F before (both.fact i j s t)));
+  fact = search rules;
 }

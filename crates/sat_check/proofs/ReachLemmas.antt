@@ -1,83 +1,52 @@
 -- How far a proof is read, step by step.
-use Rattle.theory.specs.Verdicts.{system_of}
-use Rattle.std.proofs.Common.{◌≡◌, ℕ, ◌≤◌, true, false, Option, None, Some, List, [], ◌∷◌, length}
-use Rattle.std.proofs.Common.{refl, sym, ap, ◌∙◌, subst, inl, inr, ◌⊎◌, ◌↔◌, Ok, Err, is_some, IsSome}
-use Rattle.std.specs.Prelude.{slice_get, IsTrue}
-use Rattle.std.specs.List.{list_any}
-use Rattle.std.proofs.lemmas.Bool.{false≢true, MatchBool-at_true, MatchBool-at_false}
-use Rattle.std.proofs.lemmas.Option.{none-some}
-use Rattle.cnf_base.specs.Lines.{Sink}
-use Rattle.cnf_base.specs.Literals.{Clause}
-use Rattle.cnf_base.specs.Stream.{Input, Suffix, Reader}
-use Rattle.cnf_base.specs.declared.fault.Fault.{Fault}
-use Rattle.cnf_base.specs.declared.fault.Fault.TheVariants.{Text, Binary, ReadFailed, OutOfMemory}
-use Rattle.dimacs.specs.Formula.{formula_of}
-use Rattle.proofs.specs.Steps.{Step}
-use Rattle.proofs.specs.Reading.{PlacedStep, Proof, with_step, PassesNoEnd}
-use Rattle.proofs.specs.declared.step_end.StepEnd.{StepEnd}
-use Rattle.steps.specs.ProofSession.{View}
+use Rattle.theory.specs.Verdicts.{system_of, Ending, verified, refused, no_empty_clause, Ends}
+use Rattle.theory.specs.Verdicts.{Verdict, is_last, is_empty}
 use Rattle.theory.specs.Rules.{Rule, State, by_ids, by_copies, start, Answers, after, Same}
-use Rattle.theory.specs.Verdicts.{Ending, verified, refused, no_empty_clause, Ends, Verdict}
 use Rattle.theory.specs.Losses.{StepLoses, HasLost, LostBySteps}
-use Rattle.theory.specs.Verdicts.{is_last, is_empty}
 use Rattle.theory.specs.declared.accepted.Accepted.{Accepted}
-use Rattle.theory.proofs.LratLemmas.LiveSets.{SameClauses-sym}
-use Rattle.theory.proofs.LratLemmas.Steps.{ok_is, ok_err}
-use Rattle.theory.proofs.LawLemmas.Rules.{answer_unique}
-use Rattle.theory.proofs.LawLemmas.Losses.{lost_same}
-use Rattle.theory.proofs.LawLemmas.Verdicts.{ends_same}
-use Rattle.sat_check.specs.Reach.{deciding_step, refused_end, NeedsNoProof, TellsFault, first_fault}
+use Rattle.theory.proofs.LratLemmas.{LiveSets.SameClauses-sym, Steps.ok_is, Steps.ok_err}
+use Rattle.theory.proofs.LawLemmas.{Rules.answer_unique, Losses.lost_same, Verdicts.ends_same}
+use Rattle.std.proofs.Common.{◌≡◌, ℕ, ◌≤◌, true, false, Option, None, Some, List, [], ◌∷◌}
+use Rattle.std.proofs.Common.{refl, sym, ap, ◌∙◌, subst, inl, inr, ◌⊎◌, ◌↔◌, Ok, Err, is_some}
+use Rattle.std.proofs.Common.{IsSome, rules}
+use Rattle.std.proofs.lemmas.Bool.{false≢true, MatchBool-at_false}
+use Rattle.std.proofs.lemmas.Option.{none-some}
+use Rattle.std.specs.{Prelude.IsTrue, List.list_any}
+use Rattle.cnf_base.specs.{Lines.Sink, Literals.Clause, Stream.Input, Stream.Suffix, Stream.Reader}
+use Rattle.cnf_base.specs.declared.fault.Fault.{Fault}
+use Rattle.cnf_base.specs.declared.fault.Fault.TheVariants.{OutOfMemory}
+use Rattle.dimacs.specs.Formula.{formula_of}
+use Rattle.proofs.specs.{Steps.Step, Reading.PlacedStep, Reading.Proof, Reading.with_step}
+use Rattle.proofs.specs.{Reading.PassesNoEnd, declared.step_end.StepEnd.StepEnd}
+use Rattle.steps.specs.ProofSession.{View}
+use Rattle.sat_check.specs.Reach.{deciding_step, refused_end, NeedsNoProof, TellsFault}
 use Rattle.sat_check.specs.Reach.{TellsLoss}
-use Rattle.sat_check.specs.Code.Reach.{IsVerdict}
-use Rattle.sat_check.specs.Report.{Outcome, bare_steps, is_cut_short}
-use Rattle.sat_check.specs.Code.Checking.{IsLoaded, Loads, IsRefused, IsTold, LeavesRest}
-use Rattle.sat_check.specs.Code.Checking.{LeavesProof}
-use Rattle.sat_check.specs.declared.checked.Checked.{Checked}
-use Rattle.report.specs.declared.status.Status.{Status}
+use Rattle.sat_check.specs.{Code.Reach.IsVerdict, Code.Checking.IsLoaded, Code.Checking.Loads}
+use Rattle.sat_check.specs.{Code.Checking.IsRefused, Code.Checking.IsTold, Code.Checking.LeavesRest}
+use Rattle.sat_check.specs.{Code.Checking.LeavesProof, Report.Outcome, Report.bare_steps}
+use Rattle.sat_check.specs.{Report.is_cut_short, declared.checked.Checked.Checked}
 use Rattle.sat_check.specs.declared.input_fault.InputFault.TheVariants as of
-use Rattle.report.specs.declared.status.Status.TheVariants.{Verified, NotVerified, Malformed}
+use Rattle.report.specs.declared.status.Status.{Status}
+use Rattle.report.specs.declared.status.Status.TheVariants.{NotVerified, Malformed}
 use Rattle.report.specs.declared.status.Status.TheVariants.{OutOfMemory as NoMemory, WriteFailed}
 
 same_sym : (s t : State) → Same s t → Same t s
 same_sym (by_ids s) (by_ids t) same = (SameClauses-sym _ _ same.0, sym same.1)
-same_sym (by_copies a x) (by_copies b y) same = (sym same.0, record { copies = λ e. sym (same.1.copies e) })
+same_sym (by_copies a x) (by_copies b y) same = search rules
 same_sym (by_ids s) (by_copies b y) same = absurd same
 same_sym (by_copies a x) (by_ids t) same = absurd same
 
 -- what was written of a report of another status is no verdict's
 pub no_verdict : (status : Status) (old new : Option (List ℕ)) (lines : List (List ℕ)) → Outcome status old new (record { lines = lines; status = Malformed })
     → IsVerdict status → ⊥
-no_verdict status old new lines o v = by status o v
-  where
-    at : (s : Status) → s ≡ Malformed → (s ≡ Verified → ⊥) × (s ≡ NotVerified → ⊥)
-    at s is = (λ e. cc, λ e. cc)
-
-    by : (status : Status) → Outcome status old new (record { lines = lines; status = Malformed }) → IsVerdict status → ⊥
-    by status o (inl is) =
-        let P : Status → Type 0 = λ s. Outcome s old new (record { lines = lines; status = Malformed }) in
-        let x = subst P is o in (at Verified x.0).0 refl
-    by status o (inr is) =
-        let P : Status → Type 0 = λ s. Outcome s old new (record { lines = lines; status = Malformed }) in
-        let x = subst P is o in (at NotVerified x.0).1 refl
+no_verdict status old new lines o v = search rules
 
 -- ---- The steps of a proof
-
--- the step that decides is one of the steps
-deciding_among : (steps : List PlacedStep) (words : List Accepted) (ending : Ending) (last : PlacedStep) → deciding_step steps words ending ≡ Some last
-    → (k : ℕ) × (slice_get steps k ≡ Some last)
-deciding_among steps [] verified last d = absurd (none-some last d)
-deciding_among steps [] (refused r) last d = (0, d)
-deciding_among steps [] no_empty_clause last d = absurd (none-some last d)
-deciding_among steps (w ∷ ws) verified last d = (length ws, d)
-deciding_among steps (w ∷ ws) (refused r) last d = (length (w ∷ ws), d)
-deciding_among steps (w ∷ ws) no_empty_clause last d = absurd (none-some last d)
 
 -- so its end wasn't passed where no step's was
 pub not_passed : (p : Proof) (rest : Suffix) → PassesNoEnd p rest → (words : List Accepted) (ending : Ending) (last : PlacedStep)
     → deciding_step p.steps words ending ≡ Some last → rest.offset ≤ last.offset
-not_passed p rest reach words ending last d =
-    let at = deciding_among p.steps words ending last d in
-    reach.steps at.0 last at.1
+not_passed p rest reach words ending last d = search rules
 
 -- no fault is told where no input is malformed
 pub TellsFault-none : (formula second : Option Fault) (checked : Checked) → checked.fault ≡ None → (checked.status ≡ Malformed → ⊥) → TellsFault formula second checked
@@ -85,7 +54,7 @@ TellsFault-none formula second checked none not = record { malformed = λ m. abs
 
 -- nor a loss where no step was refused
 no_loss : (checked : Checked) (X : Type 0) → checked.refused ≡ None → checked.literal_lost ≡ false → IsTrue checked.literal_lost ↔ (IsSome checked.refused × X)
-no_loss checked X none quiet = (λ told. absurd (false≢true (sym quiet ∙ told)), λ p. absurd (false≢true (sym (ap is_some none) ∙ p.0)))
+no_loss checked X none quiet = search rules
 
 pub TellsLoss-none : (rule : Rule) (fault : Option Fault) (clauses : List Clause) (p : Proof) (checked : Checked) → checked.refused ≡ None → checked.literal_lost ≡ false → TellsLoss (system_of rule) (LostBySteps rule) fault clauses p checked
 TellsLoss-none rule fault clauses p checked none quiet = record {
@@ -98,9 +67,7 @@ pub cut_short_not : (s : Status) → is_cut_short s ≡ true → s ≡ Malformed
 cut_short_not s cut m = false≢true (sym (ap is_cut_short m) ∙ cut)
 
 pub concluded_not : (given result : Status) (X : Type 0) → (result ≡ given) ⊎ (result ≡ NoMemory) ⊎ ((result ≡ WriteFailed) × X) → (given ≡ Malformed → ⊥) → result ≡ Malformed → ⊥
-concluded_not given result X (inl e) not m = not (sym e ∙ m)
-concluded_not given result X (inr (inl e)) not m = let bad : NoMemory ≡ Malformed = sym e ∙ m in cc
-concluded_not given result X (inr (inr e)) not m = let bad : WriteFailed ≡ Malformed = sym e.0 ∙ m in cc
+concluded_not given result X h h2 h3 = search rules
 
 pub told_not : (s : Status) (now : Sink) → IsTold s now → s ≡ Malformed → ⊥
 told_not s now told m = let P : Status → Type 0 = λ x. IsTold x now in subst P m told
@@ -133,15 +100,7 @@ LeavesRest-none s fault end rest checked none quiet tells reach = record {
 -- no verdict was answered
 pub LeavesRest-broken : (s : View) (p : Proof) (rest : Suffix) (checked : Checked) → checked.refused ≡ None → checked.literal_lost ≡ false → (IsVerdict checked.status → ⊥) → TellsFault None p.fault checked → PassesNoEnd p rest
     → LeavesRest s p rest checked
-LeavesRest-broken s p rest checked none quiet broken tells reach = record {
-  past = λ words ending last e d. not_passed p rest reach words ending last d;
-  past_fault = reach.fault;
-  refused = λ words ending is e. absurd (broken (inr is));
-  only = λ _. none;
-  lost = λ words ending is e. no_loss checked _ none quiet;
-  none_lost = λ not. quiet;
-  malformed = tells;
-}
+LeavesRest-broken s p rest checked none quiet broken tells reach = search rules
 
 module _ (s : View) (step : Step) (end : StepEnd) (offset : ℕ) (p : Proof) (rest : Suffix) (checked : Checked) where
   abbrev here : PlacedStep
@@ -152,30 +111,8 @@ module _ (s : View) (step : Step) (end : StepEnd) (offset : ℕ) (p : Proof) (re
       → (checked.status ≡ NotVerified → checked.refused ≡ Some end) → ((checked.status ≡ NotVerified → ⊥) → checked.refused ≡ None)
       → (checked.status ≡ NotVerified → checked.literal_lost ≡ s.has_lost_literal) → ((checked.status ≡ NotVerified → ⊥) → checked.literal_lost ≡ false) → TellsFault None p.fault checked
       → PassesNoEnd (with_step step end offset p) rest → LeavesRest s (with_step step end offset p) rest checked
-  LeavesRest-decided refuses told only loss none_lost tells reach = record {
-    past = λ words ending last e d. not_passed (with_step step end offset p) rest reach words ending last d;
-    past_fault = reach.fault;
-    refused = λ words ending v e. told v ∙ ended (refuses v) words ending e;
-    only = only;
-    lost = λ words ending v e. (
-      λ t. (ap is_some (told v), inl (sym (loss v) ∙ t)),
-      λ q. elim q.1 [
-        | inl had ↦ loss v ∙ had
-        | inr now ↦ absurd (none_taken (refuses v) words ending e now)
-      ],
-    );
-    none_lost = none_lost;
-    malformed = tells;
-  }
-    where
-      ended : IsRefused s.state step → (words : List Accepted) (ending : Ending) → Ends s.state (step ∷ bare_steps p) words ending
-          → Some end ≡ refused_end (here ∷ p.steps) words ending
-      ended a [] ending e = sym (ap (refused_end (here ∷ p.steps) []) e.1)
-      ended a (w ∷ ws) ending e = absurd (ok_err w a.0 (answer_unique s.state step _ _ e.0 a.1))
-
-      none_taken : IsRefused s.state step → (words : List Accepted) (ending : Ending) → Ends s.state (step ∷ bare_steps p) words ending → HasLost s.state (step ∷ bare_steps p) words → ⊥
-      none_taken a [] ending e lost = lost
-      none_taken a (w ∷ ws) ending e lost = ok_err w a.0 (answer_unique s.state step _ _ e.0 a.1)
+  LeavesRest-decided refuses told only loss none_lost tells reach =
+      search (rules, not_passed, with_step, is_some, ok_err, answer_unique)
 
   -- it was accepted, and the check went on
   pub LeavesRest-step : (t : View) (word : Accepted) → Answers s.state step (Ok word) → is_last word ≡ false → Same t.state (after s.state step word)
@@ -266,20 +203,7 @@ module _ (rule : Rule) (fault : Option Fault) (clauses : List Clause) (p : Proof
 
   -- some clause is empty
   pub LeavesProof-empty : list_any is_empty clauses ≡ true → LeavesProof rule fault clauses p reader reader rest checked
-  LeavesProof-empty empty = record {
-    unread = λ n. refl;
-    past = λ words ending last whole e d. inl refl;
-    past_fault = λ offset e. inl refl;
-    told = record {
-      unread = λ n. none;
-      refused = λ words ending whole v e.
-          let q = MatchBool-at_true _ _ empty e in
-          none ∙ sym (ap (refused_end p.steps words) q.1);
-      only = λ _. none;
-      loss = TellsLoss-none rule fault clauses p checked none quiet;
-      malformed = tells;
-    };
-  }
+  LeavesProof-empty empty = search rules
 
 -- the steps were checked
 pub LeavesProof-checked : (rule : Rule) (s : View) (clauses : List Clause) (l : IsLoaded rule s clauses) (p : Proof) (old new : Reader) (rest : Suffix) (checked : Checked)
@@ -306,52 +230,18 @@ LeavesProof-checked rule s clauses l p old new rest checked unverified leaves = 
     -- the clauses that were input lost none
     loaded : (words : List Accepted) → IsTrue checked.literal_lost ↔ (IsSome checked.refused × (IsTrue s.has_lost_literal ⊎ HasLost s.state (bare_steps p) words))
         → IsTrue checked.literal_lost ↔ (IsSome checked.refused × HasLost (start rule clauses) (bare_steps p) words)
-    loaded words tells = (
-      λ t. let q = tells.0 t in (
-        q.0,
-        elim q.1 [
-          | inl had ↦ absurd (false≢true (sym l.none_lost ∙ had))
-          | inr d ↦ lost_same (bare_steps p) words s.state (start rule clauses) l.state d
-        ],
-      ),
-      λ q. tells.1 (q.0, inr (lost_same (bare_steps p) words (start rule clauses) s.state (same_sym s.state (start rule clauses) l.state) q.1)),
-    )
+    loaded words h = search (rules, false≢true, lost_same, same_sym)
 
     needed : NeedsNoProof None clauses → ⊥
-    needed (inl fault) = fault refl
-    needed (inr empty) = false≢true (sym none ∙ empty)
+    needed h = search rules
 
     ends : (words : List Accepted) (ending : Ending) → Verdict rule clauses (bare_steps p) words ending → Ends s.state (bare_steps p) words ending
-    ends words ending e = ends_same (bare_steps p) words ending (start rule clauses) s.state (same_sym s.state (start rule clauses) l.state) (MatchBool-at_false _ _ none e)
+    ends words ending h = search (rules, ends_same, same_sym, none)
 
 -- the formula has a fault, or memory ran out
 pub LeavesProof-fault : (rule : Rule) (s : View) (f : Fault) (i : Input) (p : Proof) (reader : Reader) (rest : Suffix) (checked : Checked) → checked.refused ≡ None → checked.literal_lost ≡ false
     → Loads rule s (Err f) (formula_of i) → (f ≡ OutOfMemory → (IsVerdict checked.status → ⊥) × (checked.status ≡ Malformed → ⊥))
     → (checked.status ≡ Malformed → checked.fault ≡ Some (of.Formula f)) → ((checked.status ≡ Malformed → ⊥) → checked.fault ≡ None)
     → LeavesProof rule (formula_of i).fault (formula_of i).clauses p reader reader rest checked
-LeavesProof-fault rule s f i p reader rest checked none quiet loads broken malformed only = by f loads broken malformed
-  where
-    faulty : (f : Fault) → (formula_of i).fault ≡ Some f → (checked.status ≡ Malformed → checked.fault ≡ Some (of.Formula f))
-        → LeavesProof rule (formula_of i).fault (formula_of i).clauses p reader reader rest checked
-    faulty f is malformed = record {
-      unread = λ n. refl;
-      past = λ words ending last whole e d. inl refl;
-      past_fault = λ offset e. inl refl;
-      told = record {
-        unread = λ n. none;
-        refused = λ words ending whole v e. absurd (none-some f (sym whole ∙ is));
-        only = λ _. none;
-        loss = TellsLoss-none rule (formula_of i).fault (formula_of i).clauses p checked none quiet;
-        malformed = record { malformed = λ m. malformed m ∙ sym (ap (λ o. first_fault o p.fault) is); only = only };
-      };
-    }
-
-    by : (f : Fault) → Loads rule s (Err f) (formula_of i) → (f ≡ OutOfMemory → (IsVerdict checked.status → ⊥) × (checked.status ≡ Malformed → ⊥))
-        → (checked.status ≡ Malformed → checked.fault ≡ Some (of.Formula f))
-        → LeavesProof rule (formula_of i).fault (formula_of i).clauses p reader reader rest checked
-    by (Text k x) loads broken malformed = faulty (Text k x) loads malformed
-    by (Binary k x) loads broken malformed = faulty (Binary k x) loads malformed
-    by ReadFailed loads broken malformed = faulty ReadFailed loads malformed
-    by OutOfMemory loads broken malformed =
-        LeavesProof-broken rule (formula_of i).fault (formula_of i).clauses p reader rest checked none quiet
-        (record { malformed = λ m. absurd ((broken refl).1 m); only = only }) (broken refl).0
+LeavesProof-fault rule s f i p reader rest checked none quiet loads broken malformed only =
+    search rules

@@ -1,24 +1,20 @@
 -- What was read of an input, and of a formula clause by clause.
-use Rattle.std.proofs.Common.{◌≡◌, ℕ, zero, suc, ◌+◌, ◌≤◌, Bool, true, false, List, [], ◌∷◌, ◌++◌}
-use Rattle.std.proofs.Common.{Option, None, Some, refl, sym, ap, ◌∙◌, subst, append_assoc}
-use Rattle.std.proofs.Common.{length, length-append, arith}
+use Rattle.std.proofs.Common.{◌≡◌, ℕ, suc, ◌+◌, ◌≤◌, Bool, true, false, List, [], ◌∷◌, ◌++◌, Option}
+use Rattle.std.proofs.Common.{None, Some, refl, sym, ap, ◌∙◌, subst, append_assoc, length}
+use Rattle.std.proofs.Common.{length-append, arith, rules}
 use Rattle.std.specs.Prelude.{Result, Ok, Err, slice_get}
-use Rattle.cnf_base.specs.Literals.{Clause}
-use Rattle.cnf_base.specs.Stream.{Input, Suffix, from_start, Reader, Stream, Along, unread_stream}
-use Rattle.cnf_base.specs.Stream.{bytes_read}
-use Rattle.cnf_base.specs.Code.Seen.{OfSeen}
-use Rattle.cnf_base.specs.declared.fault.Fault.{Fault}
+use Rattle.cnf_base.specs.{Literals.Clause, Stream.Input, Stream.Suffix, Stream.from_start}
+use Rattle.cnf_base.specs.{Stream.Reader, Stream.Stream, Stream.Along, Stream.unread_stream}
+use Rattle.cnf_base.specs.{Stream.bytes_read, Code.Seen.OfSeen, declared.fault.Fault.Fault}
 use Rattle.cnf_base.specs.declared.fault.Fault.TheVariants.{Text, Binary, ReadFailed, OutOfMemory}
 use Rattle.cnf_base.specs.declared.place.Place.{Place}
 use Rattle.cnf_base.proofs.SeenLemmas.{Seen-nothing, Seen-run, Seen-fact}
 use Rattle.cnf_base.proofs.StreamLemmas.{Along-then, Along-map, Along-none, Along-within}
-use Rattle.dimacs.specs.Formula.{Body, Formula}
+use Rattle.dimacs.specs.Formula.{Body, Formula, opened}
 use Rattle.dimacs.specs.declared.header.Header.{Header}
 use Rattle.dimacs.specs.Reading.{FormulaReading, clauses_to_come, GivesClause, ends_to_come}
 use Rattle.dimacs.specs.Reading.{PassesNoEnd, GivesEnd}
-use Rattle.dimacs.specs.Formula.{opened}
-use Rattle.sat_check.specs.FormulaReach.{ReadsNoFurtherThanFault}
-use Rattle.sat_check.specs.Code.FormulaReach.{LeavesFault}
+use Rattle.sat_check.specs.{FormulaReach.ReadsNoFurtherThanFault, Code.FormulaReach.LeavesFault}
 
 -- ---- A whole input
 
@@ -92,9 +88,8 @@ NonePassed old clauses i k = (later : Body) × (ends : List ℕ) × ReadsOn clau
 
 -- past the first numbers stand the others
 pub past_first : (xs ys : List ℕ) (n m : ℕ) → n ≡ length xs + m → slice_get (xs ++ ys) n ≡ slice_get ys m
-past_first [] ys n m e = ap (slice_get ys) (let same : n ≡ m = omega (arith, e) in same)
-past_first (x ∷ xs) ys zero m e = absurd (omega (arith, e))
 past_first (x ∷ xs) ys (suc n) m e = past_first xs ys n m (omega (arith, e))
+past_first xs ys n m h = search rules
 
 -- so the token at fault wasn't
 pub fault_left : (read : List Clause) (old : FormulaReading) (i k : Suffix) → NonePassed old read i k
@@ -114,9 +109,7 @@ fault_left read old i k passed offset at =
 
 -- whatever was given, no end that was to come was passed
 pub none_passed : (result : Result Bool Fault) (before after : List ℕ) (rest : Suffix) → GivesEnd result before after rest → PassesNoEnd before rest
-none_passed (Ok true) before after rest gives = gives.1
-none_passed (Ok false) before after rest gives = gives
-none_passed (Err f) before after rest gives = gives
+none_passed result before after rest h = search rules
 
 -- after these clauses comes the fault; want of memory says nothing
 abbrev pub FaultAfter : List Clause → Fault → Body → Type 0
@@ -181,22 +174,15 @@ module _ (old now new : FormulaReading) (clauses : List Clause) (so_far : Reads 
 
 -- what a call gave, by its answer's pattern
 pub clause_told : (now new : FormulaReading) (result answer : Result Bool Fault) (c : Clause) → Gave now new result c → result ≡ answer → Gave now new answer c
-clause_told now new result answer c gives is =
-    let P : Result Bool Fault → Type 0 = λ r. Gave now new r c in
-    subst P is gives
+clause_told now new result answer c gives is = search rules
 
 -- ---- The token at fault
 
 -- what is left of a formula is what is left of what is to come after its header
 pub opened_left : (x : Formula) (h : Header) (b : Body) (ends to_come : List ℕ) (rest : Suffix) → x ≡ opened h b → ends ≡ to_come
     → LeavesFault b.clauses to_come rest → LeavesFault x.clauses ends rest
-opened_left x h b ends to_come rest is same leaves =
-    let P : Formula → Type 0 = λ y. LeavesFault y.clauses to_come rest in
-    let Q : List ℕ → Type 0 = λ e. LeavesFault x.clauses e rest in
-    subst Q (sym same) (subst P (sym is) leaves)
+opened_left x h b ends to_come rest is same leaves = search rules
 
 -- where nothing was read it wasn't passed
 pub unread_fault : (i : Input) (old new : Reader) → old ≡ new → ReadsNoFurtherThanFault i old new
-unread_fault i old new same offset at =
-    let P : Reader → Type 0 = λ r. bytes_read old r ≤ offset + 65536 in
-    subst P same (omega arith)
+unread_fault i old new same offset at = search rules

@@ -1,39 +1,26 @@
 -- A whole report.
-use Rattle.theory.specs.Verdicts.{system_of}
-use Rattle.std.proofs.Common.{◌≡◌, ℕ, ◌≤◌, max, Bool, true, false, Option, None, Some, List}
-use Rattle.std.proofs.Common.{[], ◌∷◌, refl, sym, ap, ◌∙◌, subst, codes, arith}
+use Rattle.theory.specs.Verdicts.{system_of, verified}
+use Rattle.theory.specs.Rules.{Rule, start, sum_of, IsFinite}
+use Rattle.theory.proofs.LawLemmas.{Existence.same_finite, Existence.start_finite, Rules.sum_same}
+use Rattle.theory.proofs.LawLemmas.Verdicts.{ends_same, some_ending, some_verdict}
+use Rattle.std.proofs.Common.{◌≡◌, ℕ, ◌≤◌, max, Bool, true, false, Option, None, Some, List, []}
+use Rattle.std.proofs.Common.{◌∷◌, refl, sym, ap, ◌∙◌, subst, codes, arith, rules}
 use Rattle.std.specs.Prelude.{Result, Ok, Err}
-use Rattle.std.specs.Bool.{MatchBool}
-use Rattle.cnf_base.specs.Literals.{Clause}
-use Rattle.cnf_base.specs.Stream.{Input}
-use Rattle.cnf_base.specs.Lines.{Sink, Writes, line_of}
+use Rattle.cnf_base.specs.{Literals.Clause, Stream.Input, Lines.Sink, Lines.Writes, Lines.line_of}
 use Rattle.cnf_base.specs.declared.fault.Fault.{Fault}
 use Rattle.cnf_base.specs.declared.fault.Fault.TheVariants.{Text, Binary, ReadFailed, OutOfMemory}
 use Rattle.cnf_base.specs.Text.{Listing, listing_of}
 use Rattle.dimacs.specs.Formula.{Formula, formula_of, formula_with, header_of}
 use Rattle.dimacs.specs.declared.header.Header.{Header}
-use Rattle.proofs.specs.Reading.{Proof}
-use Rattle.proofs.specs.Steps.{Step}
-use Rattle.theory.specs.declared.accepted.Accepted.{Accepted}
+use Rattle.proofs.specs.{Reading.Proof, Steps.Step}
 use Rattle.steps.specs.ProofSession.{View}
-use Rattle.theory.specs.Rules.{Rule, start, sum_of, IsFinite}
-use Rattle.theory.specs.Verdicts.{verified, Ends}
-use Rattle.theory.proofs.LawLemmas.Existence.{same_finite, start_finite}
-use Rattle.theory.proofs.LawLemmas.Rules.{sum_same}
-use Rattle.theory.proofs.LawLemmas.Verdicts.{ends_same, some_ending, some_verdict}
 use Rattle.report.specs.Lines.{a_proof, formula_line, steps_line, fault_line, fault_status}
+use Rattle.report.specs.declared.status.Status.{Status, TheVariants.Verified}
 use Rattle.sat_check.specs.Report.{Report, Outcome, Reports, concluded, with_lines, Checks}
 use Rattle.sat_check.specs.Report.{ReportsFormula, bare_steps, proof_report}
-use Rattle.sat_check.specs.Code.Checking.{peak_of}
-use Rattle.sat_check.specs.Code.Checking.{IsLoaded, Loads, Rest}
-use Rattle.sat_check.proofs.ShownLemmas.{steps_same}
-use Rattle.report.specs.declared.status.Status.{Status}
-use Rattle.report.specs.declared.status.Status.TheVariants.{Verified}
-use Rattle.sat_check.proofs.OutcomeLemmas.{Outcome-line}
+use Rattle.sat_check.specs.Code.Checking.{peak_of, IsLoaded, Loads, Rest}
+use Rattle.sat_check.proofs.{ShownLemmas.steps_same, OutcomeLemmas.Outcome-line}
 use Rattle.sat_check.proofs.RestLemmas.{peak_least, peak_same}
-
-abbrev no_words : List Accepted
-no_words = []
 
 module _ (rule : Rule) (s : View) (clauses : List Clause) (l : IsLoaded rule s clauses) where
   pub loaded_finite : IsFinite s.state
@@ -45,20 +32,7 @@ module _ (rule : Rule) (s : View) (clauses : List Clause) (l : IsLoaded rule s c
   -- no clause is empty, and the steps were checked
   pub checks_rest : (trace : Bool) (h : Header) (p : Proof) (r : Report) → s.is_verified ≡ false → Rest trace s.state 0 s.peak p r
       → Checks (system_of rule) trace h clauses p (with_lines (formula_line h ∷ []) r)
-  checks_rest trace h p r unverified rest = record {
-    words = rest.words;
-    ending = rest.ending;
-    verdict =
-        let P : Bool → Type 0 = λ b. MatchBool b ((rest.words ≡ []) × (rest.ending ≡ verified)) (Ends (start rule clauses) (bare_steps p) rest.words rest.ending) in
-        subst P (sym (sym l.verified ∙ unverified)) (ends_same (bare_steps p) rest.words rest.ending s.state (start rule clauses) l.state rest.verdict);
-    report = ap (with_lines (formula_line h ∷ [])) (rest.report ∙ ap (λ m. proof_report trace 0 m rest.words rest.ending p.fault) peaks);
-  }
-    where
-      peaks : max s.peak (peak_of s.state (bare_steps p) rest.words) ≡ peak_of (start rule clauses) (bare_steps p) rest.words
-      peaks =
-          let e = peak_same (bare_steps p) rest.words s.state (start rule clauses) l.state in
-          let low = peak_least (bare_steps p) rest.words (start rule clauses) in
-          omega (arith, e, low, l.peak)
+  checks_rest trace h p r unverified rest = search (rules, arith, ends_same, peak_same, peak_least)
 
   -- some clause is empty
   pub checks_verified : (trace : Bool) (h : Header) (p : Proof) → s.is_verified ≡ true
@@ -66,9 +40,7 @@ module _ (rule : Rule) (s : View) (clauses : List Clause) (l : IsLoaded rule s c
   checks_verified trace h p is = record {
     words = [];
     ending = verified;
-    verdict =
-        let P : Bool → Type 0 = λ b. MatchBool b ((no_words ≡ no_words) × (verified ≡ verified)) (Ends (start rule clauses) (bare_steps p) no_words verified) in
-        subst P (sym (sym l.verified ∙ is)) (refl, refl);
+    verdict = search rules;
     report = ap (λ m. with_lines (formula_line h ∷ []) (concluded a_proof (steps_line 0 m) Verified)) (l.peak ∙ sym (none (bare_steps p))) ∙ ap (with_lines (formula_line h ∷ [])) (untraced trace (peak_of (start rule clauses) (bare_steps p) []));
   }
     where
@@ -77,8 +49,7 @@ module _ (rule : Rule) (s : View) (clauses : List Clause) (l : IsLoaded rule s c
       none (step ∷ steps) = refl
 
       untraced : (trace : Bool) (m : ℕ) → concluded a_proof (steps_line 0 m) Verified ≡ proof_report trace 0 m [] verified p.fault
-      untraced true m = refl
-      untraced false m = refl
+      untraced trace m = search rules
 
   -- there is a report in any case
   pub checks_some : (trace : Bool) (h : Header) (p : Proof) → (r : Report) × Checks (system_of rule) trace h clauses p (with_lines (formula_line h ∷ []) r)
@@ -100,13 +71,6 @@ reports_checked rule trace f p h r header fault checks =
     let P : Option Header → Type 0 = λ o. ReportsFormula (system_of rule) trace o f.clauses f.fault p r in
     let Q : Option Fault → Type 0 = λ o. ReportsFormula (system_of rule) trace (Some h) f.clauses o p r in
     subst P (sym header) (subst Q (sym fault) checks)
-
--- a fault of the formula
-pub reports_fault : (rule : Rule) (trace : Bool) (f : Formula) (p : Proof) (e : Fault) → f.fault ≡ Some e
-    → ReportsFormula (system_of rule) trace f.header f.clauses f.fault p (concluded a_proof (fault_line (codes "formula") e) (fault_status e))
-reports_fault rule trace f p e fault =
-    let P : Option Fault → Type 0 = λ o. ReportsFormula (system_of rule) trace f.header f.clauses o p (concluded a_proof (fault_line (codes "formula") e) (fault_status e)) in
-    subst P (sym fault) refl
 
 -- each formula and proof has a report
 checks_any : (rule : Rule) (trace : Bool) (h : Header) (clauses : List Clause) (p : Proof) → (r : Report) × Checks (system_of rule) trace h clauses p r
@@ -132,11 +96,11 @@ pub err_report : (rule : Rule) (s : View) (trace : Bool) (f : Fault) (i : Input)
     → (f ≡ OutOfMemory → (r : Report) → Outcome status was.held now.held r)
     → ((f ≡ OutOfMemory → ⊥) → Outcome status was.held now.held (concluded a_proof (fault_line (codes "formula") f) (fault_status f)))
     → Reports (system_of rule) trace i p was.held now.held status
-err_report rule s trace (Text k x) i p status was now l memory told = record { report = _; reports = reports_fault rule trace (formula_of i) p (Text k x) l; outcome = told (λ e. cc) }
-err_report rule s trace (Binary k x) i p status was now l memory told = record { report = _; reports = reports_fault rule trace (formula_of i) p (Binary k x) l; outcome = told (λ e. cc) }
-err_report rule s trace ReadFailed i p status was now l memory told = record { report = _; reports = reports_fault rule trace (formula_of i) p ReadFailed l; outcome = told (λ e. cc) }
+err_report rule s trace (Text k x) i p status was now l memory told = search rules
+err_report rule s trace (Binary k x) i p status was now l memory told = search rules
+err_report rule s trace ReadFailed i p status was now l memory told = search rules
 err_report rule s trace OutOfMemory i p status was now l memory told =
-    let some = some_report rule trace i p in record { report = some.0; reports = some.1; outcome = memory refl some.0 }
+    search (rules, (some_report rule trace i p))
 
 -- a formula with an empty clause
 pub verified_report : (rule : Rule) (s : View) (clauses : List Clause) (l : IsLoaded rule s clauses) (trace : Bool) (h : Header) (p : Proof) (status : Status) (was mid now : Sink) (m : ℕ)

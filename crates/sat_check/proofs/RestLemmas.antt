@@ -1,32 +1,28 @@
 -- The rest of a report, step by step.
 use Rattle.std.proofs.Common.{◌≡◌, ℕ, ◌+◌, ◌≤◌, max, cond, Bool, true, false, Option, None, Some}
 use Rattle.std.proofs.Common.{List, [], ◌∷◌, length, refl, sym, ap, ◌∙◌, subst, arith, Ok, Err}
+use Rattle.std.proofs.Common.{rules}
 use Rattle.std.specs.Bool.{MatchBool}
 use Rattle.cnf_base.specs.declared.fault.Fault.{Fault}
-use Rattle.proofs.specs.Steps.{Step}
-use Rattle.proofs.specs.Reading.{Proof, clean, with_step}
+use Rattle.proofs.specs.{Steps.Step, Reading.Proof, Reading.clean, Reading.with_step}
 use Rattle.proofs.specs.declared.step_end.StepEnd.{StepEnd}
-use Rattle.theory.specs.declared.accepted.Accepted.{Accepted}
-use Rattle.theory.specs.declared.accepted.Accepted.TheVariants.{Empty}
+use Rattle.theory.specs.declared.accepted.Accepted.{Accepted, TheVariants.Empty}
 use Rattle.theory.specs.declared.refusal.Refusal.{Refusal}
 use Rattle.theory.specs.Rules.{State, Answers, after, sum_of, Same, IsFinite}
 use Rattle.theory.specs.Verdicts.{verified, refused, no_empty_clause, is_last, Ends}
 use Rattle.theory.proofs.LawLemmas.Rules.{after_same, sum_same}
-use Rattle.report.specs.Lines.{a_proof, refusal_line, steps_line}
-use Rattle.sat_check.specs.Report.{Report, concluded, with_lines, trace_lines}
-use Rattle.sat_check.specs.Code.Checking.{end_report}
-use Rattle.sat_check.specs.Report.{verdict_report, bare_steps, proof_report}
-use Rattle.sat_check.specs.Code.Checking.{peak_of}
-use Rattle.sat_check.specs.Code.Checking.{Rest, traced}
-use Rattle.report.specs.declared.status.Status.TheVariants.{Verified, NotVerified}
 use Rattle.theory.proofs.LawLemmas.Verdicts.{ends_same, some_ending}
+use Rattle.report.specs.Lines.{a_proof, refusal_line, steps_line}
+use Rattle.report.specs.declared.status.Status.TheVariants.{Verified, NotVerified}
+use Rattle.sat_check.specs.Report.{Report, concluded, with_lines, trace_lines, verdict_report}
+use Rattle.sat_check.specs.Report.{bare_steps, proof_report}
+use Rattle.sat_check.specs.Code.Checking.{end_report, peak_of, Rest, traced}
 
 pub peak_same : (steps : List Step) (words : List Accepted) (first second : State) → Same first second → peak_of first steps words ≡ peak_of second steps words
-peak_same [] words first second same = sum_same first second same
-peak_same (step ∷ steps) [] first second same = sum_same first second same
 peak_same (step ∷ steps) (word ∷ words) first second same =
     ap (λ n. max n (peak_of (after first step word) steps words)) (sum_same first second same)
     ∙ ap (λ n. max (sum_of second) n) (peak_same steps words (after first step word) (after second step word) (after_same first second step word same))
+peak_same steps words first second h = search (rules, sum_same)
 
 pub peak_least : (steps : List Step) (words : List Accepted) (state : State) → sum_of state ≤ peak_of state steps words
 peak_least [] words state = omega arith
@@ -47,7 +43,7 @@ module _ (trace : Bool) (s : State) (n peak : ℕ) where
   Rest-clean = record { words = []; ending = no_empty_clause; verdict = refl; report = sym (no_trace trace (end_report None)) }
 
   pub Rest-fault : (f : Fault) (end : Option ℕ) → Rest trace s n peak (record { steps = []; fault = Some f; fault_end = end }) (end_report (Some f))
-  Rest-fault f end = record { words = []; ending = no_empty_clause; verdict = refl; report = sym (no_trace trace (end_report (Some f))) }
+  Rest-fault f end = search rules
 
   pub Rest-some : IsFinite s → (p : Proof) → (r : Report) × Rest trace s n peak p r
   Rest-some b p =

@@ -1,13 +1,12 @@
 -- Numbers are shown up to the greatest of 64 bits.
-use Rattle.std.proofs.Common.{◌≡◌, ℕ, ◌-◌, ◌^◌, min, Bool, true, false, [], ◌∷◌, ◌++◌, refl, ap}
-use Rattle.std.proofs.Common.{◌∙◌, codes, decimal, arith}
-use Rattle.theory.specs.declared.accepted.Accepted.{Accepted}
-use Rattle.theory.specs.declared.refusal.Refusal.{Refusal}
+use Rattle.std.proofs.Common.{◌≡◌, ℕ, Bool, true, false, [], ◌∷◌, ◌++◌, refl, ap, ◌∙◌}
+use Rattle.std.proofs.Common.{codes, rules}
+use Rattle.theory.specs.declared.{accepted.Accepted.Accepted, refusal.Refusal.Refusal}
 use Rattle.report.specs.Lines.{shown, word_text, refusal_line, with_cause, steps_line}
 use Rattle.sat_check.specs.Code.Checking.{counted, traced}
 
 pub shown_counted : (n : ℕ) → shown (counted n) ≡ shown n
-shown_counted n = ap decimal (let e : min (min n (2 ^ 64 - 1)) (2 ^ 64 - 1) ≡ min n (2 ^ 64 - 1) = omega arith in e)
+shown_counted n = search rules
 
 shown_same : (m n : ℕ) → m ≡ counted n → shown m ≡ shown n
 shown_same m n e = ap shown e ∙ shown_counted n
@@ -20,4 +19,4 @@ pub refusal_same : (m n : ℕ) (r : Refusal) → m ≡ counted n → refusal_lin
 refusal_same m n r e = ap (λ t. with_cause (codes "c step " ++ t ++ codes ": ") r) (shown_same m n e)
 
 pub steps_same : (m n p q : ℕ) → m ≡ counted n → p ≡ q → steps_line m p ≡ steps_line n q
-steps_same m n p q e f = ap (λ t. codes "c steps " ++ t ++ codes " peak " ++ shown p) (shown_same m n e) ∙ ap (steps_line n) f
+steps_same m n p q e f = cc (shown_same m n e)

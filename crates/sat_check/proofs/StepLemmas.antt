@@ -1,29 +1,26 @@
 -- What a step that ends a check leaves of the report.
 use Rattle.std.proofs.Common.{◌≡◌, ℕ, ◌+◌, ◌≤◌, max, Bool, true, false, List, [], refl, sym, subst}
 use Rattle.std.specs.Prelude.{Ok, Err}
+use Rattle.std.proofs.Common.{rules}
 use Rattle.cnf_base.specs.Lines.{Sink, Writes}
-use Rattle.proofs.specs.Steps.{Step}
-use Rattle.proofs.specs.Reading.{Proof, with_step}
+use Rattle.proofs.specs.{Steps.Step, Reading.Proof, Reading.with_step}
 use Rattle.proofs.specs.declared.step_end.StepEnd.{StepEnd}
-use Rattle.theory.specs.declared.accepted.Accepted.{Accepted}
-use Rattle.theory.specs.declared.accepted.Accepted.TheVariants.{Empty}
-use Rattle.theory.specs.declared.refusal.Refusal.{Refusal}
-use Rattle.theory.specs.declared.refusal.Refusal.TheVariants.{OutOfMemory}
-use Rattle.steps.specs.ProofSession.{View}
+use Rattle.theory.specs.declared.accepted.Accepted.{Accepted, TheVariants.Empty}
+use Rattle.theory.specs.declared.refusal.Refusal.{Refusal, TheVariants.OutOfMemory}
 use Rattle.theory.specs.Rules.{Answers, after, sum_of, Same}
-use Rattle.theory.specs.Answers.{UnlessOutOfMemory}
-use Rattle.theory.specs.Verdicts.{is_last}
+use Rattle.theory.specs.{Answers.UnlessOutOfMemory, Verdicts.is_last}
+use Rattle.theory.proofs.LawLemmas.Existence.{after_finite, same_finite}
+use Rattle.steps.specs.ProofSession.{View}
 use Rattle.report.specs.Lines.{a_proof, refusal_line, steps_line}
+use Rattle.report.specs.declared.status.Status.{Status}
+use Rattle.report.specs.declared.status.Status.TheVariants.{Verified, NotVerified, Malformed}
 use Rattle.sat_check.specs.Report.{Report, Outcome, concluded, with_lines, text_of}
 use Rattle.sat_check.specs.Code.Reach.{IsVerdict}
 use Rattle.sat_check.specs.Code.Checking.{Rest, Stops, IsRefused, traced, is_memory}
-use Rattle.report.specs.declared.status.Status.{Status}
-use Rattle.report.specs.declared.status.Status.TheVariants.{Verified, NotVerified, Malformed}
 use Rattle.sat_check.proofs.OutcomeLemmas.{Outcome-after, Writes-all}
 use Rattle.sat_check.proofs.ReachLemmas.{no_verdict}
 use Rattle.sat_check.proofs.RestLemmas.{Rest-some, Rest-refused, Rest-verified, Rest-step}
 use Rattle.sat_check.proofs.ShownLemmas.{traced_same, refusal_same, steps_same}
-use Rattle.theory.proofs.LawLemmas.Existence.{after_finite, same_finite}
 
 -- an answer that isn't want of memory is the rule's
 pub given : (r : Refusal) (P : Type 0) → is_memory r ≡ false → UnlessOutOfMemory (Err r) P → P
@@ -31,8 +28,7 @@ given OutOfMemory P h x = absurd (let e : true ≡ false = h in cc)
 given _ P h x = x
 
 pub last_word : (w : Accepted) → is_last w ≡ true → w ≡ Empty
-last_word Empty h = refl
-last_word _ h = absurd (let e : false ≡ true = h in cc)
+last_word w h = search rules
 
 module _ (trace : Bool) (number : ℕ) (old : View) (step : Step) (was now : Sink) where
   -- refused, with or without memory
@@ -78,7 +74,7 @@ module _ (trace : Bool) (number : ℕ) (old : View) (step : Step) (was now : Sin
     Stops-traced status o n offset end p is least finite = by (is_last word) refl
       where
         shown : (x : Report) → Outcome status was.held now.held (with_lines (traced trace (n + 1) word) x)
-        shown x = let P : List (List ℕ) → Type 0 = λ t. Outcome status was.held now.held (with_lines t x) in subst P (traced_same trace number (n + 1) word is) (o x)
+        shown x = search rules
 
         by : (v : Bool) → is_last word ≡ v → (x : Report) × Rest trace old.state n old.peak (with_step step end offset p) x × Outcome status was.held now.held x
         by true e = (_, verified_rest n offset end p (last_word word e) least, shown _)

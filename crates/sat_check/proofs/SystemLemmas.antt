@@ -1,32 +1,24 @@
 -- A run by DRAT's own proof system is one by the rule, and the other way round.
 use Rattle.std.proofs.Common.{◌≡◌, ℕ, ◌-◌, ◌^◌, min, max, Bool, true, false, List, [], ◌∷◌, Option}
-use Rattle.std.proofs.Common.{None, Some, refl, sym, ap, ◌∙◌, inl, inr, ◌⊎◌}
-use Rattle.std.specs.Prelude.{◌↔◌, sum_by, MatchBool}
-use Rattle.std.specs.List.{list_any}
+use Rattle.std.proofs.Common.{refl, ap, ◌⊎◌, rules}
+use Rattle.std.specs.{Prelude.◌↔◌, Prelude.sum_by, Prelude.MatchBool}
 use Rattle.cnf_base.specs.Literals.{Clause, size}
-use Rattle.cnf_base.specs.Stream.{Input, Reader}
-use Rattle.cnf_base.specs.declared.fault.Fault.{Fault}
-use Rattle.dimacs.specs.Formula.{Formula, formula_of}
-use Rattle.dimacs.specs.declared.header.Header.{Header}
-use Rattle.proofs.specs.Reading.{Proof}
-use Rattle.proofs.specs.Steps.{Step}
+use Rattle.cnf_base.specs.{Stream.Input, Stream.Reader, declared.fault.Fault.Fault}
+use Rattle.dimacs.specs.{Formula.Formula, Formula.formula_of, declared.header.Header.Header}
+use Rattle.proofs.specs.{Reading.Proof, Steps.Step}
 use Rattle.theory.specs.Drat.{after_drat, drat_step}
 use Rattle.theory.specs.Losses.{HasLost, LostBySteps, LostInDrat}
-use Rattle.theory.specs.Rules.{drat, by_copies}
-use Rattle.theory.specs.Systems.{ProofSystem, drat_system}
-use Rattle.theory.specs.Verdicts.{Ending, verified, is_empty, is_last, EndsBy, Ends, VerdictBy}
+use Rattle.theory.specs.{Rules.drat, Rules.by_copies, Systems.ProofSystem, Systems.drat_system}
+use Rattle.theory.specs.Verdicts.{Ending, verified, is_last, EndsBy, Ends, VerdictBy}
 use Rattle.theory.specs.Verdicts.{system_of}
-use Rattle.theory.specs.declared.accepted.Accepted.{Accepted}
-use Rattle.theory.specs.declared.drat_rules.DratRules.{DratRules}
-use Rattle.sat_check.specs.Code.Checking.{peak_of}
-use Rattle.report.specs.Lines.{formula_line}
-use Rattle.sat_check.specs.Reach.{ReadsNoFurther, TellsLoss, TellsWhy}
-use Rattle.sat_check.specs.Report.{Report, Checks, ReportsFormula, Reports, with_lines}
-use Rattle.sat_check.specs.Report.{ProofConsequences, ChecksProof, bare_steps, peak_by, proof_report}
-use Rattle.sat_check.specs.Runs.{RunsPlaced}
-use Rattle.sat_check.specs.declared.checked.Checked.{Checked}
+use Rattle.theory.specs.declared.{accepted.Accepted.Accepted, drat_rules.DratRules.DratRules}
+use Rattle.sat_check.specs.{Code.Checking.peak_of, Reach.ReadsNoFurther}
+use Rattle.sat_check.specs.{Reach.TellsWhy, Report.Report, Report.ReportsFormula}
+use Rattle.sat_check.specs.{Report.Reports, Report.ProofConsequences}
+use Rattle.sat_check.specs.{Report.ChecksProof, Report.peak_by}
+use Rattle.sat_check.specs.{Runs.RunsPlaced, declared.checked.Checked.Checked}
 use Rattle.sat_check.proofs.RunLemmas.{weakened}
-use Rattle.report.specs.declared.status.Status.{Status}
+use Rattle.report.specs.{declared.status.Status.Status}
 
 -- two systems that give the same verdicts and the same peaks
 pub record Alike {S T : Type 0} (one : ProofSystem S) (other : ProofSystem T) : Type 0 where
@@ -38,86 +30,39 @@ pub record Alike {S T : Type 0} (one : ProofSystem S) (other : ProofSystem T) : 
       → peak_by one.sum one.next (one.first formula) steps words ≡ peak_by other.sum other.next (other.first formula) steps words
 
 pub turned : {S T : Type 0} (one : ProofSystem S) (other : ProofSystem T) → Alike one other → Alike other one
-turned one other alike = record {
-  to = alike.back;
-  back = alike.to;
-  peak = λ formula steps words. sym (alike.peak formula steps words);
-}
+turned one other alike = search rules
 
 -- ---- What is said by one of them is said by the other
 
 module _ {S T : Type 0} (one : ProofSystem S) (other : ProofSystem T) (alike : Alike one other) where
-  checks_by : (trace : Bool) (h : Header) (clauses : List Clause) (p : Proof) (r : Report) → Checks one trace h clauses p r → Checks other trace h clauses p r
-  checks_by trace h clauses p r c = record {
-    words = c.words;
-    ending = c.ending;
-    verdict = alike.to clauses (bare_steps p) c.words c.ending c.verdict;
-    report = c.report ∙ ap (λ m. with_lines (formula_line h ∷ []) (proof_report trace 0 m c.words c.ending p.fault)) (alike.peak clauses (bare_steps p) c.words);
-  }
-
   formula_by : (trace : Bool) (header : Option Header) (clauses : List Clause) (fault : Option Fault) (p : Proof) (r : Report)
       → ReportsFormula one trace header clauses fault p r → ReportsFormula other trace header clauses fault p r
-  formula_by trace header clauses (Some f) p r x = x
-  formula_by trace (Some h) clauses None p r x = checks_by trace h clauses p r x
-  formula_by trace None clauses None p r x = x
+  formula_by trace header clauses fault p r h = search rules
 
   pub reports_by : (trace : Bool) (i : Input) (p : Proof) (old new : Option (List ℕ)) (status : Status) → Reports one trace i p old new status → Reports other trace i p old new status
-  reports_by trace i p old new status x = record {
-    report = x.report;
-    reports = formula_by trace (formula_of i).header (formula_of i).clauses (formula_of i).fault p x.report x.reports;
-    outcome = x.outcome;
-  }
+  reports_by trace i p old new status x = search (rules, formula_by)
 
   consequences_by : (i : Input) (p : Proof) (old new : Option (List ℕ)) (status : Status) → ProofConsequences one i p old new status → ProofConsequences other i p old new status
-  consequences_by i p old new status x = record {
-    verified = λ is. let v = x.verified is in record { whole = v.whole; words = v.words; verdict = alike.to (formula_of i).clauses (bare_steps p) v.words verified v.verdict };
-    complete = λ v. x.complete (record { whole = v.whole; words = v.words; verdict = alike.back (formula_of i).clauses (bare_steps p) v.words verified v.verdict });
-    sound = x.sound;
-    written = x.written;
-  }
+  consequences_by i p old new status x = search rules
 
   pub proof_by : (trace : Bool) (i : Input) (p : Proof) (old new : Option (List ℕ)) (status : Status) → ChecksProof one trace i p old new status → ChecksProof other trace i p old new status
-  proof_by trace i p old new status x = record {
-    reports = reports_by trace i p old new status x.reports;
-    consequences = consequences_by i p old new status x.consequences;
-  }
+  proof_by trace i p old new status x = search (rules, reports_by, consequences_by)
 
   pub reach_by : (f : Formula) (p : Proof) (old new : Reader) → ReadsNoFurther one f p old new → ReadsNoFurther other f p old new
-  reach_by f p old new x = record {
-    unread = x.unread;
-    past = λ words ending last whole v d. x.past words ending last whole (alike.back f.clauses (bare_steps p) words ending v) d;
-    fault = x.fault;
-  }
+  reach_by f p old new x = search rules
 
   -- the same losses, said in two ways
   abbrev LoseAlike : (One Other : List Clause → List Step → List Accepted → Type 0) → Type 0
   LoseAlike One Other = (formula : List Clause) (steps : List Step) (words : List Accepted) → One formula steps words ↔ Other formula steps words
 
-  loss_by : (One Other : List Clause → List Step → List Accepted → Type 0) → LoseAlike One Other → (fault : Option Fault) (clauses : List Clause) (p : Proof) (checked : Checked)
-      → TellsLoss one One fault clauses p checked → TellsLoss other Other fault clauses p checked
-  loss_by One Other losses fault clauses p checked x = record {
-    lost = λ words ending whole is v.
-        let told = x.lost words ending whole is (alike.back clauses (bare_steps p) words ending v) in
-        let same = losses clauses (bare_steps p) words in
-        (λ t. let q = told.0 t in (q.0, same.0 q.1), λ q. told.1 (q.0, same.1 q.1));
-    only = x.only;
-  }
-
   pub why_by : (One Other : List Clause → List Step → List Accepted → Type 0) → LoseAlike One Other → (fault : Option Fault) (clauses : List Clause) (p : Proof) (checked : Checked)
       → TellsWhy one One fault clauses p checked → TellsWhy other Other fault clauses p checked
-  why_by One Other losses fault clauses p checked x = record {
-    unread = x.unread;
-    refused = λ words ending whole is v. x.refused words ending whole is (alike.back clauses (bare_steps p) words ending v);
-    only = x.only;
-    loss = loss_by One Other losses fault clauses p checked x.loss;
-    malformed = x.malformed;
-  }
+  why_by One Other losses fault clauses p checked x = search rules
 
 -- ---- DRAT, as a rule and by itself
 
 or_later : {A B C : Type 0} → (B → C) → A ⊎ B → A ⊎ C
-or_later f (inl a) = inl a
-or_later f (inr b) = inr (f b)
+or_later h h2 = search rules
 
 module _ (rules : DratRules) where
   abbrev EndsHere : List Clause → List Step → List Accepted → Ending → Type 0
@@ -151,11 +96,7 @@ module _ (rules : DratRules) where
   losses live (s ∷ ss) (w ∷ ws) = let later = losses (after_drat live (drat_step rules s) w) ss ws in (or_later later.0, or_later later.1)
 
   pub drat_alike : Alike (system_of (drat rules)) (drat_system rules)
-  drat_alike = record {
-    to = λ formula steps words ending. last_or ((words ≡ []) × (ending ≡ verified)) (list_any is_empty formula) (ends_to formula steps words ending);
-    back = λ formula steps words ending. last_or ((words ≡ []) × (ending ≡ verified)) (list_any is_empty formula) (ends_back formula steps words ending);
-    peak = peaks;
-  }
+  drat_alike = search (last_or, ends_to, ends_back, peaks)
 
 -- what was promised of a run by the rule is promised by DRAT's own system
 pub drat_placed : (rules : DratRules) (trace : Bool) (steps : Input → Proof) (formula formula_new proof proof_new : Reader) (old new : Option (List ℕ)) (had_failed has_failed is_flushed : Bool) (checked : Checked)
@@ -172,4 +113,4 @@ drat_placed rules trace steps formula formula_new proof proof_new old new had_fa
 
 -- and so is its report by the rule
 pub drat_reported : (rules : DratRules) (trace : Bool) (i : Input) (p : Proof) (old new : Option (List ℕ)) (status : Status) → Reports (drat_system rules) trace i p old new status → Reports (system_of (drat rules)) trace i p old new status
-drat_reported rules = reports_by (drat_system rules) (system_of (drat rules)) (turned (system_of (drat rules)) (drat_system rules) (drat_alike rules))
+drat_reported rules = search (rules, reports_by, turned, drat_alike)

@@ -1,49 +1,35 @@
 -- The theorem, by the report and the grammars.
-use Rattle.theory.specs.Verdicts.{system_of}
-use Rattle.std.proofs.Common.{◌≡◌, ℕ, suc, ◌++◌, ◌||◌, Bool, true, false, List, [], ◌∷◌, reverse}
+use Rattle.theory.specs.{Verdicts.system_of, Verdicts.verified, Verdicts.Verdict, Models.Assignment}
+use Rattle.theory.specs.{Models.holds, Models.satisfies, Models.HasModel, Rules.Rule}
+use Rattle.std.proofs.Common.{◌≡◌, ℕ, suc, ◌++◌, Bool, true, false, List, [], ◌∷◌, reverse}
 use Rattle.std.proofs.Common.{Option, None, Some, refl, sym, ap, ◌∙◌, subst, append-nil, slice_get}
-use Rattle.std.proofs.Common.{inl, inr, codes}
-use Rattle.std.specs.List.{list_all}
-use Rattle.std.specs.Prelude.{IsFalse}
+use Rattle.std.proofs.Common.{inl, inr, codes, rules}
 use Rattle.std.proofs.lemmas.Bool.{and_parts, and_from, false_from_ne_true}
-use Rattle.std.specs.Io.KnownBytes.{Consumes, IsAtEnd}
-use Rattle.cnf_base.specs.Lines.{Sink}
-use Rattle.cnf_base.specs.Literals.{Literal, Clause, has}
-use Rattle.cnf_base.specs.Printing.{input_of}
-use Rattle.cnf_base.specs.Seen.{Seen, IsSeen, OfBothSeen}
-use Rattle.cnf_base.specs.Stream.{Input, Reader, MayFollow, is_failure, tells_failure}
-use Rattle.cnf_base.specs.declared.input.Ending.{Ending}
-use Rattle.cnf_base.specs.declared.input.Ending.TheVariants.{End, Failed}
+use Rattle.std.specs.{List.list_all, Prelude.IsFalse, Io.KnownBytes.Consumes, Io.KnownBytes.IsAtEnd}
+use Rattle.cnf_base.specs.{Lines.Sink, Literals.Literal, Literals.Clause, Literals.has}
+use Rattle.cnf_base.specs.{Printing.input_of, Seen.Seen, Seen.IsSeen, Seen.OfBothSeen}
+use Rattle.cnf_base.specs.Stream.{Input, Reader, MayFollow, tells_failure}
+use Rattle.cnf_base.specs.declared.input.Ending.{Ending, TheVariants.End, TheVariants.Failed}
 use Rattle.cnf_base.proofs.SeenLemmas.{seen_is_some}
 use Rattle.cnf_base.proofs.SetLemmas.{any_from, any_some, all_each, each_all}
-use Rattle.dimacs.specs.Claim.{claim_of}
-use Rattle.dimacs.specs.Formula.{Formula, formula_of}
+use Rattle.dimacs.specs.{Claim.claim_of, Formula.Formula, Formula.formula_of}
 use Rattle.dimacs.specs.declared.header.Header.{Header}
 use Rattle.dimacs.proofs.FormulaGrammar.{formula_grammar}
-use Rattle.proofs.specs.Grammar.{IsLratText}
-use Rattle.proofs.specs.Lrat.{lrat_steps}
-use Rattle.proofs.specs.Reading.{Proof}
-use Rattle.proofs.specs.Steps.{Step}
-use Rattle.proofs.proofs.BinaryGrammar.{binary_both_ways}
-use Rattle.proofs.proofs.DratGrammar.{drat_both_ways}
+use Rattle.proofs.specs.{Grammar.IsLratText, Lrat.lrat_steps, Reading.Proof, Steps.Step}
+use Rattle.proofs.proofs.{BinaryGrammar.binary_both_ways, DratGrammar.drat_both_ways}
 use Rattle.proofs.proofs.LratGrammar.{lrat_both_ways}
-use Rattle.theory.specs.Models.{Assignment, holds, satisfies, HasModel}
-use Rattle.theory.specs.Rules.{Rule}
-use Rattle.theory.specs.Verdicts.{verified, Verdict}
-use Rattle.sat_check.specs.Code.Checking.{RunsInto}
-use Rattle.sat_check.specs.ModelReport.{meets, model_report, Satisfies}
-use Rattle.sat_check.specs.Report.{Outcome, Reports, Verifies, bare_steps, drat_proof}
-use Rattle.sat_check.specs.Runs.{IsVerifiedBy, IsDratProof}
-use Rattle.sat_check.specs.Theorem.{IsAnswered, IsFormulaText, ShowsUnsatisfiable}
-use Rattle.sat_check.specs.Theorem.{StepsVerify, IsSatisfied, ShowsSatisfied}
-use Rattle.sat_check.specs.declared.checked.Checked.{Checked}
-use Rattle.report.specs.declared.status.Status.{Status}
-use Rattle.report.specs.declared.status.Status.TheVariants.{Verified}
+use Rattle.sat_check.specs.{Code.Checking.RunsInto, ModelReport.meets, ModelReport.model_report}
+use Rattle.sat_check.specs.{ModelReport.Satisfies, Report.Outcome, Report.Reports, Report.Verifies}
+use Rattle.sat_check.specs.{Report.bare_steps, Report.drat_proof, Runs.IsVerifiedBy}
+use Rattle.sat_check.specs.{Runs.IsDratProof, Theorem.IsAnswered, Theorem.IsFormulaText}
+use Rattle.sat_check.specs.{Theorem.ShowsUnsatisfiable, Theorem.StepsVerify, Theorem.IsSatisfied}
+use Rattle.sat_check.specs.{Theorem.ShowsSatisfied, declared.checked.Checked.Checked}
 use Rattle.sat_check.proofs.ClaimLemmas.{claim_consistent, claim_text, has_reverse}
 use Rattle.sat_check.proofs.EndingLemmas.{claim_ends, formula_ends, formula_header}
 use Rattle.sat_check.proofs.ModelLemmas.{Made, assigned, listed_holds, verified_satisfied}
 use Rattle.sat_check.proofs.SoundLemmas.{outcome_verified, report_verified, verifies_sound}
 use Rattle.sat_check.proofs.WrittenLemmas.{written_model, written_verified}
+use Rattle.report.specs.declared.status.Status.{Status, TheVariants.Verified}
 
 -- ---- What was seen of a reader that has these bytes
 
@@ -76,18 +62,11 @@ module _ (old new : Reader) (seen : Seen old new) (bytes : List ℕ)
           let P : Option Ending → Type 0 =
           λ met. MayFollow met new.left seen.handed seen.handed Failed in
           not_an_end
-          (ends (record { bytes = seen.handed; ending = Failed })
-          (subst P (sym is) (refl, refl)))
+          (ends (record { bytes = seen.handed; ending = Failed }) (subst P (sym is) (refl, refl)))
 
   -- and where the reader tells of no failure
   seen_unfailed : tells_failure new ≡ false → IsSeen seen (input_of bytes)
-  seen_unfailed quiet =
-      seen_unless
-      (λ is. by
-      (sym (ap (λ met. is_failure met || tells_failure old) is) ∙ sym seen.told ∙ quiet))
-    where
-      by : true ≡ false → ⊥
-      by e = cc
+  seen_unfailed quiet = search rules
 
 -- ---- Formulas
 
@@ -102,8 +81,7 @@ formula_text bytes whole =
 -- and a text is read as those
 text_read : (bytes : List ℕ) (h : Header) (clauses : List Clause) →
     IsFormulaText bytes h clauses → (formula_of (input_of bytes)).clauses ≡ clauses
-text_read bytes h clauses t =
-    ap (λ (f : Formula). f.clauses)
+text_read bytes h clauses t = ap (λ (f : Formula). f.clauses)
     (formula_grammar.written_is_read bytes h clauses t.within t.text)
 
 -- ---- All clauses of a list
@@ -117,9 +95,7 @@ all_at p (d ∷ cs) all k c at =
     by : (k : ℕ) → (p d ≡ true) × (list_all p cs ≡ true) →
         (list_all p cs ≡ true → (k : ℕ) (c : Clause) → slice_get cs k ≡ Some c → p c ≡ true) →
         slice_get (d ∷ cs) k ≡ Some c → p c ≡ true
-    by Prim.Native.Nat.zero both next at = let e : ◌≡◌ {A = Option Clause} (Some d) (Some c) =
-        at in let same : d ≡ c = cc in ap p (sym same) ∙ both.0
-    by (Prim.Native.Nat.suc k) both next at = next both.1 k c at
+    by k h h2 h3 = search rules
 
 at_all : (p : Clause → Bool) (cs : List Clause) →
     ((k : ℕ) (c : Clause) → slice_get cs k ≡ Some c → p c ≡ true) → list_all p cs ≡ true
@@ -137,9 +113,8 @@ no_model_refuted clauses none v =
 
 -- a positive answer is that of a proof which verifies the formula
 answered_proof : (rule : Rule) (trace : Bool) (i : Input) (p : Proof) (old new : Option (List ℕ))
-    (status : Status)
-    → Reports (system_of rule) trace i p old new status → IsAnswered (codes "s VERIFIED") status old new →
-    Verifies (system_of rule) (formula_of i) p
+    (status : Status) → Reports (system_of rule) trace i p old new status
+    → IsAnswered (codes "s VERIFIED") status old new → Verifies (system_of rule) (formula_of i) p
 answered_proof rule trace i p old new status x (inl is) =
     report_verified rule trace i p x.report x.reports
     (outcome_verified status old new x.report is x.outcome)
@@ -162,8 +137,7 @@ module _ (rule : Rule) (trace : Bool) (steps : Input → Proof)
       formula.left ≡ Some bytes → IsSeen both.first (input_of bytes)
   whole_formula answer bytes holds =
       let j = seen_is_some proof proof_new both.second in
-      seen_whole formula formula_new both.first bytes holds
-      (λ i seen. formula_ends i (verifies answer i j.0 seen j.1).whole)
+      search (rules, seen_whole, formula_ends, verifies)
 
   pub shows_unsatisfiable : ShowsUnsatisfiable formula.left status old new
   shows_unsatisfiable bytes holds answer =
@@ -243,8 +217,7 @@ answered_model : (i j : Input) (old new : Option (List ℕ)) (status : Status) �
 answered_model i j old new status o answer =
     verified_satisfied (claim_of j) (formula_of i) (by answer) (claim_consistent j)
   where
-    by : IsAnswered (codes "s MODEL VERIFIED") status old new →
-        (model_report i j).status ≡ Verified
+    by : IsAnswered (codes "s MODEL VERIFIED") status old new → (model_report i j).status ≡ Verified
     by (inl is) = outcome_verified status old new (model_report i j) is o
     by (inr w) = written_model (claim_of j) (formula_of i) status old new o w
 
@@ -271,11 +244,9 @@ satisfied_by bytes output_bytes s whole =
       listed = claim.1;
       some = (
         assigned (reverse s.listed),
-        each_all _ (reverse s.listed)
-            (listed_holds (reverse s.listed) claim.0.consistent),
+        each_all _ (reverse s.listed) (listed_holds (reverse s.listed) claim.0.consistent),
       );
-      each = λ v trues. at_all (satisfies v) _
-          (λ k c at. met_true v s.listed trues c (s.met k c at));
+      each = search (rules, at_all, met_true);
     }
 
 module _ (formula formula_new output output_new : Reader) (old new : Option (List ℕ))

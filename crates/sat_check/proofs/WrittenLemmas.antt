@@ -1,50 +1,33 @@
 -- A line that was written is one of the report's.
-use Rattle.theory.specs.Verdicts.{system_of}
-use Rattle.std.proofs.Common.{◌≡◌, ℕ, zero, suc, ◌+◌, ◌-◌, ◌/◌, ◌%◌, ◌^◌, ◌==◌, ◌&&◌, ◌||◌, min}
-use Rattle.std.proofs.Common.{if◌then◌else◌, cond, Bool, true, false, not, Option, None, Some, List}
-use Rattle.std.proofs.Common.{[], ◌∷◌, ◌++◌, length, codes, refl, sym, ap, ◌∙◌, subst, append_assoc}
-use Rattle.std.proofs.Common.{arith}
-use Rattle.std.specs.Prelude.{decimal, Result, Ok, Err}
-use Rattle.std.specs.Fmt.{digits, digits_onto, digit_glyph}
-use Rattle.std.specs.List.{list_all, list_any, onto_first}
-use Rattle.std.specs.Str.{bytes_eq}
-use Rattle.std.specs.Io.KnownBytes.{Appends}
-use Rattle.std.proofs.lemmas.Bool.{and_parts}
-use Rattle.std.proofs.lemmas.Bool.Decides.{nat_tests}
-use Rattle.std.proofs.lemmas.List.{append_cancel_left}
-use Rattle.std.proofs.lemmas.List.Folds.{list_all-append, list_any-append}
-use Rattle.cnf_base.proofs.LineLemmas.{append_nil}
-use Rattle.cnf_base.specs.Literals.{Literal, Clause}
-use Rattle.cnf_base.specs.Stream.{Input}
-use Rattle.cnf_base.specs.Text.{lines_of}
-use Rattle.cnf_base.specs.declared.fault.Fault.{Fault}
-use Rattle.cnf_base.specs.declared.fault.Fault.TheVariants as fault
-use Rattle.cnf_base.specs.declared.fault.TextFault.{TextFault}
-use Rattle.cnf_base.specs.declared.fault.TextFault.TheVariants as text
-use Rattle.cnf_base.specs.declared.fault.BinaryFault.{BinaryFault}
-use Rattle.cnf_base.specs.declared.fault.BinaryFault.TheVariants as binary
-use Rattle.dimacs.specs.Formula.{Formula, formula_of}
-use Rattle.dimacs.specs.declared.header.Header.{Header}
-use Rattle.proofs.specs.Reading.{Proof}
-use Rattle.theory.specs.Rules.{Rule}
-use Rattle.theory.specs.Verdicts.{Ending, verified, refused, no_empty_clause}
-use Rattle.theory.specs.declared.accepted.Accepted.{Accepted}
-use Rattle.theory.specs.declared.accepted.Accepted.TheVariants.{Rup}
-use Rattle.theory.specs.declared.refusal.Refusal.{Refusal}
+use Rattle.theory.specs.Verdicts.{system_of, Ending, verified, refused, no_empty_clause}
+use Rattle.theory.specs.{Rules.Rule, declared.accepted.Accepted.Accepted}
+use Rattle.theory.specs.declared.{refusal.Refusal.Refusal}
 use Rattle.theory.specs.declared.refusal.Refusal.TheVariants as refusal
-use Rattle.report.specs.Lines.{Certificate, a_proof, a_model, unmet_line, clauses_line}
-use Rattle.report.specs.Lines.{shown, formula_line, kind_text, binary_text, fault_line}
-use Rattle.report.specs.Lines.{fault_status, word_text, trace_line, sign_text, with_cause}
-use Rattle.report.specs.Lines.{refusal_line, steps_line, end_line, sentence}
+use Rattle.std.proofs.Common.{◌≡◌, ℕ, zero, suc, ◌+◌, ◌-◌, ◌/◌, ◌%◌, ◌^◌, ◌==◌, ◌&&◌, ◌||◌, min}
+use Rattle.std.proofs.Common.{if◌then◌else◌, Bool, true, false, not, Option, None, Some, List}
+use Rattle.std.proofs.Common.{[], ◌∷◌, ◌++◌, length, codes, refl, sym, ap, ◌∙◌, subst, append_assoc}
+use Rattle.std.proofs.Common.{arith, rules}
+use Rattle.std.proofs.lemmas.Bool.{and_parts, Decides.nat_tests}
+use Rattle.std.proofs.lemmas.List.{append_cancel_left, Folds.list_all-append, Folds.list_any-append}
+use Rattle.std.specs.Prelude.{decimal, Result, Ok, Err}
+use Rattle.std.specs.{Fmt.digits, Fmt.digits_onto, Fmt.digit_glyph, List.list_all, List.list_any}
+use Rattle.std.specs.{Str.bytes_eq, Io.KnownBytes.Appends}
+use Rattle.cnf_base.proofs.LineLemmas.{append_nil}
+use Rattle.cnf_base.specs.{Literals.Literal, Literals.Clause, Stream.Input, Text.lines_of}
+use Rattle.cnf_base.specs.declared.fault.{Fault.Fault, TextFault.TextFault, BinaryFault.BinaryFault}
+use Rattle.cnf_base.specs.declared.fault.Fault.TheVariants as fault
+use Rattle.dimacs.specs.{Formula.Formula, Formula.formula_of, declared.header.Header.Header}
+use Rattle.proofs.specs.Reading.{Proof}
+use Rattle.report.specs.Lines.{Certificate, a_proof, a_model, unmet_line, shown}
+use Rattle.report.specs.Lines.{formula_line, kind_text, binary_text, fault_line, fault_status}
+use Rattle.report.specs.Lines.{word_text, trace_line, sign_text, with_cause, refusal_line}
+use Rattle.report.specs.Lines.{steps_line, sentence}
+use Rattle.report.specs.declared.status.Status.{Status}
+use Rattle.report.specs.declared.status.Status.TheVariants.{Verified, NotVerified}
 use Rattle.sat_check.specs.ModelReport.{first_unmet, met_report, clauses_report, claim_report}
 use Rattle.sat_check.specs.Report.{Report, Outcome, text_of, concluded, with_lines, trace_lines}
-use Rattle.sat_check.specs.Report.{verdict_report, proof_report, ReportsFormula}
-use Rattle.sat_check.specs.Report.{HasWritten}
+use Rattle.sat_check.specs.Report.{verdict_report, proof_report, ReportsFormula, HasWritten}
 use Rattle.sat_check.proofs.OutcomeLemmas.{text_of-append}
-use Rattle.report.specs.declared.status.Status.{Status}
-use Rattle.report.specs.declared.status.Status.TheVariants.{Verified, NotVerified, Malformed}
-use Rattle.report.specs.declared.status.Status.TheVariants.{ReadFailed, OutOfMemory, WriteFailed}
-use Rattle.report.specs.declared.status.Status.TheVariants.{Usage}
 
 -- ---- Texts without a line feed
 
@@ -71,8 +54,7 @@ digits_test (suc k) n acc e =
     by _ _ (n / 10 == 0) one (digits_test k (n / 10) (digit_glyph false (n % 10) ∷ acc) one)
   where
     by : (longer other : List ℕ) (v : Bool) → has_no_feed longer ≡ true → has_no_feed other ≡ true → has_no_feed (if v then longer else other) ≡ true
-    by longer other true one more = one
-    by longer other false one more = more
+    by longer other v h h2 = search rules
 
 number_plain : (n : ℕ) → Plain (decimal n)
 unfolding digits
@@ -90,31 +72,15 @@ begins (b ∷ bs) (c ∷ cs) = (b == c) && begins bs cs
 begins_same : (line part rest : List ℕ) → bytes_eq line part ≡ true → begins line (part ++ rest) ≡ true
 begins_same [] part rest e = refl
 begins_same (b ∷ bs) [] rest e = absurd (let bad : false ≡ true = e in cc)
-begins_same (b ∷ bs) (c ∷ cs) rest e = by (b == c) e (begins_same bs cs rest)
-  where
-    by : (v : Bool) → (v && bytes_eq bs cs) ≡ true → (bytes_eq bs cs ≡ true → begins bs (cs ++ rest) ≡ true) → (v && begins bs (cs ++ rest)) ≡ true
-    by true e next = next e
-    by false e next = absurd (let bad : false ≡ true = e in cc)
+begins_same (b ∷ bs) (c ∷ cs) rest e = search (rules, (begins_same bs cs rest))
 
 cut_line : (line ys : List ℕ) → has_no_feed line ≡ true → lines_of (line ++ 10 ∷ ys) ≡ line ∷ lines_of ys
 cut_line [] ys e = refl
-cut_line (b ∷ bs) ys e = by (b == 10) refl (cut_line bs ys)
-  where
-    by : (v : Bool) → (b == 10) ≡ v → (has_no_feed bs ≡ true → lines_of (bs ++ 10 ∷ ys) ≡ bs ∷ lines_of ys) → lines_of (b ∷ bs ++ 10 ∷ ys) ≡ (b ∷ bs) ∷ lines_of ys
-    by true h next = absurd (let bad : false ≡ true = sym (ap (λ v. not v && has_no_feed bs) h) ∙ e in cc)
-    by false h next =
-        let rest : has_no_feed bs ≡ true = sym (ap (λ v. not v && has_no_feed bs) h) ∙ e in
-        ap (λ v. cond v ([] ∷ lines_of (bs ++ 10 ∷ ys)) (onto_first b (lines_of (bs ++ 10 ∷ ys)))) h ∙ ap (onto_first b) (next rest)
+cut_line (b ∷ bs) ys e = search (rules, (cut_line bs ys))
 
 uncut_line : (line : List ℕ) → has_no_feed line ≡ true → lines_of line ≡ line ∷ []
 uncut_line [] e = refl
-uncut_line (b ∷ bs) e = by (b == 10) refl (uncut_line bs)
-  where
-    by : (v : Bool) → (b == 10) ≡ v → (has_no_feed bs ≡ true → lines_of bs ≡ bs ∷ []) → lines_of (b ∷ bs) ≡ (b ∷ bs) ∷ []
-    by true h next = absurd (let bad : false ≡ true = sym (ap (λ v. not v && has_no_feed bs) h) ∙ e in cc)
-    by false h next =
-        let rest : has_no_feed bs ≡ true = sym (ap (λ v. not v && has_no_feed bs) h) ∙ e in
-        ap (λ v. cond v ([] ∷ lines_of bs) (onto_first b (lines_of bs))) h ∙ ap (onto_first b) (next rest)
+uncut_line (b ∷ bs) e = search (rules, (uncut_line bs))
 
 -- a beginning of a line and what follows it is a beginning of the line, or the line and a beginning of what follows
 data Cut (line text part rest : List ℕ) : Type 0 where
@@ -144,25 +110,20 @@ among_lines b bs (line ∷ lines) part rest all whole written =
     let both = and_parts (has_no_feed line) (list_all has_no_feed lines) all in
     let cut = cut_at line (text_of lines) part rest (sym (append_assoc line (10 ∷ []) (text_of lines)) ∙ whole) in
     elim cut [
-      | within x is ↦
-          let plain = (and_parts _ _ (sym (list_all-append _ part x) ∙ ap has_no_feed (sym is) ∙ both.0)).0 in
-          let same = or_last _ (sym (ap (list_any (bytes_eq (b ∷ bs))) (uncut_line part plain)) ∙ written) in
-          or_first _ _ (ap (begins (b ∷ bs)) is ∙ begins_same (b ∷ bs) part x same)
+      | within x is ↦ search (rules, and_parts, list_all-append, uncut_line, begins_same)
       | past x is more ↦
           let told = sym (ap (λ y. list_any (bytes_eq (b ∷ bs)) (lines_of y)) is ∙ ap (list_any (bytes_eq (b ∷ bs))) (cut_line line x both.0)) ∙ written in
           by_line line lines (lines_of x) told (among_lines b bs lines x rest both.1 more)
     ]
   where
     or_last : (v : Bool) → (v || false) ≡ true → v ≡ true
-    or_last true e = refl
-    or_last false e = absurd (let bad : false ≡ true = e in cc)
+    or_last v h = search rules
 
     or_first : (v w : Bool) → v ≡ true → (v || w) ≡ true
     or_first v w e = ap (λ x. x || w) e
 
     or_then : (v w : Bool) → w ≡ true → (v || w) ≡ true
-    or_then true w e = refl
-    or_then false w e = e
+    or_then v w h = search rules
 
     by_line : (line : List ℕ) (lines text : List (List ℕ)) → (bytes_eq (b ∷ bs) line || list_any (bytes_eq (b ∷ bs)) text) ≡ true
         → (list_any (bytes_eq (b ∷ bs)) text ≡ true → list_any (begins (b ∷ bs)) lines ≡ true) → (begins (b ∷ bs) line || list_any (begins (b ∷ bs)) lines) ≡ true
@@ -183,31 +144,14 @@ record Tells (certificate : Certificate) (r : Report) : Type 0 where
   plain : list_all has_no_feed r.lines ≡ true
   told : list_any (begins (positive certificate)) r.lines ≡ true → r.status ≡ Verified
 
-sentence_plain : (certificate : Certificate) (s : Status) → Plain (sentence certificate s)
-sentence_plain a_proof Verified = fixed _ refl
-sentence_plain a_proof _ = fixed _ refl
-sentence_plain a_model Verified = fixed _ refl
-sentence_plain a_model _ = fixed _ refl
-
-sentence_told : (certificate : Certificate) (s : Status) → (begins (positive certificate) (sentence certificate s) || false) ≡ true → s ≡ Verified
-sentence_told a_proof Verified e = refl
-sentence_told a_proof _ e = absurd (let bad : false ≡ true = e in cc)
-sentence_told a_model Verified e = refl
-sentence_told a_model _ e = absurd (let bad : false ≡ true = e in cc)
-
 concluded_tells : (certificate : Certificate) (line : List ℕ) (s : Status) → Plain line → begins (positive certificate) line ≡ false → Tells certificate (concluded certificate line s)
-concluded_tells certificate line s e other = record {
-  plain = ap (λ v. v && (has_no_feed (sentence certificate s) && true)) e.test ∙ ap (λ v. v && true) (sentence_plain certificate s).test;
-  told = λ h. sentence_told certificate s (sym (ap (λ v. v || (begins (positive certificate) (sentence certificate s) || false)) other) ∙ h);
-}
+concluded_tells certificate line s e other = search rules
 
 kind_plain : (k : TextFault) → Plain (kind_text k)
-kind_plain text.BadHeader = fixed _ refl
-kind_plain _ = fixed _ refl
+kind_plain k = search rules
 
 binary_plain : (k : BinaryFault) → Plain (binary_text k)
-binary_plain binary.BadTag = fixed _ refl
-binary_plain _ = fixed _ refl
+binary_plain k = search rules
 
 fault_plain : (name : List ℕ) (f : Fault) → Plain name → Plain (fault_line name f)
 fault_plain name (fault.Text kind p) e =
@@ -218,24 +162,16 @@ fault_plain name fault.ReadFailed e = fixed (codes "c cannot read ") refl ⊕ e
 fault_plain name fault.OutOfMemory e = fixed [] refl
 
 fault_other : (certificate : Certificate) (name : List ℕ) (f : Fault) → begins (positive certificate) (fault_line name f) ≡ false
-fault_other a_proof name fault.ReadFailed = refl
-fault_other a_proof name _ = refl
-fault_other a_model name fault.ReadFailed = refl
-fault_other a_model name _ = refl
+fault_other certificate name f = search rules
 
 fault_tells : (certificate : Certificate) (name : List ℕ) (f : Fault) → Plain name → Tells certificate (concluded certificate (fault_line name f) (fault_status f))
-fault_tells certificate name f e = concluded_tells certificate (fault_line name f) (fault_status f) (fault_plain name f e) (fault_other certificate name f)
+fault_tells certificate name f e = search (rules, concluded_tells, fault_plain, fault_other)
 
 word_plain : (w : Accepted) → Plain (word_text w)
-word_plain Rup = fixed _ refl
-word_plain _ = fixed _ refl
+word_plain w = search rules
 
 sign_plain : (l : Literal) → Plain (sign_text l)
-sign_plain l = by (l % 2 == 0)
-  where
-    by : (v : Bool) → Plain (cond v [] (codes "-"))
-    by true = fixed _ refl
-    by false = fixed _ refl
+sign_plain l = search rules
 
 cause_plain : (front : List ℕ) (r : Refusal) → Plain front → Plain (with_cause front r)
 cause_plain front refusal.NotRup e = e ⊕ fixed (codes "not RUP") refl
@@ -255,8 +191,7 @@ cause_plain front refusal.OutOfMemory e = e
 cause_plain front refusal.Ended e = e
 
 refusal_other : (n : ℕ) (r : Refusal) → begins (positive a_proof) (refusal_line n r) ≡ false
-refusal_other n refusal.NotRup = refl
-refusal_other n _ = refl
+refusal_other n r = search rules
 
 shown_plain : (n : ℕ) → Plain (shown n)
 shown_plain n = number_plain (min n (2 ^ 64 - 1))
@@ -268,17 +203,14 @@ steps_plain : (n peak : ℕ) → Plain (steps_line n peak)
 steps_plain n peak = fixed (codes "c steps ") refl ⊕ shown_plain n ⊕ fixed (codes " peak ") refl ⊕ shown_plain peak
 
 verdict_tells : (n peak : ℕ) (ending : Ending) (fault : Option Fault) → Tells a_proof (verdict_report n peak ending fault)
-verdict_tells n peak verified fault = concluded_tells a_proof (steps_line n peak) Verified (steps_plain n peak) refl
+verdict_tells n peak verified fault = search (rules, concluded_tells, steps_plain)
 verdict_tells n peak (refused r) fault = concluded_tells a_proof (refusal_line (n + 1) r) NotVerified (refusal_plain (n + 1) r) (refusal_other (n + 1) r)
-verdict_tells n peak no_empty_clause None = concluded_tells a_proof end_line NotVerified (fixed _ refl) refl
+verdict_tells n peak no_empty_clause None = search rules
 verdict_tells n peak no_empty_clause (Some f) = fault_tells a_proof (codes "proof") f (fixed _ refl)
 
 -- lines in front of a report
 front_tells : (lines : List (List ℕ)) (r : Report) → list_all has_no_feed lines ≡ true → list_any (begins (positive a_proof)) lines ≡ false → Tells a_proof r → Tells a_proof (with_lines lines r)
-front_tells lines r e other t = record {
-  plain = list_all-append has_no_feed lines r.lines ∙ ap (λ v. v && list_all has_no_feed r.lines) e ∙ t.plain;
-  told = λ h. t.told (sym (list_any-append (begins (positive a_proof)) lines r.lines ∙ ap (λ v. v || list_any (begins (positive a_proof)) r.lines) other) ∙ h);
-}
+front_tells lines r e other t = search (rules, list_all-append, list_any-append)
 
 trace_plain : (n : ℕ) (words : List Accepted) → list_all has_no_feed (trace_lines n words) ≡ true
 trace_plain n [] = refl
@@ -292,7 +224,7 @@ trace_other n (w ∷ ws) = trace_other (n + 1) ws
 
 proof_tells : (trace : Bool) (n peak : ℕ) (words : List Accepted) (ending : Ending) (fault : Option Fault) → Tells a_proof (proof_report trace n peak words ending fault)
 proof_tells true n peak words ending fault = front_tells (trace_lines (n + 1) words) _ (trace_plain (n + 1) words) (trace_other (n + 1) words) (verdict_tells (n + length words) peak ending fault)
-proof_tells false n peak words ending fault = front_tells [] _ refl refl (verdict_tells (n + length words) peak ending fault)
+proof_tells false n peak words ending fault = search (rules, front_tells, verdict_tells)
 
 formula_plain : (h : Header) → Plain (formula_line h)
 formula_plain h = fixed (codes "c formula ") refl ⊕ number_plain h.vars ⊕ fixed (codes " variables ") refl ⊕ number_plain h.clauses ⊕ fixed (codes " clauses") refl
@@ -308,7 +240,7 @@ report_tells rule trace i p r reports = by (formula_of i).header (formula_of i).
 
 -- the lines of a model's report
 met_tells : (n : ℕ) (fault : Option Fault) → Tells a_model (met_report n fault)
-met_tells n None = concluded_tells a_model (clauses_line n) Verified (fixed (codes "c clauses ") refl ⊕ shown_plain n) refl
+met_tells n None = search (rules, concluded_tells, fixed, shown_plain)
 met_tells n (Some f) = fault_tells a_model (codes "formula") f (fixed _ refl)
 
 unmet_tells : (unmet : Option ℕ) (f : Formula) → Tells a_model (clauses_report unmet f)
@@ -333,28 +265,16 @@ outcome_begins status old new r o = by status o
     whole a = (text_of r.lines, [], sym (append_nil (text_of r.lines)), a)
 
     by : (status : Status) → Outcome status old new r → Begins old new r
-    by Verified o = whole o.1
-    by NotVerified o = whole o.1
-    by Malformed o = whole o.1
-    by ReadFailed o = whole o.1
-    by Usage o = whole o.1
-    by OutOfMemory o = (text_of o.0, text_of o.1, ap text_of o.2 ∙ text_of-append o.0 o.1, o.3)
-    by WriteFailed o = o
+    by status h = search (rules, whole, text_of-append)
 
 appended : (old new : Option (List ℕ)) (held bytes part : List ℕ) → old ≡ Some held → new ≡ Some (held ++ bytes) → Appends old new part → bytes ≡ part
-appended old new held bytes part before after a =
-    let P : Option (List ℕ) → Type 0 = λ o. Appends o new part in
-    let Q : Option (List ℕ) → Type 0 = λ o. Appends (Some held) o part in
-    let same : held ++ bytes ≡ held ++ part = subst Q after (subst P before a) in
-    append_cancel_left held bytes part same
+appended old new held bytes part before after a = search (rules, append_cancel_left)
 
 -- where that sentence was written, the report has status 0
 sentence_written : (b : ℕ) (bs : List ℕ) (r : Report) (status : Status) (old new : Option (List ℕ)) → list_all has_no_feed r.lines ≡ true
     → (list_any (begins (b ∷ bs)) r.lines ≡ true → r.status ≡ Verified) → Outcome status old new r → HasWritten (b ∷ bs) old new → r.status ≡ Verified
 sentence_written b bs r status old new plain told o w =
-    let begun = outcome_begins status old new r o in
-    let same = appended old new w.held w.bytes begun.0 w.before w.after begun.3 in
-    told (among_lines b bs r.lines begun.0 begun.1 plain begun.2 (sym (ap (λ x. list_any (bytes_eq (b ∷ bs)) (lines_of x)) same) ∙ w.written))
+    search (rules, outcome_begins, appended, among_lines)
 
 pub written_verified : (rule : Rule) (trace : Bool) (i : Input) (p : Proof) (r : Report) (status : Status) (old new : Option (List ℕ))
     → ReportsFormula (system_of rule) trace (formula_of i).header (formula_of i).clauses (formula_of i).fault p r → Outcome status old new r → HasWritten (codes "s VERIFIED") old new → r.status ≡ Verified

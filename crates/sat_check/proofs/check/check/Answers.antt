@@ -6,11 +6,10 @@ use Rattle.cnf_base.proofs.SeenLemmas.{seen_is_some}
 use Rattle.dimacs.specs.Formula.{formula_of}
 use Rattle.theory.specs.Rules.{rule_of}
 use Rattle.sat_check.specs.Code.Checking.{LeavesProof}
-use Rattle.report.specs.declared.status.Status.TheVariants.{Malformed}
-use Rattle.report.specs.declared.status.Status.TheVariants.{OutOfMemory as NoMemory}
 use Rattle.sat_check.proofs.ReachLemmas.{no_verdict, LeavesProof-fault}
 use Rattle.sat_check.proofs.ReportLemmas.{reports_checked, err_report}
 use Rattle.sat_check.proofs.check.check.Goals as goal
+use Rattle.report.specs.declared.status.Status.TheVariants.{Malformed, OutOfMemory as NoMemory}
 
 pub check_loaded-requires-clause-loaded : goal.check_loaded-requires-clause-loaded
 check_loaded-requires-clause-loaded g c =

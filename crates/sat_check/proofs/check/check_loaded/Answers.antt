@@ -13,8 +13,7 @@ use Rattle.sat_check.proofs.ReportLemmas.{verified_report}
 use Rattle.sat_check.proofs.check.check_loaded.Goals as goal
 
 pub returns-in-Err-clause-report : goal.returns-in-Err-clause-report
-returns-in-Err-clause-report g c =
-    Along-map _ _ _ _ (Along-none _) (λ j k m same rule clauses l.
+returns-in-Err-clause-report g c = Along-map _ _ _ _ (Along-none _) (λ j k m same rule clauses l.
     let some = checks_some rule (g.S.ProofSession.shown c.args.session.now) clauses l c.args.trace c.args.header _ in
     let stopped = c.in-Err.ensures.stopped (formula_line c.args.header) in (
       _,

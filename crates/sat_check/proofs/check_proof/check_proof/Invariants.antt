@@ -4,12 +4,10 @@ use Rattle.sat_check.proofs.CheckLemmas.{Checking}
 use Rattle.sat_check.proofs.check_proof.check_proof.Given as goal
 
 abbrev pub invariant-loop-number : goal.invariant-loop-number
-invariant-loop-number g l =
-    Checking l.trace
-    (record {
-      stream = g.R.StepReader.stream l.fn.reader;
-      to_come = g.R.StepReader.to_come l.fn.reader;
-    })
+invariant-loop-number g l = Checking l.trace (record {
+  stream = g.R.StepReader.stream l.fn.reader;
+  to_come = g.R.StepReader.to_come l.fn.reader;
+})
     (record {
       stream = g.R.StepReader.stream l.reader;
       to_come = g.R.StepReader.to_come l.reader;

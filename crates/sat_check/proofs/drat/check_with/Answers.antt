@@ -1,15 +1,13 @@
 -- Want of memory, or the check in the form that was asked for.
 use Rattle.std.proofs.Common.{refl, sym, ap, rules}
-use Rattle.proofs.specs.Binary.{binary_steps}
-use Rattle.proofs.specs.Code.Binary.{binary_to_come}
+use Rattle.proofs.specs.{Binary.binary_steps, Code.Binary.binary_to_come, Code.Drat.drat_to_come}
 use Rattle.proofs.specs.Drat.{drat_steps}
-use Rattle.proofs.specs.Code.Drat.{drat_to_come}
 use Rattle.steps.specs.Session.{view_of}
 use Rattle.sat_check.specs.Report.{drat_proof, rules_of}
-use Rattle.theory.specs.Rules.{drat, rule_of}
 use Rattle.sat_check.proofs.LoadLemmas.{unused}
 use Rattle.sat_check.proofs.CheckLemmas.{runs_nothing, reports_run, reports_as}
 use Rattle.sat_check.proofs.drat.check_with.Goals as goal
+use Rattle.theory.specs.Rules.{drat, rule_of}
 
 pub returns-in_default : goal.returns-in_default
 returns-in_default g c =

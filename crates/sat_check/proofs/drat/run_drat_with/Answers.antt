@@ -1,17 +1,13 @@
 -- What the lines hold is what the writer holds, without the place, and what that means for the bytes.
 use Rattle.std.proofs.Common.{rules}
-use Rattle.sat_check.specs.Report.{drat_proof, rules_of}
-use Rattle.sat_check.specs.Runs.{IsDratProof}
-use Rattle.theory.specs.Rules.{drat}
-use Rattle.sat_check.proofs.RunLemmas.{weakened}
-use Rattle.sat_check.proofs.SoundLemmas.{runs_placed}
-use Rattle.sat_check.proofs.SystemLemmas.{drat_placed}
+use Rattle.sat_check.specs.{Report.drat_proof, Report.rules_of, Runs.IsDratProof}
+use Rattle.sat_check.proofs.{RunLemmas.weakened, SoundLemmas.runs_placed, SystemLemmas.drat_placed}
 use Rattle.sat_check.proofs.TheoremLemmas.{into_unsatisfiable, into_steps, drat_read}
 use Rattle.sat_check.proofs.drat.run_drat_with.Goals as goal
+use Rattle.theory.specs.Rules.{drat}
 
 pub returns-clause-runs : goal.returns-clause-runs
-returns-clause-runs g c =
-    weakened _ _ _ _ _ _ _ _ _ _
+returns-clause-runs g c = weakened _ _ _ _ _ _ _ _ _ _
     (drat_placed (rules_of c.args.options.now) c.args.options.now.trace (drat_proof c.args.options.now.binary) _ _ _ _ _ _ _ _ _ _
     (runs_placed (drat (rules_of c.args.options.now)) c.args.options.now.trace (drat_proof c.args.options.now.binary) _ _ _ _ c.check_with-checked.result _ _ _ _ _ _ _
     (search rules) (search rules) (search rules) (search rules) (search rules) c.check_with-checked.ensures))

@@ -1,8 +1,7 @@
 -- A clause is input, until the last one or a fault.
 use Rattle.std.proofs.Common.{◌≡◌, ◌+◌, ◌≤◌, ◌||◌, max, true, false, rules}
 use Rattle.std.specs.Prelude.{Ok}
-use Rattle.theory.specs.Rules.{Same, with_input, sum_of}
-use Rattle.theory.specs.Verdicts.{is_empty}
+use Rattle.theory.specs.{Rules.Same, Rules.with_input, Rules.sum_of, Verdicts.is_empty}
 use Rattle.sat_check.proofs.LoadLemmas.{Loading-start, Loading-clause, Loading-done, Loading-fault}
 use Rattle.sat_check.proofs.LoadLemmas.{Loading-refused, loaded_more}
 use Rattle.sat_check.proofs.ReadLemmas.{clause_told}

@@ -1,7 +1,6 @@
 -- Want of memory, or the check.
 use Rattle.std.proofs.Common.{refl, ap, rules}
-use Rattle.proofs.specs.Lrat.{lrat_steps}
-use Rattle.proofs.specs.Code.Lrat.{lrat_to_come}
+use Rattle.proofs.specs.{Lrat.lrat_steps, Code.Lrat.lrat_to_come}
 use Rattle.theory.specs.Rules.{lrat, rule_of}
 use Rattle.steps.specs.Session.{view_of}
 use Rattle.sat_check.proofs.LoadLemmas.{unused}

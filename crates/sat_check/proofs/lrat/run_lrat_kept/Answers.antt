@@ -2,10 +2,9 @@
 use Rattle.std.proofs.Common.{refl, rules}
 use Rattle.proofs.specs.Lrat.{lrat_steps}
 use Rattle.theory.specs.Rules.{lrat}
-use Rattle.sat_check.proofs.CheckLemmas.{runs_nothing}
-use Rattle.sat_check.proofs.SoundLemmas.{runs_placed}
-use Rattle.sat_check.proofs.lrat.run_lrat_kept.Goals as goal
+use Rattle.sat_check.proofs.{CheckLemmas.runs_nothing, SoundLemmas.runs_placed}
 use Rattle.sat_check.proofs.lrat.run_lrat_kept.Goals.{in-Some, in-None}
+use Rattle.sat_check.proofs.lrat.run_lrat_kept.Goals as goal
 
 pub returns : goal.returns
 returns g c =

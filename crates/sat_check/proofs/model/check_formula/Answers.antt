@@ -1,14 +1,12 @@
 -- The formula was judged, or it has a fault.
 use Rattle.std.proofs.Common.{◌≡◌, ◌∙◌, None, ap, rules, subst, sym}
-use Rattle.sat_check.specs.Report.{Report, Outcome}
-use Rattle.dimacs.specs.Formula.{formula_of}
-use Rattle.sat_check.specs.declared.checked.Checked.{Checked}
-use Rattle.report.specs.declared.status.Status.TheVariants.{Malformed}
-use Rattle.report.specs.declared.status.Status.TheVariants.{OutOfMemory as NoMemory}
-use Rattle.sat_check.proofs.ModelLemmas.{judged_as, judged_unmet, fault_unmet}
-use Rattle.sat_check.proofs.ModelLemmas.{formula_fault, formula_tells}
+use Rattle.sat_check.specs.{Report.Report, Report.Outcome, declared.checked.Checked.Checked}
+use Rattle.sat_check.proofs.ModelLemmas.{judged_as, judged_unmet, fault_unmet, formula_fault}
+use Rattle.sat_check.proofs.ModelLemmas.{formula_tells}
 use Rattle.sat_check.proofs.ReachLemmas.{TellsFault-none}
 use Rattle.sat_check.proofs.model.check_formula.Goals as goal
+use Rattle.dimacs.specs.Formula.{formula_of}
+use Rattle.report.specs.declared.status.Status.TheVariants.{Malformed, OutOfMemory as NoMemory}
 
 pub returns-in-Ok-clause-report : goal.returns-in-Ok-clause-report
 returns-in-Ok-clause-report g c =

@@ -1,8 +1,7 @@
 -- The formula is checked, or the output has a fault.
 use Rattle.std.proofs.Common.{◌∙◌, subst, sym, codes}
 use Rattle.cnf_base.proofs.SeenLemmas.{Seen-nothing}
-use Rattle.dimacs.specs.Claim.{claim_of}
-use Rattle.dimacs.specs.Formula.{formula_of}
+use Rattle.dimacs.specs.{Claim.claim_of, Formula.formula_of}
 use Rattle.sat_check.specs.Report.{Report, Outcome}
 use Rattle.sat_check.proofs.ModelLemmas.{claimed_report, claimed_consistent, formula_left}
 use Rattle.sat_check.proofs.ModelLemmas.{formula_needed, output_fault, fault_unverified}

@@ -2,8 +2,7 @@
 use Rattle.std.proofs.Common.{◌≡◌, ℕ, List, refl, sym, subst, rules}
 use Rattle.std.specs.Prelude.{Result, Err}
 use Rattle.cnf_base.specs.Code.Seen.{OfSeen}
-use Rattle.cnf_base.specs.declared.fault.Fault.{Fault}
-use Rattle.cnf_base.specs.declared.fault.Fault.TheVariants.{OutOfMemory}
+use Rattle.cnf_base.specs.declared.fault.Fault.{Fault, TheVariants.OutOfMemory}
 use Rattle.dimacs.specs.Claim.{IsClaim, claim_at, claim_of}
 use Rattle.sat_check.proofs.ReadLemmas.{seen_nothing, seen_run}
 use Rattle.sat_check.proofs.model.claimed.Goals as goal

@@ -1,6 +1,5 @@
 -- The options are those that the words ask for.
-use Rattle.proofs.specs.Grammar.{IsLratText}
-use Rattle.proofs.specs.Lrat.{lrat_steps}
+use Rattle.proofs.specs.{Grammar.IsLratText, Lrat.lrat_steps}
 use Rattle.theory.specs.Rules.{lrat}
 use Rattle.sat_check.proofs.TheoremLemmas.{shows_unsatisfiable, shows_steps, lrat_read}
 use Rattle.sat_check.proofs.tools.lrat_check.Goals as goal
