@@ -223,4 +223,5 @@ module _ (there back : Literal → Literal) (among : Literal → Type 0) (r : Re
       by true e = ap (answer_renamed there) e
       by false e = rest e
   lrat_answers_mapped live other top mapped within (delete ids) answer cw e =
-      search (rules, answer_of_mapped, deletion_mapped)
+      ap (answer_renamed there) e ∙ sym (answer_of_mapped (deletion_refusal live ids))
+      ∙ ap answer_of (sym (deletion_mapped ids live other mapped))
