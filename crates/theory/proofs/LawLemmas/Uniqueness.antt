@@ -1,5 +1,5 @@
 -- A step has at most one answer, under each rule.
-use Rattle.std.proofs.Common.{◌≡◌, ℕ, ◌<◌, Bool, true, false, nat_le, Ok, Err, List, [], ◌∷◌}
+use Rattle.std.proofs.Common.{◌≡◌, ℕ, ◌<◌, true, false, nat_le, Ok, Err, List, [], ◌∷◌}
 use Rattle.std.proofs.Common.{slice_get, refl, sym, ap, ◌∙◌, arith, rules}
 use Rattle.std.proofs.lemmas.Bool.{true≢false, cases_Bool}
 use Rattle.std.specs.List.{list_any}
@@ -7,7 +7,6 @@ use Rattle.theory.specs.declared.accepted.Accepted.TheVariants.{Rup, Rat, Pr, Em
 use Rattle.theory.specs.declared.accepted.Accepted.TheVariants.{Ignored}
 use Rattle.theory.specs.declared.refusal.Refusal.TheVariants.{NotRup, NeitherRupNorRat, NotAlive}
 use Rattle.theory.specs.declared.refusal.Refusal.TheVariants.{InconsistentSet, NeitherRupNorPr}
-use Rattle.theory.specs.declared.refusal.Refusal.TheVariants.{Unnamed}
 use Rattle.theory.specs.declared.drat_rules.DratRules.{DratRules}
 use Rattle.theory.specs.Propagation.{Live, HasRup, HasRat, HasPr}
 use Rattle.theory.specs.Answers.{StepAnswer}
@@ -121,10 +120,6 @@ drat_unique rules live (add c (l ∷ set)) first second a b = witness_unique (sl
 drat_unique rules live (delete c) first second a b = search (rules, delete_unique, delete_cases)
 
 -- ---- LRAT
-
-data GroupsCases (left_out : ℕ → Bool) (answer : StepAnswer) : Type 0 where
-  all_settled : answer ≡ Ok Rat → ((k : ℕ) → left_out k ≡ false) → GroupsCases left_out answer
-  lowest : (k : ℕ) → answer ≡ Err (Unnamed k) → left_out k ≡ true → ((j : ℕ) → j < k → left_out j ≡ false) → GroupsCases left_out answer
 
 chain_unique : (live : Live) (c : List Literal) (groups : List Group) (end : ChainEnd) (first second : StepAnswer) → AnswersChain live c groups end first → AnswersChain live c groups end second → first ≡ second
 chain_unique live [] groups conflict first second a b = a ∙ sym b
