@@ -1,6 +1,7 @@
 -- What is kept where clauses come and go.
 use Rattle.std.proofs.Common.{◌≡◌, ◌≢◌, ℕ, ◌+◌, ◌<◌, get_or, Bool, true, false, cond, eqb, eq-eqb}
-use Rattle.std.proofs.Common.{ne_eqb, Option, Some, None, is_some, option_map, List, [], ◌∷◌, rules}
+use Rattle.std.proofs.Common.{ne_eqb, ◌||◌, Option, Some, None, is_some, option_map, List, [], ◌∷◌}
+use Rattle.std.proofs.Common.{rules}
 use Rattle.std.proofs.Common.{length, take, ◌≤◌, refl, sym, ap, ◌∙◌, subst, inl, inr}
 use Rattle.std.proofs.lemmas.{Bool.cases_eq, Bool.false≢true, Option.none-some, Option.same_Some}
 use Rattle.std.specs.{Ordering.nat_cmp, FinMap.FinMap}

@@ -33,6 +33,11 @@ module _ (first second : Literal) where
   pub one_each : first ≢ second → (slot l s : ℕ) → cond {A = ℕ} ((eqb first l || eqb second l) && eqb s slot) 1 0 ≡ cond (eqb l first && eqb s slot) 1 0 + cond (eqb l second && eqb s slot) 1 0
   one_each apart slot l s = grind (arith, nat_tests)
 
+pub two_long : (c : Clause) → 2 ≤ length c → is_short c ≡ false
+two_long [] long = absurd (omega (arith, long))
+two_long (a ∷ []) long = absurd (omega (arith, long))
+two_long (a ∷ b ∷ c) long = refl
+
 pub short_is : (c : Clause) → length c < 2 → is_short c ≡ true
 short_is [] h = refl
 short_is (a ∷ []) h = refl
