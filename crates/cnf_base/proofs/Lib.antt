@@ -4,7 +4,6 @@ pub mod SetLemmas
 pub mod SizeLemmas
 pub mod MemberLemmas
 pub mod WalkLemmas
-pub mod LineLemmas
 pub mod StreamLemmas
 pub mod TextLemmas
 pub mod WordLemmas

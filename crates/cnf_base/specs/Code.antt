@@ -1,7 +1,6 @@
 -- How the parts of the code fit together. No public contract speaks of it.
 pub mod Digits
 pub mod Eight
-pub mod Lines
 pub mod Literals
 pub mod Marks
 pub mod Seen

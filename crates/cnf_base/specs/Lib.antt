@@ -7,7 +7,6 @@ pub mod Words
 pub mod Text
 pub mod Ahead
 pub mod Grammar
-pub mod Lines
 pub mod Readers
 pub mod Seen
 pub mod Printing

@@ -4,7 +4,6 @@ use Rattle.std.specs.Prelude.{ℕ, ◌%◌, ◌==◌, nat_le, ◌&&◌, if◌the
 use Rattle.std.specs.Prelude.{map, codes}
 use Rattle.std.specs.Fmt.{decimal}
 use Rattle.std.specs.List.{join_with_byte}
-use Rattle.cnf_base.specs.Lines.{line_of}
 use Rattle.cnf_base.specs.Literals.{Literal, variable}
 use Rattle.cnf_base.specs.Stream.{Input}
 use Rattle.cnf_base.specs.declared.input.Ending.TheVariants.{End}
@@ -12,6 +11,10 @@ use Rattle.cnf_base.specs.declared.input.Ending.TheVariants.{End}
 -- an input of just these bytes
 abbrev pub input_of : List ℕ → Input
 input_of bytes = record { bytes = bytes; ending = End }
+
+-- a line of the text
+abbrev pub line_of : List ℕ → List ℕ
+line_of bytes = bytes ++ 10 ∷ []
 
 -- a line of words
 abbrev pub words_line : List (List ℕ) → List ℕ

@@ -1,15 +1,12 @@
-//! Literals, bytes in and out, tokens with places, and lines.
+//! Literals, bytes in, and tokens with places.
 #![tactic(auto)]
 
 mod counted_reader;
-mod counted_writer;
 mod fault;
 mod input;
 pub mod laws;
-mod line_out;
 mod lit;
 mod memory;
-mod output;
 mod piece;
 mod place;
 mod scanner;
@@ -19,10 +16,8 @@ mod word;
 
 pub use fault::{BinaryFault, Fault, TextFault};
 pub use input::{Ending, FromRead, In, ReadFailed};
-pub use line_out::LineOut;
 pub use lit::Lit;
 pub use memory::OutOfMemory;
-pub use output::{Out, ToWrite, WriteFailed};
 pub use piece::Piece;
 pub use place::Place;
 pub use scanner::Scanner;

@@ -16,7 +16,8 @@ use Rattle.cnf_base.specs.declared.word.Word.TheVariants as words
 use Rattle.cnf_base.specs.declared.token.Token as tokens
 use Rattle.cnf_base.specs.declared.token.Token.TheVariants as token
 use Rattle.cnf_base.proofs.GrammarLemmas.{listing_says, s_spelled, v_spelled, satisfiable_spelled}
-use Rattle.cnf_base.proofs.{LineLemmas.append_nil, PrintLemmas.both, PrintLemmas.literal_word}
+use Rattle.cnf_base.proofs.TextLemmas.{append_nil}
+use Rattle.cnf_base.proofs.PrintLemmas.{both, literal_word}
 use Rattle.cnf_base.proofs.{PrintLemmas.literal_taken, SetLemmas.has_tail}
 use Rattle.dimacs.specs.Formula.{and_then}
 use Rattle.dimacs.specs.Claim.{LinePosition, at_line_start, after_s, after_status, in_values, Said}

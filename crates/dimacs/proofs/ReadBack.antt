@@ -9,7 +9,7 @@ use Rattle.cnf_base.specs.Grammar.{is_word, words_in, word_lines}
 use Rattle.cnf_base.specs.Literals.{Literal, Clause}
 use Rattle.cnf_base.specs.Printing.{words_line, is_literal, literal_text, literal_words}
 use Rattle.cnf_base.specs.Text.{is_separator, is_comment, lines_of}
-use Rattle.cnf_base.proofs.LineLemmas.{append_nil}
+use Rattle.cnf_base.proofs.TextLemmas.{append_nil}
 use Rattle.cnf_base.proofs.PrintLemmas.{after_word, words_line-cons, IsPlain, fixed_plain, both}
 use Rattle.cnf_base.proofs.PrintLemmas.{decimal_plain, zero_plain, literal_plain}
 use Rattle.cnf_base.proofs.PrintLemmas.{literal_no_comment}

@@ -3,8 +3,9 @@
 ghost use Rattle.std.specs.Prelude.{◌≡◌, IfOk, IfErr};
 
 use crate::progress::Progress;
-use cnf_base::{Out, OutOfMemory, ToWrite};
+use cnf_base::OutOfMemory;
 use std::io::{self, LineWriter, Stdout};
+use writers::{Out, ToWrite};
 
 /// A writer that may go to the terminal that progress is told on: so that line is taken away before
 /// anything is written.

@@ -11,12 +11,13 @@ ghost use Rattle.hints.specs.Kinds.{Shows};
 use crate::inputs::{InputOf, open_both};
 use crate::system::System;
 use crate::told::{Told, told_of};
-use cnf_base::{In, Out};
+use cnf_base::In;
 use hints::Evidence;
 use sat_check::{
     Args, ArgsFault, Checked, Tool, drat_forward, lrat_check, read_args, run_model_placed,
 };
 use std::io;
+use writers::Out;
 
 /// How a run of a program ended, with its inputs as the check left them.
 #[derive(Drop)]

@@ -8,9 +8,10 @@ use Rattle.std.specs.Prelude.{Result, Ok, Err}
 use Rattle.cnf_base.specs.Stream.{Input, Suffix, from_start, Reader, Stream, Along, unread_stream}
 use Rattle.cnf_base.specs.Stream.{bytes_read}
 use Rattle.cnf_base.specs.Seen.{Seen, IsSeen}
-use Rattle.cnf_base.specs.{Lines.Sink, Lines.Writes, declared.fault.Fault.Fault}
+use Rattle.writers.specs.Lines.{Sink, Writes}
+use Rattle.cnf_base.specs.declared.fault.Fault.{Fault}
 use Rattle.cnf_base.specs.declared.fault.Fault.TheVariants.{Text, Binary, ReadFailed, OutOfMemory}
-use Rattle.cnf_base.proofs.LineLemmas.{Writes-then}
+use Rattle.writers.proofs.LineLemmas.{Writes-then}
 use Rattle.cnf_base.proofs.StreamLemmas.{Along-then, Along-map, Along-none, Along-within}
 use Rattle.cnf_base.proofs.SeenLemmas.{Seen-nothing, Seen-run, Seen-fact}
 use Rattle.dimacs.specs.Formula.{formula_of}

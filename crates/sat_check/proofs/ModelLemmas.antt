@@ -4,7 +4,8 @@ use Rattle.std.proofs.Common.{true, false, not, List, [], ◌∷◌, length, Opt
 use Rattle.std.proofs.Common.{refl, sym, ap, ◌∙◌, subst, arith, slice_get, codes, rules}
 use Rattle.std.proofs.lemmas.{Option.none-some, Bool.Decides.nat_tests}
 use Rattle.std.specs.Prelude.{Result, Ok, Err, IfOk, IsTrue, ◌==◌}
-use Rattle.cnf_base.specs.{Lines.Sink, Literals.Literal, Literals.Clause, Literals.complement}
+use Rattle.writers.specs.Lines.{Sink}
+use Rattle.cnf_base.specs.Literals.{Literal, Clause, complement}
 use Rattle.cnf_base.specs.{Literals.has, declared.fault.Fault.Fault}
 use Rattle.cnf_base.specs.declared.fault.Fault.TheVariants.{Text, Binary, ReadFailed, OutOfMemory}
 use Rattle.cnf_base.specs.{Seen.OfBothSeen, Stream.Input, Stream.Reader, Stream.bytes_read}

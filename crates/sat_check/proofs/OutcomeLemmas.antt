@@ -3,9 +3,11 @@ use Rattle.std.proofs.Common.{◌≡◌, ℕ, false, List, [], ◌∷◌, ◌++�
 use Rattle.std.proofs.Common.{append_assoc, arith, rules}
 use Rattle.std.proofs.lemmas.{Grind.common_steps, Bool.Decides.nat_tests}
 use Rattle.std.specs.{Prelude.Result, Prelude.OnOk, Io.KnownBytes.Appends}
-use Rattle.cnf_base.specs.Lines.{Sink, Writes, line_of}
+use Rattle.writers.specs.Lines.{Sink, Writes}
+use Rattle.cnf_base.specs.Printing.{line_of}
 use Rattle.cnf_base.specs.{Seen.OfBothSeen, Stream.Input, Stream.Reader}
-use Rattle.cnf_base.proofs.LineLemmas.{append_nil, Appends-then, Writes-nothing}
+use Rattle.cnf_base.proofs.TextLemmas.{append_nil}
+use Rattle.writers.proofs.LineLemmas.{Appends-then, Writes-nothing}
 use Rattle.sat_check.specs.Report.{Report, text_of, Outcome, with_lines, concluded}
 use Rattle.report.specs.{Lines.Certificate, Lines.sentence, declared.status.Status.Status}
 use Rattle.report.specs.declared.status.Status.TheVariants.{Verified, NotVerified, Malformed}

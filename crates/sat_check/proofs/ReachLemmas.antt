@@ -12,7 +12,9 @@ use Rattle.std.proofs.Common.{IsSome, rules}
 use Rattle.std.proofs.lemmas.Bool.{false≢true, MatchBool-at_false}
 use Rattle.std.proofs.lemmas.Option.{none-some}
 use Rattle.std.specs.{Prelude.IsTrue, List.list_any}
-use Rattle.cnf_base.specs.{Lines.Sink, Literals.Clause, Stream.Input, Stream.Suffix, Stream.Reader}
+use Rattle.writers.specs.Lines.{Sink}
+use Rattle.cnf_base.specs.Literals.{Clause}
+use Rattle.cnf_base.specs.Stream.{Input, Suffix, Reader}
 use Rattle.cnf_base.specs.declared.fault.Fault.{Fault}
 use Rattle.cnf_base.specs.declared.fault.Fault.TheVariants.{OutOfMemory}
 use Rattle.dimacs.specs.Formula.{formula_of}

@@ -6,7 +6,10 @@ use Rattle.theory.proofs.LawLemmas.Verdicts.{ends_same, some_ending, some_verdic
 use Rattle.std.proofs.Common.{◌≡◌, ℕ, ◌≤◌, max, Bool, true, false, Option, None, Some, List, []}
 use Rattle.std.proofs.Common.{◌∷◌, refl, sym, ap, ◌∙◌, subst, codes, arith, rules}
 use Rattle.std.specs.Prelude.{Result, Ok, Err}
-use Rattle.cnf_base.specs.{Literals.Clause, Stream.Input, Lines.Sink, Lines.Writes, Lines.line_of}
+use Rattle.cnf_base.specs.Literals.{Clause}
+use Rattle.cnf_base.specs.Stream.{Input}
+use Rattle.writers.specs.Lines.{Sink, Writes}
+use Rattle.cnf_base.specs.Printing.{line_of}
 use Rattle.cnf_base.specs.declared.fault.Fault.{Fault}
 use Rattle.cnf_base.specs.declared.fault.Fault.TheVariants.{Text, Binary, ReadFailed, OutOfMemory}
 use Rattle.cnf_base.specs.Text.{Listing, listing_of}

@@ -4,7 +4,9 @@ use Rattle.theory.specs.{Losses.LostBySteps, Models.HasModel, Rules.Rule}
 use Rattle.theory.proofs.LawLemmas.Verdicts.{verdict_sound, verdict_unique}
 use Rattle.std.proofs.Common.{◌≡◌, ℕ, Bool, Option, None, Some, List, refl, sym, ap}
 use Rattle.std.proofs.Common.{◌∙◌, slice_get, rules}
-use Rattle.cnf_base.specs.{Lines.Sink, Seen.OfBothSeen, Stream.Input, Stream.Reader}
+use Rattle.writers.specs.Lines.{Sink}
+use Rattle.cnf_base.specs.Seen.{OfBothSeen}
+use Rattle.cnf_base.specs.Stream.{Input, Reader}
 use Rattle.cnf_base.specs.declared.fault.Fault.{Fault}
 use Rattle.dimacs.specs.{Formula.Formula, Formula.formula_of, declared.header.Header.Header}
 use Rattle.proofs.specs.Reading.{Proof}

@@ -2,7 +2,7 @@
 use Rattle.std.proofs.Common.{◌≡◌, ℕ, ◌+◌, ◌≤◌, max, Bool, true, false, List, [], refl, sym, subst}
 use Rattle.std.specs.Prelude.{Ok, Err}
 use Rattle.std.proofs.Common.{rules}
-use Rattle.cnf_base.specs.Lines.{Sink, Writes}
+use Rattle.writers.specs.Lines.{Sink, Writes}
 use Rattle.proofs.specs.{Steps.Step, Reading.Proof, Reading.with_step}
 use Rattle.proofs.specs.declared.step_end.StepEnd.{StepEnd}
 use Rattle.theory.specs.declared.accepted.Accepted.{Accepted, TheVariants.Empty}

@@ -6,7 +6,8 @@ use Rattle.std.proofs.Common.{Option, None, Some, refl, sym, ap, ◌∙◌, subs
 use Rattle.std.proofs.Common.{inl, inr, codes, rules}
 use Rattle.std.proofs.lemmas.Bool.{and_parts, and_from, false_from_ne_true}
 use Rattle.std.specs.{List.list_all, Prelude.IsFalse, Io.KnownBytes.Consumes, Io.KnownBytes.IsAtEnd}
-use Rattle.cnf_base.specs.{Lines.Sink, Literals.Literal, Literals.Clause, Literals.has}
+use Rattle.writers.specs.Lines.{Sink}
+use Rattle.cnf_base.specs.Literals.{Literal, Clause, has}
 use Rattle.cnf_base.specs.{Printing.input_of, Seen.Seen, Seen.IsSeen, Seen.OfBothSeen}
 use Rattle.cnf_base.specs.Stream.{Input, Reader, MayFollow, tells_failure}
 use Rattle.cnf_base.specs.declared.input.Ending.{Ending, TheVariants.End, TheVariants.Failed}

@@ -12,7 +12,7 @@ use Rattle.std.proofs.lemmas.List.{append_cancel_left, Folds.list_all-append, Fo
 use Rattle.std.specs.Prelude.{decimal, Result, Ok, Err}
 use Rattle.std.specs.{Fmt.digits, Fmt.digits_onto, Fmt.digit_glyph, List.list_all, List.list_any}
 use Rattle.std.specs.{Str.bytes_eq, Io.KnownBytes.Appends}
-use Rattle.cnf_base.proofs.LineLemmas.{append_nil}
+use Rattle.cnf_base.proofs.TextLemmas.{append_nil}
 use Rattle.cnf_base.specs.{Literals.Literal, Literals.Clause, Stream.Input, Text.lines_of}
 use Rattle.cnf_base.specs.declared.fault.{Fault.Fault, TextFault.TextFault, BinaryFault.BinaryFault}
 use Rattle.cnf_base.specs.declared.fault.Fault.TheVariants as fault

@@ -6,7 +6,7 @@ use Rattle.std.specs.Str.{bytes_eq}
 use Rattle.std.specs.Io.KnownBytes.{Appends}
 use Rattle.cnf_base.specs.Literals.{Clause}
 use Rattle.cnf_base.specs.Stream.{Input}
-use Rattle.cnf_base.specs.Lines.{line_of}
+use Rattle.cnf_base.specs.Printing.{line_of}
 use Rattle.cnf_base.specs.Text.{lines_of}
 use Rattle.cnf_base.specs.declared.fault.Fault.{Fault}
 use Rattle.dimacs.specs.Formula.{Formula, formula_of}

@@ -16,13 +16,14 @@ use crate::check_proof::check_proof;
 use crate::conclude::{break_off, conclude, write_line};
 use crate::load::load;
 use crate::{Checked, InputFault, Status};
-use cnf_base::{In, LineOut, Out};
+use cnf_base::In;
 use dimacs::Header;
 use proofs::StepReader;
 use report::Subject;
 use report::lines::{formula_line, steps_line};
 use std::alloc::Global;
 use steps::ProofSession;
+use writers::{LineOut, Out};
 
 /// Reads a formula whole, then checks the steps of a proof of it, and writes the report, flushed.
 pub fn check<F: In, S: ProofSession, R: StepReader, O: Out>(

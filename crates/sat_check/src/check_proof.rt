@@ -9,12 +9,12 @@ ghost use Rattle.sat_check.specs.Code.Checking.{IsOpen, Rest, LeavesRest};
 use crate::check_step::check_step;
 use crate::conclude::{break_off, conclude};
 use crate::{Checked, InputFault, Status};
-use cnf_base::{LineOut, Out};
 use proofs::{StepBuf, StepReader};
 use report::Subject;
 use report::lines::end_line;
 use std::alloc::Global;
 use steps::ProofSession;
+use writers::{LineOut, Out};
 
 /// Takes steps up to the one that decides, or to the proof's end, and writes the rest of the
 /// report.

@@ -15,12 +15,12 @@ ghost use Rattle.sat_check.specs.Code.Checking.{is_memory};
 
 use crate::Status;
 use crate::conclude::{conclude, give_up, write_line};
-use cnf_base::{LineOut, Out};
 use proofs::StepBuf;
 use report::Subject;
 use report::lines::{refusal_line, steps_line, trace_line};
 use std::alloc::Global;
 use steps::{Accepted, ProofSession, Refusal};
+use writers::{LineOut, Out};
 
 /// Checks the step of this number, and writes its line where a trace is asked for. Where the check
 /// ends with it, the verdict is written, and the status answered.

@@ -1,7 +1,8 @@
 //! How a run ends.
 
 ghost use Rattle.std.specs.Prelude.{◌≡◌, ◌⊎◌, false, true, [], ◌∷◌, ℕ, List, IfOk, IfErr, OnOk};
-ghost use Rattle.cnf_base.specs.Lines.{Writes, line_of};
+ghost use Rattle.cnf_base.specs.Printing.{line_of};
+ghost use Rattle.writers.specs.Lines.{Writes};
 ghost use Rattle.report.specs.Lines.{fault_line, fault_status};
 ghost use Rattle.sat_check.specs.Report.{Report, Outcome, concluded, is_cut_short, with_lines};
 ghost use Rattle.sat_check.specs.Code.Writer.{IsFlushedOrFailed};
@@ -9,10 +10,11 @@ ghost use Rattle.sat_check.specs.Code.Writer.{LeavesWriter};
 ghost use Rattle.report.specs.Subjects.{certificate_of};
 
 use crate::Status;
-use cnf_base::{Fault, LineOut, Out, OutOfMemory};
+use cnf_base::{Fault, OutOfMemory};
 use report::lines::{fault_line, fault_status, sentence};
 use report::{Line, Subject};
 use std::alloc::Global;
+use writers::{LineOut, Out};
 
 /// Writes a line and the verdict's last line, and answers the status.
 pub fn conclude<O: Out>(

@@ -14,12 +14,13 @@ ghost use Rattle.sat_check.specs.Theorem.{ShowsUnsatisfiable};
 use crate::check::check;
 use crate::conclude::give_up;
 use crate::{Checked, DratOptions, Status};
-use cnf_base::{In, LineOut, Out, Piece, Source};
+use cnf_base::{In, Piece, Source};
 use proofs::{DratBinary, DratText};
 use propagation::Propagate;
 use std::alloc::Global;
 use steps::DratSession;
 use watch::Watch;
+use writers::{LineOut, Out};
 
 /// Reads a formula in DIMACS CNF whole, then checks a proof of it in DRAT, and writes the report,
 /// flushed.

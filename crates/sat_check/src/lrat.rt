@@ -13,10 +13,11 @@ ghost use Rattle.sat_check.specs.Theorem.{ShowsUnsatisfiable};
 use crate::check::check;
 use crate::conclude::give_up;
 use crate::{Checked, LratOptions, Status};
-use cnf_base::{In, LineOut, Out, Piece, Source};
+use cnf_base::{In, Piece, Source};
 use proofs::LratText;
 use std::alloc::Global;
 use steps::LratSession;
+use writers::{LineOut, Out};
 
 /// Reads a formula in DIMACS CNF whole, then checks a proof of it in LRAT, and writes the report,
 /// flushed.

@@ -21,11 +21,12 @@ use crate::conclude::{break_off, conclude};
 use crate::judge::judge;
 use crate::judgement::Judgement;
 use crate::{Checked, InputFault, Status};
-use cnf_base::{Fault, In, LineOut, Out, Piece, Source};
+use cnf_base::{Fault, In, Piece, Source};
 use dimacs::{Model, read_claim};
 use report::Subject;
 use report::lines::{clauses_line, unmet_line};
 use std::alloc::Global;
+use writers::{LineOut, Out};
 
 /// Reads a solver's output whole, then checks the model that it claims against a formula in DIMACS
 /// CNF, clause by clause, and writes the report, flushed.

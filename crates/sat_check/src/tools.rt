@@ -11,9 +11,10 @@ ghost use Rattle.sat_check.specs.Theorem.{ShowsUnsatisfiable};
 use crate::drat::run_drat_kept;
 use crate::lrat::run_lrat_kept;
 use crate::{Args, Checked, DratOptions, LratOptions};
-use cnf_base::{In, Out};
+use cnf_base::In;
 use std::alloc::Global;
 use std::mem::ManuallyDrop;
+use writers::Out;
 
 /// What `drat-forward` does with its inputs: [`run_drat`](crate::run_drat) by the options that the
 /// words ask for, and why it ended so. The memory of its clauses is not given back.

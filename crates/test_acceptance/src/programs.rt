@@ -3,7 +3,7 @@
 ghost use Rattle.std.specs.Prelude.{Some, false};
 
 use crate::support::{E, E_DRAT, E_PROOF, MODELS, MODELS_OUTPUT, expect_equal};
-use cnf_base::{Fault, Place, TextFault, ToWrite};
+use cnf_base::{Fault, Place, TextFault};
 use filter_io::{Hint, Progress, System, Told, Tool, run_tool};
 use proofs::StepEnd;
 use sat_check::{ArgsFault, InputFault, Status};
@@ -12,6 +12,7 @@ use std::io;
 use std::process::Abort;
 use std::test::Fail;
 use test_inputs::{Stop, Writer};
+use writers::ToWrite;
 
 /// A system with one file, which has any name.
 #[derive(Drop)]

@@ -4,12 +4,13 @@ use crate::support::{
     BY_BINARY_DRAT, Cut, DRAT, DRAT_STRICT, E, E_BINARY, E_DRAT, E_PROOF, G, LRAT, Pieces, Request,
     SIZES, Stop, Writer, expect_equal,
 };
-use cnf_base::{FromRead, In, Out, Place, ToWrite};
+use cnf_base::{FromRead, In, Place};
 use proofs::StepEnd;
 use sat_check::{Args, Checked, DratOptions, Status, drat_forward, lrat_check};
 use std::alloc::Global;
 use std::process::Abort;
 use std::test::Fail;
+use writers::{Out, ToWrite};
 
 // A request, a formula, a proof, and where the refused step ends.
 type Row<'a> = (Request, &'a str, &'a [u8], Option<StepEnd>);

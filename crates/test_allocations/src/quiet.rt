@@ -8,7 +8,7 @@ use crate::pairs::read_and_step;
 use crate::refused::{PAGES, bind_in_pages, bind_new};
 use crate::{Literals, PLAIN_RULES, open};
 use clause_db::{Blocks, Memory, Slot, Slots, Store};
-use cnf_base::{Fault, FromRead, LineOut, Lit, Scanner, ToWrite};
+use cnf_base::{Fault, FromRead, Lit, Scanner};
 use dimacs::{ClauseBuf, FormulaReader, read_claim};
 use proofs::{DratBinary, DratText, LratText, StepBuf, StepReader};
 use propagation::{Answer, Propagate, Scan};
@@ -17,6 +17,7 @@ use std::io::{Read, Write};
 use steps::{DratSession, LratSession, ProofSession};
 use trail::{Trail, Whole};
 use watch::Watch;
+use writers::{LineOut, ToWrite};
 
 fn has_next_slot(number: i32) -> bool {
     match Lit::new(number) {

@@ -2,11 +2,12 @@
 //! and files it writes the same lines and ends with the same status: `tests/rows.py` compares both.
 #![tactic(auto)]
 
-use cnf_base::{FromRead, ToWrite};
+use cnf_base::FromRead;
 use propagation::Scan;
 use sat_check::{DratOptions, Status, Tool, read_args, run_drat_with};
 use std::process::ExitCode;
 use std::{env, fs};
+use writers::ToWrite;
 
 /// Checks the proof in a file, which the words name.
 fn check(rt: &HostRuntime) -> anyhow::Result<Status> {

@@ -4,7 +4,7 @@ use Rattle.std.specs.List.{list_any}
 use Rattle.std.specs.Prelude.{◌≡◌, ◌+◌, ◌≤◌, false, List, length, None, Some, Result, Ok, Err, ℕ}
 use Rattle.std.specs.Prelude.{max, Bool, ◌⊎◌, ◌↔◌, Option, true, ◌-◌, ◌^◌, min, if◌then◌else◌, [], ◌∷◌}
 use Rattle.std.specs.Prelude.{IsTrue, IsSome, OnOk, IfErr}
-use Rattle.cnf_base.specs.Lines.{Sink, Writes}
+use Rattle.writers.specs.Lines.{Sink, Writes}
 use Rattle.cnf_base.specs.Literals.{Clause}
 use Rattle.cnf_base.specs.Seen.{OfBothSeen, OneHasFailed}
 use Rattle.cnf_base.specs.Stream.{Input, Suffix, Stream, Reader}

@@ -1,6 +1,6 @@
 -- What a run leaves of the writer of its lines.
 use Rattle.std.specs.Prelude.{◌≡◌, ◌⊎◌, Bool, true, false}
-use Rattle.cnf_base.specs.Lines.{Sink}
+use Rattle.writers.specs.Lines.{Sink}
 use Rattle.sat_check.specs.Report.{is_cut_short}
 use Rattle.report.specs.declared.status.Status.{Status}
 use Rattle.report.specs.declared.status.Status.TheVariants.{OutOfMemory}

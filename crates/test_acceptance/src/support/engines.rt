@@ -1,12 +1,13 @@
 //! What carries out a row.
 
 use crate::support::rows::Request;
-use cnf_base::{FromRead, In, Out, ToWrite};
+use cnf_base::{FromRead, In};
 use propagation::Scan;
 use sat_check::{DratOptions, LratOptions, Status, run_drat, run_drat_with, run_lrat, run_model};
 use std::alloc::{AllocError, Global};
 use test_inputs::{Pieces, Writer};
 use watch::Watch;
+use writers::{Out, ToWrite};
 
 // How a check of DRAT propagates.
 #[derive(Clone, Copy, Debug, PartialEq, Eq)]

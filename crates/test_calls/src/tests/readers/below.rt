@@ -2,10 +2,11 @@
 ghost use Rattle.std.specs.Prelude.{◌≤◌, IfOk};
 
 use crate::tests::asserts::{expect_equal_at, expect_true_at};
-use cnf_base::{FromRead, In, Out, ToWrite};
+use cnf_base::{FromRead, In};
 use std::io;
 use std::io::{ErrorKind, Read, Write};
 use std::test::Fail;
+use writers::{Out, ToWrite};
 
 /// What the one below answers to a call: a count of bytes, or an error.
 #[derive(Clone, Copy, Debug, PartialEq, Eq)]

@@ -1,12 +1,11 @@
 //! Bytes and tokens with their places, and lines out.
 
 use crate::tests::asserts::{expect_equal, expect_equal_at, fail_at};
-use cnf_base::{
-    FromRead, LineOut, Number, Place, ReadFailed, Scanner, ToWrite, Token, Word, WriteFailed,
-};
+use cnf_base::{FromRead, Number, Place, ReadFailed, Scanner, Token, Word};
 use std::process::Abort;
 use std::test::Fail;
 use test_inputs::{Bytes, Cut, Pieces, SIZES, Stop, Writer, open, text};
+use writers::{LineOut, ToWrite, WriteFailed};
 
 // The byte, if there is one, its place and its number.
 fn expect_byte(

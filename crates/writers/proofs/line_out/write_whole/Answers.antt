@@ -1,7 +1,7 @@
 -- What a write took is written too.
 use Rattle.std.proofs.Common.{rules, refl}
-use Rattle.cnf_base.proofs.LineLemmas.{Appends-more, AppendsPart-none, Appends-kept}
-use Rattle.cnf_base.proofs.line_out.write_whole.Goals as goal
+use Rattle.writers.proofs.LineLemmas.{Appends-more, AppendsPart-none, Appends-kept}
+use Rattle.writers.proofs.line_out.write_whole.Goals as goal
 
 pub loop-at-preserved : goal.loop-at-preserved
 loop-at-preserved g c = record {

@@ -1,6 +1,6 @@
 use Rattle.std.proofs.Common.{rules}
-use Rattle.cnf_base.proofs.LineLemmas.{Writes-whole}
-use Rattle.cnf_base.proofs.line_out.LineOut.write.Goals as goal
+use Rattle.writers.proofs.LineLemmas.{Writes-whole}
+use Rattle.writers.proofs.line_out.LineOut.write.Goals as goal
 
 pub returns-clause-writes : goal.returns-clause-writes
 returns-clause-writes g c =

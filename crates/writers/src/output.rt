@@ -2,8 +2,8 @@
 ghost use Rattle.std.specs.Prelude.{◌≡◌, ℕ, Bool, true, false, List, [], ◌∷◌, Option, OnOk, OnErr};
 ghost use Rattle.std.specs.Io.{WritesAtMost};
 ghost use Rattle.std.specs.Io.KnownBytes.{Keeps, WriteAppends};
-ghost use Rattle.cnf_base.specs.Calls.{flushed_once, none_handed, written_once};
-ghost use Rattle.cnf_base.specs.Marks.{marked_by_flush, marked_by_write};
+ghost use Rattle.writers.specs.Calls.{flushed_once, none_handed, written_once};
+ghost use Rattle.writers.specs.Marks.{marked_by_flush, marked_by_write};
 
 use crate::counted_writer::CountedWriter;
 use std::io;
@@ -75,7 +75,7 @@ pub struct ToWrite<W: Write> {
 }
 
 impl<W: Write> Model for ToWrite<W> {
-    ghost use Rattle.cnf_base.specs.Calls.{OverStdWriter};
+    ghost use Rattle.writers.specs.Calls.{OverStdWriter};
 
     ghost Value = { OverStdWriter };
 

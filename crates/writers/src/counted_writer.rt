@@ -4,7 +4,7 @@
 ghost use Rattle.std.specs.Prelude.{◌≡◌};
 ghost use Rattle.std.specs.Io.{WritesAtMost};
 ghost use Rattle.std.specs.Io.KnownBytes.{Keeps, WriteAppends};
-ghost use Rattle.cnf_base.specs.Calls.{flushed_once, none_handed, written_once};
+ghost use Rattle.writers.specs.Calls.{flushed_once, none_handed, written_once};
 
 use std::io;
 use std::io::Write;
@@ -22,7 +22,7 @@ pub struct CountedWriter<W: Write> {
 }
 
 impl<W: Write> Model for CountedWriter<W> {
-    ghost use Rattle.cnf_base.specs.Calls.{StdWriter};
+    ghost use Rattle.writers.specs.Calls.{StdWriter};
 
     ghost Value = { StdWriter };
 

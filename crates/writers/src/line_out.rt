@@ -2,8 +2,9 @@
 ghost use Rattle.std.specs.Prelude.{◌≡◌, true, false, [], ◌∷◌, ◌++◌, Bool, List, ℕ, IsTrue, OnOk};
 ghost use Rattle.std.specs.Prelude.{OnErr};
 ghost use Rattle.std.specs.Io.KnownBytes.{Appends};
-ghost use Rattle.cnf_base.specs.Lines.{Writes, unbroken_sink, line_of};
-ghost use Rattle.cnf_base.specs.Code.Lines.{AppendsPart};
+ghost use Rattle.cnf_base.specs.Printing.{line_of};
+ghost use Rattle.writers.specs.Lines.{Writes, unbroken_sink};
+ghost use Rattle.writers.specs.Code.Lines.{AppendsPart};
 
 use crate::{Out, WriteFailed};
 use std::marker::Model;
@@ -20,7 +21,7 @@ pub struct LineOut<W: Out> {
 
 impl<W: Out> Model for LineOut<W> {
     ghost use Rattle.std.specs.Prelude.{◌≡◌, true};
-    ghost use Rattle.cnf_base.specs.Lines.{Sink};
+    ghost use Rattle.writers.specs.Lines.{Sink};
 
     ghost Value = { Sink };
 

@@ -1,7 +1,7 @@
 -- The bytes so far were written.
 use Rattle.std.proofs.Common.{◌≡◌, ◌-◌, ◌≤◌, length, take}
 use Rattle.std.specs.Io.KnownBytes.{Appends}
-use Rattle.cnf_base.proofs.line_out.write_whole.Given as goal
+use Rattle.writers.proofs.line_out.write_whole.Given as goal
 
 abbrev pub invariant-loop-at : goal.invariant-loop-at
 invariant-loop-at g l =

@@ -1,0 +1,2 @@
+-- How the parts of the code fit together. No public contract speaks of it.
+pub mod Lines

@@ -1,0 +1,4 @@
+pub mod Marks
+pub mod Calls
+pub mod Lines
+pub mod Code
