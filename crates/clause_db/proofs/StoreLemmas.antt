@@ -7,3 +7,4 @@ pub mod Replaced
 pub mod Search
 pub mod Swap
 pub mod Taken
+pub mod Tautologies

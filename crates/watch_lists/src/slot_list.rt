@@ -58,6 +58,9 @@ impl SlotList {
     pub fn has(&self, slot: u32) -> bool
         ensures { result ≡ has self.now slot }
     {
+        if self.slots.is_empty() {
+            return false;
+        }
         let Some(place) = self.places.get(slot) else {
             return false;
         };

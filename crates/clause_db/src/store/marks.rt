@@ -75,7 +75,12 @@ pub(crate) fn are_different(lits: &[Lit]) -> bool
 pub(crate) fn few_have_complements(lits: &[Lit]) -> bool
     ensures { result ≡ is_tautology lits.now }
 {
-    lits.iter().any(|l| is_among(lits, l.neg()))
+    for (i, l) in lits.iter().enumerate() {
+        if is_among(&lits[..i], l.neg()) {
+            return true;
+        }
+    }
+    false
 }
 
 /// Whether a literal and its complement are among these, where none is marked.
