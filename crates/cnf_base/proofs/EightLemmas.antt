@@ -1,21 +1,18 @@
 -- Eight bytes as one number: what is done to the number at once is done to each byte.
 use Rattle.std.proofs.Common.{◌≡◌, ℕ, zero, suc, ◌+◌, ◌-◌, ◌*◌, ◌/◌, ◌%◌, ◌^◌, ◌<◌, ◌≤◌, ◌==◌, ◌&&◌}
-use Rattle.std.proofs.Common.{Bool, true}
-use Rattle.std.proofs.Common.{false, cond, List, [], ◌∷◌, ◌++◌, length, take, drop, map, refl, sym}
-use Rattle.std.proofs.Common.{ap, ◌∙◌, subst, arith, length-append}
+use Rattle.std.proofs.Common.{Bool, true, false, cond, List, [], ◌∷◌, ◌++◌, length, take, drop, map}
+use Rattle.std.proofs.Common.{refl, sym, ap, ◌∙◌, arith, length-append, rules}
 use Rattle.std.specs.Prelude.{fold, slice_index, replicate}
 use Rattle.std.specs.Int.Bits.{bit_and, bit_or, bit_xor}
 use Rattle.std.specs.Int.{from_le_bytes, w64, from_bool}
-use Rattle.std.specs.Int.Count.{count_trailing_zeros, under}
+use Rattle.std.specs.Int.Count.{count_trailing_zeros}
 use Rattle.std.specs.List.{list_all, prefix_len}
 use Rattle.std.specs.Simd.Lanes.{zip2}
-use Rattle.std.proofs.Math.Nat.{mul_assoc}
 use Rattle.std.proofs.lemmas.Bool.{and_parts, eqb-true}
 use Rattle.std.proofs.lemmas.Bool.Decides.{nat_tests}
 use Rattle.std.proofs.lemmas.List.{length-map, length-take-le, length-replicate}
 use Rattle.std.proofs.lemmas.List.Sums.{prefix_len-le-length}
 use Rattle.std.proofs.lemmas.Nat.{and_block, or_block, xor_block, and_le_r, and_mask, or_lt, xor_lt}
-use Rattle.std.proofs.lemmas.Nat.{mod_low, shr_high}
 use Rattle.cnf_base.specs.Words.{is_digit}
 use Rattle.cnf_base.specs.Code.Digits.{decimal_after, decimal_value}
 use Rattle.cnf_base.specs.Code.Eight.{packed, eight, from_zero, AreBelow, AreEight, AreFront}
@@ -35,17 +32,17 @@ bytewise_or = record { none = refl; block = λ a b r s. or_block 8 a b r s }
 bytewise_xor : Bytewise bit_xor
 bytewise_xor = record { none = refl; block = λ a b r s. xor_block 8 a b r s }
 
-bytewise : (op : ℕ → ℕ → ℕ) → Bytewise op → (xs ys : List ℕ) → length xs ≡ length ys → AreBelow 256 xs → AreBelow 256 ys
-    → op (packed xs) (packed ys) ≡ packed (zip2 op xs ys)
+bytewise : (op : ℕ → ℕ → ℕ) → Bytewise op → (xs ys : List ℕ) → length xs ≡ length ys
+    → AreBelow 256 xs → AreBelow 256 ys → op (packed xs) (packed ys) ≡ packed (zip2 op xs ys)
 bytewise op w [] [] same low_x low_y = w.none
 bytewise op w [] (y ∷ ys) same low_x low_y = absurd (omega (arith, same))
 bytewise op w (x ∷ xs) [] same low_x low_y = absurd (omega (arith, same))
 bytewise op w (x ∷ xs) (y ∷ ys) same low_x low_y =
-    let turn_x : x + 256 * packed xs ≡ packed xs * 256 + x = omega arith in
-    let turn_y : y + 256 * packed ys ≡ packed ys * 256 + y = omega arith in
-    let rest : op (packed xs) (packed ys) ≡ packed (zip2 op xs ys) = bytewise op w xs ys (omega (arith, same)) low_x.1 low_y.1 in
-    let back : op (packed xs) (packed ys) * 256 + op x y ≡ op x y + 256 * packed (zip2 op xs ys) = omega (arith, rest) in
-    ap (λ v. op v (y + 256 * packed ys)) turn_x ∙ ap (λ v. op (packed xs * 256 + x) v) turn_y ∙ w.block (packed xs) (packed ys) x y low_x.0 low_y.0 ∙ back
+    grind (
+      arith,
+      bytewise op w xs ys (omega (arith, same)) low_x.1 low_y.1,
+      w.block (packed xs) (packed ys) x y low_x.0 low_y.0,
+    )
 
 -- what is so of each byte, since it was tried
 holds_below : ℕ → (ℕ → Bool) → Bool
@@ -58,8 +55,8 @@ holds_at zero p b all low = absurd (omega (arith, low))
 holds_at (suc n) p b all low = by (b == n) refl (λ less. holds_at n p b (and_parts _ _ all).1 less)
   where
     by : (v : Bool) → (b == n) ≡ v → (b < n → p b ≡ true) → p b ≡ true
-    by true e below = let is : b ≡ n = eqb-true b n e in ap p is ∙ (and_parts _ _ all).0
-    by false e below = let less : b < n = grind (arith, nat_tests) in below less
+    by true e below = grind arith
+    by false e below = grind arith
 
 -- the highest bit where the byte is no digit
 mark : ℕ → ℕ
@@ -90,8 +87,7 @@ module _ (b : ℕ) (low : b < 256) where
   digit_is : is_digit b ≡ true → from_zero b ≡ b - 48
   unfolding digit_right
   digit_is digit =
-      let tried : digit_right b ≡ true = holds_at 256 digit_right b all_digits low in
-      eqb-true (from_zero b) (b - 48) (sym (ap (λ v. cond v (from_zero b == b - 48) true) digit) ∙ tried)
+      let tried : digit_right b ≡ true = holds_at 256 digit_right b all_digits low in grind arith
 
 digit_low : (b : ℕ) → is_digit b ≡ true → b < 256
 digit_low b digit = grind (arith, nat_tests)
@@ -105,18 +101,20 @@ module _ (f : ℕ → ℕ) (g : ℕ → ℕ) (low : (b : ℕ) → b < 256 → f 
   below-map' [] each = tt
   below-map' (b ∷ bs) each = (low' b each.0, below-map' bs each.1)
 
-  zip2-maps : (op : ℕ → ℕ → ℕ) (bs : List ℕ) → zip2 op (map f bs) (map g bs) ≡ map (λ b. op (f b) (g b)) bs
+  zip2-maps : (op : ℕ → ℕ → ℕ) (bs : List ℕ)
+      → zip2 op (map f bs) (map g bs) ≡ map (λ b. op (f b) (g b)) bs
   zip2-maps op [] = refl
   zip2-maps op (b ∷ bs) = ap (λ xs. op (f b) (g b) ∷ xs) (zip2-maps op bs)
 
   bytewise-map : (op : ℕ → ℕ → ℕ) → Bytewise op → (bs : List ℕ) → AreBelow 256 bs
       → op (packed (map f bs)) (packed (map g bs)) ≡ packed (map (λ b. op (f b) (g b)) bs)
   bytewise-map op w bs each =
-      bytewise op w (map f bs) (map g bs) (length-map bs f ∙ sym (length-map bs g)) (below-map bs each) (below-map' bs each)
-      ∙ ap packed (zip2-maps op bs)
+      bytewise op w (map f bs) (map g bs) (length-map bs f ∙ sym (length-map bs g))
+      (below-map bs each) (below-map' bs each) ∙ ap packed (zip2-maps op bs)
 
 -- at eight bytes
-by_eight : (P : List ℕ → Type 0) → ((a b c d e f g h : ℕ) → P (a ∷ b ∷ c ∷ d ∷ e ∷ f ∷ g ∷ h ∷ [])) → (xs : List ℕ) → length xs ≡ 8 → P xs
+by_eight : (P : List ℕ → Type 0) → ((a b c d e f g h : ℕ) → P (a ∷ b ∷ c ∷ d ∷ e ∷ f ∷ g ∷ h ∷ []))
+    → (xs : List ℕ) → length xs ≡ 8 → P xs
 by_eight P at [] long = absurd (omega (arith, long))
 by_eight P at (a ∷ []) long = absurd (omega (arith, long))
 by_eight P at (a ∷ b ∷ []) long = absurd (omega (arith, long))
@@ -144,7 +142,8 @@ or_low b low = or_lt 8 _ _ (plus_low b low) (zero_low b low)
 fits : (n : ℕ) → n < 2 ^ 64 → n % 2 ^ 64 ≡ n
 fits n low = omega (arith, low)
 
-marks_at : (a b c d e f g h : ℕ) → let bs = a ∷ b ∷ c ∷ d ∷ e ∷ f ∷ g ∷ h ∷ [] in AreBelow 256 bs → marks_of (packed (map from_zero bs)) ≡ packed (map marked bs)
+marks_at : (a b c d e f g h : ℕ) → let bs = a ∷ b ∷ c ∷ d ∷ e ∷ f ∷ g ∷ h ∷ [] in
+    AreBelow 256 bs → marks_of (packed (map from_zero bs)) ≡ packed (map marked bs)
 unfolding marked
 marks_at a b c d e f g h each =
     let bs : List ℕ = a ∷ b ∷ c ∷ d ∷ e ∷ f ∷ g ∷ h ∷ [] in
@@ -154,70 +153,33 @@ marks_at a b c d e f g h each =
     let plus : packed (map (λ b. bit_and (from_zero b) 127) bs) + 8536140394893047414 ≡ packed (map (λ b. bit_and (from_zero b) 127 + 118) bs) = omega arith in
     let all = λ (b : ℕ). and_le_r (from_zero b) 127 in
     let low : packed (map (λ b. bit_and (from_zero b) 127) bs) + 8536140394893047414 < 2 ^ 64
-    = omega (arith, all a, all b, all c, all d, all e, all f, all g, all h) in
-    ap (λ v. bit_and (bit_or ((v + 8536140394893047414) % 2 ^ 64) word) 9259542123273814144) seven
-    ∙ ap (λ v. bit_and (bit_or v word) 9259542123273814144) (fits _ low ∙ plus)
-    ∙ ap (λ v. bit_and v 9259542123273814144) (bytewise-map (λ b. bit_and (from_zero b) 127 + 118) from_zero plus_low zero_low bit_or bytewise_or bs each)
-    ∙ bytewise-map (λ b. bit_or (bit_and (from_zero b) 127 + 118) (from_zero b)) (λ _. 128) or_low (λ b low. omega arith) bit_and bytewise_and bs each
+    = grind arith in
+    cc (fits _ low, bytewise-map (λ b. bit_and (from_zero b) 127 + 118) from_zero plus_low zero_low bit_or bytewise_or bs each, bytewise-map (λ b. bit_or (bit_and (from_zero b) 127 + 118) (from_zero b)) (λ _. 128) or_low (λ b low. omega arith) bit_and bytewise_and bs each)
 
 marks_right : (bs : List ℕ) → AreBelow 256 bs → map marked bs ≡ map mark bs
 marks_right [] each = refl
-marks_right (b ∷ bs) each = ap (λ x. x ∷ map marked bs) (marked_is b each.0) ∙ ap (λ xs. mark b ∷ xs) (marks_right bs each.1)
-
--- the lowest mark
-even : (k n m : ℕ) → n ≡ 2 * m → count_trailing_zeros (suc k) n ≡ suc (count_trailing_zeros k m)
-unfolding count_trailing_zeros
-even k n m is =
-    let none : n % 2 ≡ 0 = omega (arith, is) in
-    let half : n / 2 ≡ m = omega (arith, is) in
-    ap (λ v. under v (count_trailing_zeros k (n / 2))) none ∙ ap (λ v. suc (count_trailing_zeros k v)) half
-
-odd : (k n m : ℕ) → n ≡ 2 * m + 1 → count_trailing_zeros (suc k) n ≡ 0
-unfolding count_trailing_zeros
-odd k n m is =
-    let one : n % 2 ≡ 1 = omega (arith, is) in
-    ap (λ v. under v (count_trailing_zeros k (n / 2))) one
-
--- a byte without a mark, and one with it
-zero_byte : (k n : ℕ) → count_trailing_zeros (suc (suc (suc (suc (suc (suc (suc (suc k)))))))) (0 + 256 * n) ≡ suc (suc (suc (suc (suc (suc (suc (suc (count_trailing_zeros k n))))))))
-zero_byte k n =
-    even (suc (suc (suc (suc (suc (suc (suc k))))))) (0 + 256 * n) (128 * n) (omega arith)
-    ∙ ap (λ x. suc x) (even (suc (suc (suc (suc (suc (suc k)))))) (128 * n) (64 * n) (omega arith))
-    ∙ ap (λ x. suc (suc x)) (even (suc (suc (suc (suc (suc k))))) (64 * n) (32 * n) (omega arith))
-    ∙ ap (λ x. suc (suc (suc x))) (even (suc (suc (suc (suc k)))) (32 * n) (16 * n) (omega arith))
-    ∙ ap (λ x. suc (suc (suc (suc x)))) (even (suc (suc (suc k))) (16 * n) (8 * n) (omega arith))
-    ∙ ap (λ x. suc (suc (suc (suc (suc x))))) (even (suc (suc k)) (8 * n) (4 * n) (omega arith))
-    ∙ ap (λ x. suc (suc (suc (suc (suc (suc x)))))) (even (suc k) (4 * n) (2 * n) (omega arith))
-    ∙ ap (λ x. suc (suc (suc (suc (suc (suc (suc x))))))) (even k (2 * n) n (omega arith))
-
-marked_byte : (k n : ℕ) → count_trailing_zeros (suc (suc (suc (suc (suc (suc (suc (suc k)))))))) (128 + 256 * n) ≡ 7
-marked_byte k n =
-    even (suc (suc (suc (suc (suc (suc (suc k))))))) (128 + 256 * n) (64 + 128 * n) (omega arith)
-    ∙ ap (λ x. suc x) (even (suc (suc (suc (suc (suc (suc k)))))) (64 + 128 * n) (32 + 64 * n) (omega arith))
-    ∙ ap (λ x. suc (suc x)) (even (suc (suc (suc (suc (suc k))))) (32 + 64 * n) (16 + 32 * n) (omega arith))
-    ∙ ap (λ x. suc (suc (suc x))) (even (suc (suc (suc (suc k)))) (16 + 32 * n) (8 + 16 * n) (omega arith))
-    ∙ ap (λ x. suc (suc (suc (suc x)))) (even (suc (suc (suc k))) (8 + 16 * n) (4 + 8 * n) (omega arith))
-    ∙ ap (λ x. suc (suc (suc (suc (suc x))))) (even (suc (suc k)) (4 + 8 * n) (2 + 4 * n) (omega arith))
-    ∙ ap (λ x. suc (suc (suc (suc (suc (suc x)))))) (even (suc k) (2 + 4 * n) (1 + 2 * n) (omega arith))
-    ∙ ap (λ x. suc (suc (suc (suc (suc (suc (suc x))))))) (odd k (1 + 2 * n) n (omega arith))
+marks_right (b ∷ bs) each = cc (marked_is b each.0, marks_right bs each.1)
 
 bits_of : List ℕ → ℕ
 bits_of [] = 0
 bits_of (b ∷ bs) = suc (suc (suc (suc (suc (suc (suc (suc (bits_of bs))))))))
 
-lowest : (bs : List ℕ) → count_trailing_zeros (bits_of bs) (packed (map mark bs)) / 8 ≡ prefix_len is_digit bs
+lowest : (bs : List ℕ) → count_trailing_zeros (bits_of bs) (packed (map mark bs)) / 8
+    ≡ prefix_len is_digit bs
 unfolding bits_of mark count_trailing_zeros
 lowest [] = refl
 lowest (b ∷ bs) = by (is_digit b) (lowest bs)
   where
-    by : (v : Bool) → count_trailing_zeros (bits_of bs) (packed (map mark bs)) / 8 ≡ prefix_len is_digit bs
-        → count_trailing_zeros (bits_of (b ∷ bs)) (cond v 0 128 + 256 * packed (map mark bs)) / 8 ≡ cond v (1 + prefix_len is_digit bs) 0
-    by true more = let e = zero_byte (bits_of bs) (packed (map mark bs)) in omega (arith, e, more)
-    by false more = let e = marked_byte (bits_of bs) (packed (map mark bs)) in omega (arith, e)
+    by : (v : Bool) → count_trailing_zeros (bits_of bs) (packed (map mark bs)) / 8
+        ≡ prefix_len is_digit bs → count_trailing_zeros (bits_of (b ∷ bs))
+        (cond v 0 128 + 256 * packed (map mark bs)) / 8 ≡ cond v (1 + prefix_len is_digit bs) 0
+    by true more = grind arith
+    by false more = grind arith
 
-pub count_is : (bs : List ℕ) → AreEight 256 bs → (word : ℕ) → word ≡ packed (map from_zero bs) → count_trailing_zeros 64 (marks_of word) / 8 ≡ prefix_len is_digit bs
+pub count_is : (bs : List ℕ) → AreEight 256 bs → (word : ℕ) → word ≡ packed (map from_zero bs)
+    → count_trailing_zeros 64 (marks_of word) / 8 ≡ prefix_len is_digit bs
 unfolding bits_of
-count_is bs are word is = ap (λ w. count_trailing_zeros 64 (marks_of w) / 8) is ∙ by_eight P at bs are.size are.each
+count_is bs are word is = cc (by_eight P at bs are.size are.each)
   where
     P : List ℕ → Type 0
     P xs = AreBelow 256 xs → count_trailing_zeros 64 (marks_of (packed (map from_zero xs))) / 8 ≡ prefix_len is_digit xs
@@ -225,7 +187,7 @@ count_is bs are word is = ap (λ w. count_trailing_zeros 64 (marks_of w) / 8) is
     at : (a b c d e f g h : ℕ) → P (a ∷ b ∷ c ∷ d ∷ e ∷ f ∷ g ∷ h ∷ [])
     at a b c d e f g h each =
         let bs : List ℕ = a ∷ b ∷ c ∷ d ∷ e ∷ f ∷ g ∷ h ∷ [] in
-        ap (λ w. count_trailing_zeros 64 w / 8) (marks_at a b c d e f g h each ∙ ap packed (marks_right bs each)) ∙ lowest bs
+        cc (marks_at a b c d e f g h each, marks_right bs each, lowest bs)
 
 -- eight digits from the number that has them
 module _ (a b c d e f g h : ℕ) (low : AreBelow 10 (a ∷ b ∷ c ∷ d ∷ e ∷ f ∷ g ∷ h ∷ [])) (word : ℕ)
@@ -234,58 +196,26 @@ module _ (a b c d e f g h : ℕ) (low : AreBelow 10 (a ∷ b ∷ c ∷ d ∷ e �
   paired : List ℕ
   paired = (10 * a + b) ∷ (10 * b + c) ∷ (10 * c + d) ∷ (10 * d + e) ∷ (10 * e + f) ∷ (10 * f + g) ∷ (10 * g + h) ∷ 10 * h ∷ []
 
-  bounds : (a ≤ 9) × (b ≤ 9) × (c ≤ 9) × (d ≤ 9) × (e ≤ 9) × (f ≤ 9) × (g ≤ 9) × (h ≤ 9)
-  bounds = (
-    omega (arith, low.0),
-    omega (arith, low.1.0),
-    omega (arith, low.1.1.0),
-    omega (arith, low.1.1.1.0),
-    omega (arith, low.1.1.1.1.0),
-    omega (arith, low.1.1.1.1.1.0),
-    omega (arith, low.1.1.1.1.1.1.0),
-    omega (arith, low.1.1.1.1.1.1.1.0),
-  )
-
-  high_is : word / 2 ^ 8 ≡ packed (b ∷ c ∷ d ∷ e ∷ f ∷ g ∷ h ∷ [])
-  high_is = let low_a = bounds.0 in omega (arith, is, low_a)
-
   pairs_is : ((word * 10) % 2 ^ 64 + word / 2 ^ 8) % 2 ^ 64 ≡ packed paired
   unfolding paired
-  pairs_is =
-      let (la, lb, lc, ld, le, lf, lg, lh) = bounds in
-      let high = high_is in
-      let room : word * 10 < 2 ^ 64 = omega (arith, is, la, lb, lc, ld, le, lf, lg, lh) in
-      let times : (word * 10) % 2 ^ 64 ≡ word * 10 = fits _ room in
-      let sum : word * 10 + word / 2 ^ 8 ≡ packed paired = omega (arith, is, high) in
-      let small : word * 10 + word / 2 ^ 8 < 2 ^ 64 = omega (arith, is, high, la, lb, lc, ld, le, lf, lg, lh) in
-      ap (λ v. (v + word / 2 ^ 8) % 2 ^ 64) times ∙ fits _ small ∙ sum
+  pairs_is = grind arith
 
   paired_low : AreBelow 256 paired
   unfolding paired
-  paired_low =
-      let (la, lb, lc, ld, le, lf, lg, lh) = bounds in (
-        omega (arith, la, lb),
-        (omega (arith, lb, lc), (omega (arith, lc, ld), (omega (arith, ld, le), (omega (arith, le, lf), (omega (arith, lf, lg), (omega (arith, lg, lh), (omega (arith, lh), tt))))))),
-      )
+  paired_low = omega arith
 
 -- of eight bytes the first and the fifth
 module _ (a b c d e f g h : ℕ) where
-  picked : AreBelow 256 (a ∷ b ∷ c ∷ d ∷ e ∷ f ∷ g ∷ h ∷ []) → bit_and (packed (a ∷ b ∷ c ∷ d ∷ e ∷ f ∷ g ∷ h ∷ [])) 1095216660735 ≡ a + 4294967296 * e
+  picked : AreBelow 256 (a ∷ b ∷ c ∷ d ∷ e ∷ f ∷ g ∷ h ∷ [])
+      → bit_and (packed (a ∷ b ∷ c ∷ d ∷ e ∷ f ∷ g ∷ h ∷ [])) 1095216660735 ≡ a + 4294967296 * e
   picked low =
       let bs : List ℕ = a ∷ b ∷ c ∷ d ∷ e ∷ f ∷ g ∷ h ∷ [] in
       let mask : List ℕ = 255 ∷ 0 ∷ 0 ∷ 0 ∷ 255 ∷ 0 ∷ 0 ∷ 0 ∷ [] in
-      let low_mask : AreBelow 256 (255 ∷ 0 ∷ 0 ∷ 0 ∷ 255 ∷ 0 ∷ 0 ∷ 0 ∷ []) = (
-        omega arith,
-        (omega arith, (omega arith, (omega arith, (omega arith, (omega arith, (omega arith, (omega arith, tt))))))),
-      ) in
-      let each : bit_and (packed bs) (packed mask) ≡ packed (zip2 bit_and bs mask) = bytewise bit_and bytewise_and bs mask refl low low_mask in
+      let low_mask : AreBelow 256 (255 ∷ 0 ∷ 0 ∷ 0 ∷ 255 ∷ 0 ∷ 0 ∷ 0 ∷ []) = omega arith in
+      let each : bit_and (packed bs) (packed mask) ≡ packed (zip2 bit_and bs mask) =
+      bytewise bit_and bytewise_and bs mask refl low low_mask in
       let first : bit_and a 255 ≡ a % 256 = and_mask a 8 in
-      let fifth : bit_and e 255 ≡ e % 256 = and_mask e 8 in
-      let none = λ (x : ℕ). and_le_r x 0 in
-      let low_a = low.0 in
-      let low_e = low.1.1.1.1.0 in
-      let sum : packed (zip2 bit_and bs mask) ≡ a + 4294967296 * e = omega (arith, first, fifth, low_a, low_e, none b, none c, none d, none f, none g, none h) in
-      each ∙ sum
+      let fifth : bit_and e 255 ≡ e % 256 = and_mask e 8 in grind (arith, and_le_r)
 
 -- the words of value_of
 abbrev pub pairs_of : ℕ → ℕ
@@ -293,56 +223,26 @@ pairs_of word = ((word * 10) % 2 ^ 64 + word / 2 ^ 8) % 2 ^ 64
 
 abbrev pub joined : ℕ → ℕ
 joined pairs =
-    ((bit_and pairs 1095216660735 * 4294967296000100) % 2 ^ 64 + (bit_and (pairs / 2 ^ 16) 1095216660735 * 42949672960001) % 2 ^ 64) % 2 ^ 64 / 2 ^ 32
-
--- the products by which pairs are joined
-joined_is : (p q r s : ℕ) → p ≤ 99 → q ≤ 99 → r ≤ 99 → s ≤ 99
-    → (((p + 4294967296 * r) * 4294967296000100) % 2 ^ 64 + ((q + 4294967296 * s) * 42949672960001) % 2 ^ 64) % 2 ^ 64 / 2 ^ 32 ≡ 1000000 * p + 10000 * q + 100 * r + s
-joined_is p q r s lp lq lr ls =
-    let split : (p + 4294967296 * r) * 4294967296000100 ≡ 1000000 * r * 2 ^ 64 + (100 * p + 4294967296 * (100 * r + 1000000 * p)) = omega arith in
-    let outer : ((p + 4294967296 * r) * 4294967296000100) % 2 ^ 64 ≡ 100 * p + 4294967296 * (100 * r + 1000000 * p)
-    = ap (λ v. v % 2 ^ 64) split ∙ mod_low (1000000 * r) 64 _ (omega (arith, lp, lr)) in
-    let split' : (q + 4294967296 * s) * 42949672960001 ≡ 10000 * s * 2 ^ 64 + (q + 4294967296 * (s + 10000 * q)) = omega arith in
-    let inner : ((q + 4294967296 * s) * 42949672960001) % 2 ^ 64 ≡ q + 4294967296 * (s + 10000 * q)
-    = ap (λ v. v % 2 ^ 64) split' ∙ mod_low (10000 * s) 64 _ (omega (arith, lq, ls)) in
-    let sum : 100 * p + 4294967296 * (100 * r + 1000000 * p) + (q + 4294967296 * (s + 10000 * q)) ≡ (1000000 * p + 10000 * q + 100 * r + s) * 2 ^ 32 + (100 * p + q) = omega arith in
-    let small : 100 * p + 4294967296 * (100 * r + 1000000 * p) + (q + 4294967296 * (s + 10000 * q)) < 2 ^ 64 = omega (arith, lp, lq, lr, ls) in
-    ap (λ v. (v + ((q + 4294967296 * s) * 42949672960001) % 2 ^ 64) % 2 ^ 64 / 2 ^ 32) outer
-    ∙ ap (λ v. (100 * p + 4294967296 * (100 * r + 1000000 * p) + v) % 2 ^ 64 / 2 ^ 32) inner
-    ∙ ap (λ v. v / 2 ^ 32) (fits _ small ∙ sum) ∙ shr_high (1000000 * p + 10000 * q + 100 * r + s) 32 (100 * p + q) (omega (arith, lp, lq))
+    ((bit_and pairs 1095216660735 * 4294967296000100) % 2 ^ 64 + (bit_and (pairs / 2 ^ 16)
+    1095216660735 * 42949672960001) % 2 ^ 64) % 2 ^ 64 / 2 ^ 32
 
 module _ (a b c d e f g h : ℕ) (low : AreBelow 10 (a ∷ b ∷ c ∷ d ∷ e ∷ f ∷ g ∷ h ∷ [])) (word : ℕ)
     (is : word ≡ packed (a ∷ b ∷ c ∷ d ∷ e ∷ f ∷ g ∷ h ∷ [])) where
   outer_is : bit_and (pairs_of word) 1095216660735 ≡ 10 * a + b + 4294967296 * (10 * e + f)
   unfolding paired
-  outer_is = ap (λ v. bit_and v 1095216660735) (pairs_is a b c d e f g h low word is) ∙ picked _ _ _ _ _ _ _ _ (paired_low a b c d e f g h low word is)
-
-  dropped : pairs_of word / 2 ^ 16 ≡ packed ((10 * c + d) ∷ (10 * d + e) ∷ (10 * e + f) ∷ (10 * f + g) ∷ (10 * g + h) ∷ 10 * h ∷ 0 ∷ 0 ∷ [])
-  unfolding paired
-  dropped =
-      let (la, lb, lc, ld, le, lf, lg, lh) = bounds a b c d e f g h low word is in
-      let pairs = pairs_is a b c d e f g h low word is in
-      let rest = packed ((10 * c + d) ∷ (10 * d + e) ∷ (10 * e + f) ∷ (10 * f + g) ∷ (10 * g + h) ∷ 10 * h ∷ 0 ∷ 0 ∷ []) in
-      let all : pairs_of word ≡ packed ((10 * c + d) ∷ (10 * d + e) ∷ (10 * e + f) ∷ (10 * f + g) ∷ (10 * g + h) ∷ 10 * h ∷ 0 ∷ 0 ∷ []) * 2 ^ 16 + (10 * a + b + 256 * (10 * b + c))
-      = omega (arith, pairs) in
-      ap (λ v. v / 2 ^ 16) all ∙ shr_high _ 16 (10 * a + b + 256 * (10 * b + c)) (omega (arith, la, lb, lc))
+  outer_is = cc (pairs_is a b c d e f g h low word is, picked _ _ _ _ _ _ _ _ (paired_low a b c d e f g h low word is))
 
   inner_is : bit_and (pairs_of word / 2 ^ 16) 1095216660735 ≡ 10 * c + d + 4294967296 * (10 * g + h)
   unfolding paired
   inner_is =
       let low' = paired_low a b c d e f g h low word is in
-      ap (λ v. bit_and v 1095216660735) dropped
-      ∙ picked (10 * c + d) (10 * d + e) (10 * e + f) (10 * f + g) (10 * g + h) (10 * h) 0 0 (low'.1.1.0, (low'.1.1.1.0, (low'.1.1.1.1.0, (low'.1.1.1.1.1.0, (low'.1.1.1.1.1.1.0, (low'.1.1.1.1.1.1.1.0, (omega arith, (omega arith, tt))))))))
+      grind (arith, picked (10 * c + d) (10 * d + e) (10 * e + f) (10 * f + g) (10 * g + h) (10 * h) 0 0 (low'.1.1.0, (low'.1.1.1.0, (low'.1.1.1.1.0, (low'.1.1.1.1.1.0, (low'.1.1.1.1.1.1.0, (low'.1.1.1.1.1.1.1.0, (omega arith, (omega arith, tt)))))))))
 
   value_at : joined (pairs_of word) ≡ decimal (a ∷ b ∷ c ∷ d ∷ e ∷ f ∷ g ∷ h ∷ [])
-  value_at =
-      let (la, lb, lc, ld, le, lf, lg, lh) = bounds a b c d e f g h low word is in
-      let sum : 1000000 * (10 * a + b) + 10000 * (10 * c + d) + 100 * (10 * e + f) + (10 * g + h) ≡ decimal (a ∷ b ∷ c ∷ d ∷ e ∷ f ∷ g ∷ h ∷ []) = omega arith in
-      ap (λ v. ((v * 4294967296000100) % 2 ^ 64 + (bit_and (pairs_of word / 2 ^ 16) 1095216660735 * 42949672960001) % 2 ^ 64) % 2 ^ 64 / 2 ^ 32) outer_is
-      ∙ ap (λ v. (((10 * a + b + 4294967296 * (10 * e + f)) * 4294967296000100) % 2 ^ 64 + (v * 42949672960001) % 2 ^ 64) % 2 ^ 64 / 2 ^ 32) inner_is
-      ∙ joined_is (10 * a + b) (10 * c + d) (10 * e + f) (10 * g + h) (omega (arith, la, lb)) (omega (arith, lc, ld)) (omega (arith, le, lf)) (omega (arith, lg, lh)) ∙ sum
+  value_at = grind (arith, outer_is, inner_is)
 
-pub value_is : (ds : List ℕ) → AreEight 10 ds → (word : ℕ) → word ≡ packed ds → joined (pairs_of word) ≡ decimal ds
+pub value_is : (ds : List ℕ) → AreEight 10 ds → (word : ℕ) → word ≡ packed ds
+    → joined (pairs_of word) ≡ decimal ds
 value_is ds are word is = by_eight P at ds are.size are.each is
   where
     P : List ℕ → Type 0
@@ -359,38 +259,35 @@ scale (suc n) = 256 * scale n
 packed-below : (xs : List ℕ) → AreBelow 256 xs → packed xs < scale (length xs)
 unfolding scale
 packed-below [] low = omega arith
-packed-below (x ∷ xs) low = let more = packed-below xs low.1 in let first = low.0 in omega (arith, more, first)
+packed-below (x ∷ xs) low = omega (arith, packed-below xs low.1)
 
 packed-zeros : (k : ℕ) (xs : List ℕ) → packed (replicate k 0 ++ xs) ≡ scale k * packed xs
 unfolding scale
 packed-zeros zero xs = omega arith
-packed-zeros (suc k) xs = let more = packed-zeros k xs in let turn = mul_assoc 256 (scale k) (packed xs) in omega (arith, more, turn)
+packed-zeros (suc k) xs = omega (arith, packed-zeros k xs)
 
-packed-split : (f : ℕ → ℕ) (c : ℕ) (bs : List ℕ) → packed (map f bs) ≡ packed (map f (take c bs)) + scale c * packed (map f (drop c bs))
+packed-split : (f : ℕ → ℕ) (c : ℕ) (bs : List ℕ)
+    → packed (map f bs) ≡ packed (map f (take c bs)) + scale c * packed (map f (drop c bs))
 unfolding scale
 packed-split f zero [] = refl
 packed-split f zero (b ∷ bs) = omega arith
 packed-split f (suc c) [] = omega arith
-packed-split f (suc c) (b ∷ bs) =
-    let more = packed-split f c bs in
-    let turn = mul_assoc 256 (scale c) (packed (map f (drop c bs))) in
-    omega (arith, more, turn)
+packed-split f (suc c) (b ∷ bs) = omega (arith, packed-split f c bs)
 
-to_top : (p t d n : ℕ) → p * n ≡ d * 2 ^ 64 + n * t → n * t < 2 ^ 64 → (p * n) % 2 ^ 64 ≡ n * t
-to_top p t d n is low = ap (λ v. v % 2 ^ 64) is ∙ mod_low d 64 (n * t) low
-
-shifted_at : (c : ℕ) → 0 < c → c ≤ 8 → (p t d : ℕ) → p ≡ t + scale c * d → t < scale c → (p * 2 ^ (64 - 8 * c)) % 2 ^ 64 ≡ scale (8 - c) * t
+shifted_at : (c : ℕ) → 0 < c → c ≤ 8 → (p t d : ℕ) → p ≡ t + scale c * d → t < scale c
+    → (p * 2 ^ (64 - 8 * c)) % 2 ^ 64 ≡ scale (8 - c) * t
 unfolding scale
 shifted_at zero some most p t d is low = absurd (omega (arith, some))
-shifted_at (suc zero) some most p t d is low = to_top p t d 72057594037927936 (omega (arith, is)) (omega (arith, low))
-shifted_at (suc (suc zero)) some most p t d is low = to_top p t d 281474976710656 (omega (arith, is)) (omega (arith, low))
-shifted_at (suc (suc (suc zero))) some most p t d is low = to_top p t d 1099511627776 (omega (arith, is)) (omega (arith, low))
-shifted_at (suc (suc (suc (suc zero)))) some most p t d is low = to_top p t d 4294967296 (omega (arith, is)) (omega (arith, low))
-shifted_at (suc (suc (suc (suc (suc zero))))) some most p t d is low = to_top p t d 16777216 (omega (arith, is)) (omega (arith, low))
-shifted_at (suc (suc (suc (suc (suc (suc zero)))))) some most p t d is low = to_top p t d 65536 (omega (arith, is)) (omega (arith, low))
-shifted_at (suc (suc (suc (suc (suc (suc (suc zero))))))) some most p t d is low = to_top p t d 256 (omega (arith, is)) (omega (arith, low))
-shifted_at (suc (suc (suc (suc (suc (suc (suc (suc zero)))))))) some most p t d is low = to_top p t d 1 (omega (arith, is)) (omega (arith, low))
-shifted_at (suc (suc (suc (suc (suc (suc (suc (suc (suc c))))))))) some most p t d is low = absurd (omega (arith, most))
+shifted_at (suc zero) some most p t d is low = grind arith
+shifted_at (suc (suc zero)) some most p t d is low = grind arith
+shifted_at (suc (suc (suc zero))) some most p t d is low = grind arith
+shifted_at (suc (suc (suc (suc zero)))) some most p t d is low = grind arith
+shifted_at (suc (suc (suc (suc (suc zero))))) some most p t d is low = grind arith
+shifted_at (suc (suc (suc (suc (suc (suc zero)))))) some most p t d is low = grind arith
+shifted_at (suc (suc (suc (suc (suc (suc (suc zero))))))) some most p t d is low = grind arith
+shifted_at (suc (suc (suc (suc (suc (suc (suc (suc zero)))))))) some most p t d is low = grind arith
+shifted_at (suc (suc (suc (suc (suc (suc (suc (suc (suc c))))))))) some most p t d is low =
+    absurd (omega (arith, most))
 
 below-append : (n : ℕ) (xs ys : List ℕ) → AreBelow n xs → AreBelow n ys → AreBelow n (xs ++ ys)
 below-append n [] ys low_x low_y = low_y
@@ -401,38 +298,35 @@ below-zeros n zero some = tt
 below-zeros n (suc k) some = (some, below-zeros n k some)
 
 digit_small : (b : ℕ) → is_digit b ≡ true → from_zero b < 10
-digit_small b digit =
-    let is = digit_is b (digit_low b digit) digit in
-    let most : b ≤ 57 = grind (arith, nat_tests) in
-    omega (arith, is, most)
+digit_small b digit = grind (arith, digit_is)
 
 below-digits : (bs : List ℕ) → list_all is_digit bs ≡ true → AreBelow 10 (map from_zero bs)
 below-digits [] all = tt
-below-digits (b ∷ bs) all = let both = and_parts _ _ all in (digit_small b both.0, below-digits bs both.1)
+below-digits (b ∷ bs) all =
+    let both = and_parts _ _ all in (digit_small b both.0, below-digits bs both.1)
 
 below-more : (xs : List ℕ) → AreBelow 10 xs → AreBelow 256 xs
 below-more [] low = tt
-below-more (x ∷ xs) low = let first = low.0 in (omega (arith, first), below-more xs low.1)
+below-more (x ∷ xs) low = grind (arith, below-more xs low.1)
 
 decimal-zeros : (k : ℕ) (xs : List ℕ) → decimal (replicate k 0 ++ xs) ≡ decimal xs
 decimal-zeros zero xs = refl
 decimal-zeros (suc k) xs = decimal-zeros k xs
 
-decimal-digits : (n : ℕ) (bs : List ℕ) → list_all is_digit bs ≡ true → fold (λ n d. n * 10 + d) n (map from_zero bs) ≡ decimal_after n bs
+decimal-digits : (n : ℕ) (bs : List ℕ) → list_all is_digit bs ≡ true
+    → fold (λ n d. n * 10 + d) n (map from_zero bs) ≡ decimal_after n bs
 decimal-digits n [] all = refl
 decimal-digits n (b ∷ bs) all =
-    let both = and_parts _ _ all in
-    let is = digit_is b (digit_low b both.0) both.0 in
-    ap (λ d. fold (λ n d. n * 10 + d) (n * 10 + d) (map from_zero bs)) is ∙ decimal-digits (n * 10 + (b - 48)) bs both.1
+    let both : (is_digit b ≡ true) × (list_all is_digit bs ≡ true) = and_parts _ _ all in
+    cc (digit_is b (digit_low b both.0) both.0, decimal-digits (n * 10 + (b - 48)) bs both.1)
 
 prefix_all : (bs : List ℕ) → list_all is_digit (take (prefix_len is_digit bs) bs) ≡ true
 prefix_all [] = refl
 prefix_all (b ∷ bs) = by (is_digit b) refl (prefix_all bs)
   where
-    by : (v : Bool) → is_digit b ≡ v → list_all is_digit (take (prefix_len is_digit bs) bs) ≡ true → list_all is_digit (take (cond v (1 + prefix_len is_digit bs) 0) (b ∷ bs)) ≡ true
-    by true digit more =
-        let next : 1 + prefix_len is_digit bs ≡ suc (prefix_len is_digit bs) = omega arith in
-        ap (λ k. list_all is_digit (take k (b ∷ bs))) next ∙ rw (digit, more) refl
+    by : (v : Bool) → is_digit b ≡ v → list_all is_digit (take (prefix_len is_digit bs) bs) ≡ true
+        → list_all is_digit (take (cond v (1 + prefix_len is_digit bs) 0) (b ∷ bs)) ≡ true
+    by true digit more = grind arith
     by false other more = refl
 
 take_inside : (c n : ℕ) (xs : List ℕ) → c ≤ n → take c (take n xs) ≡ take c xs
@@ -442,7 +336,7 @@ take_inside zero (suc n) [] less = refl
 take_inside zero (suc n) (x ∷ xs) less = refl
 take_inside (suc c) zero xs less = absurd (omega (arith, less))
 take_inside (suc c) (suc n) [] less = refl
-take_inside (suc c) (suc n) (x ∷ xs) less = ap (λ ys. x ∷ ys) (take_inside c n xs (omega (arith, less)))
+take_inside (suc c) (suc n) (x ∷ xs) less = cc (take_inside c n xs (omega (arith, less)))
 
 eight_is : (bs : List ℕ) → 8 ≤ length bs → eight bs ≡ take 8 bs
 eight_is [] long = absurd (omega (arith, long))
@@ -455,24 +349,27 @@ eight_is (a ∷ b ∷ c ∷ d ∷ e ∷ f ∷ []) long = absurd (omega (arith, l
 eight_is (a ∷ b ∷ c ∷ d ∷ e ∷ f ∷ g ∷ []) long = absurd (omega (arith, long))
 eight_is (a ∷ b ∷ c ∷ d ∷ e ∷ f ∷ g ∷ h ∷ bs) long = refl
 
-pack_is : (a b c d e f g h : ℕ) → from_le_bytes w64 (a ∷ b ∷ c ∷ d ∷ e ∷ f ∷ g ∷ h ∷ []) ≡ packed (a ∷ b ∷ c ∷ d ∷ e ∷ f ∷ g ∷ h ∷ [])
+pack_is : (a b c d e f g h : ℕ)
+    → from_le_bytes w64 (a ∷ b ∷ c ∷ d ∷ e ∷ f ∷ g ∷ h ∷ [])
+    ≡ packed (a ∷ b ∷ c ∷ d ∷ e ∷ f ∷ g ∷ h ∷ [])
 pack_is a b c d e f g h = omega arith
 
 module _ (bytes : List ℕ) (long : 8 ≤ length bytes) (low : (i : ℕ) → slice_index bytes i < 256) where
   are_bytes : AreEight 256 (eight bytes)
-  are_bytes = record { size = refl; each = (low 0, (low 1, (low 2, (low 3, (low 4, (low 5, (low 6, (low 7, tt)))))))) }
+  are_bytes = grind arith
 
-  zeroed : (word : ℕ) → word ≡ packed (eight bytes) → bit_xor word 3472328296227680304 ≡ packed (map from_zero (eight bytes))
+  zeroed : (word : ℕ) → word ≡ packed (eight bytes)
+      → bit_xor word 3472328296227680304 ≡ packed (map from_zero (eight bytes))
   zeroed word is =
-      ap (λ w. bit_xor w 3472328296227680304) is
-      ∙ bytewise-map (λ b. b) (λ _. 48) (λ b below. below) (λ b below. omega arith) bit_xor bytewise_xor (eight bytes) are_bytes.each
+      cc (bytewise-map (λ b. b) (λ _. 48) (λ b below. below) (λ b below. omega arith)
+      bit_xor bytewise_xor (eight bytes) are_bytes.each)
 
   module _ (count : ℕ) (counted : count ≡ prefix_len is_digit (eight bytes)) where
     front_most : count ≤ 8
-    front_most = let most = prefix_len-le-length is_digit (eight bytes) in omega (arith, counted, most)
+    front_most = search (rules, prefix_len-le-length)
 
     front_is : take count (eight bytes) ≡ take count bytes
-    front_is = ap (take count) (eight_is bytes long) ∙ take_inside count 8 bytes front_most
+    front_is = search (rules, eight_is, take_inside, front_most)
 
     front_each : list_all is_digit (take count bytes) ≡ true
     front_each = ap (list_all is_digit) (sym front_is) ∙ ap (λ k. list_all is_digit (take k (eight bytes))) counted ∙ prefix_all (eight bytes)
@@ -482,7 +379,7 @@ module _ (bytes : List ℕ) (long : 8 ≤ length bytes) (low : (i : ℕ) → sli
       filled = replicate (8 - count) 0 ++ map from_zero (take count bytes)
 
       front_long : length (map from_zero (take count bytes)) ≡ count
-      front_long = length-map (take count bytes) from_zero ∙ length-take-le count bytes (let most = front_most in omega (arith, most, long))
+      front_long = grind (arith, length-map, length-take-le, front_most)
 
       filled_are : AreEight 10 filled
       unfolding filled
@@ -490,28 +387,38 @@ module _ (bytes : List ℕ) (long : 8 ≤ length bytes) (low : (i : ℕ) → sli
         size =
             let sum = length-append (replicate (8 - count) 0) (map from_zero (take count bytes)) in
             let zeros = length-replicate {A = ℕ} (8 - count) 0 in
-            let front = front_long in
-            let most = front_most in
-            omega (arith, sum, zeros, front, most);
-        each = below-append 10 (replicate (8 - count) 0) (map from_zero (take count bytes)) (below-zeros 10 (8 - count) (omega arith)) (below-digits (take count bytes) front_each);
+            let front = front_long in grind (arith, front_most);
+        each = search (rules, below-append, below-zeros, below-digits, front_each);
       }
 
       shifted : (word * 2 ^ (64 - 8 * count)) % 2 ^ 64 ≡ packed filled
       unfolding filled
       shifted =
-          let whole : word ≡ packed (map from_zero (take count bytes)) + scale count * packed (map from_zero (drop count (eight bytes)))
-          = is ∙ packed-split from_zero count (eight bytes) ∙ ap (λ xs. packed (map from_zero xs) + scale count * packed (map from_zero (drop count (eight bytes)))) front_is in
-          let below : packed (map from_zero (take count bytes)) < scale count
-          = subst (λ k. packed (map from_zero (take count bytes)) < scale k) front_long
-          (packed-below (map from_zero (take count bytes)) (below-more _ (below-digits (take count bytes) front_each))) in
-          shifted_at count some front_most word _ _ whole below ∙ sym (packed-zeros (8 - count) (map from_zero (take count bytes)))
+          let whole : word ≡ packed (map from_zero (take count bytes)) + scale count * packed
+          (map from_zero (drop count (eight bytes))) = grind (arith, packed-split, front_is) in
+          grind (
+            arith,
+            front_long,
+            packed-below,
+            below-more,
+            below-digits,
+            front_each,
+            shifted_at,
+            front_most,
+            packed-zeros,
+          )
 
-      value_says : ((ds : List ℕ) → AreEight 10 ds → (word * 2 ^ (64 - 8 * count)) % 2 ^ 64 ≡ packed ds → value ≡ decimal ds) → value ≡ decimal_value (take count bytes)
+      value_says : ((ds : List ℕ) → AreEight 10 ds
+          → (word * 2 ^ (64 - 8 * count)) % 2 ^ 64 ≡ packed ds → value ≡ decimal ds)
+          → value ≡ decimal_value (take count bytes)
       unfolding filled
-      value_says says = says filled filled_are shifted ∙ decimal-zeros (8 - count) (map from_zero (take count bytes)) ∙ decimal-digits 0 (take count bytes) front_each
+      value_says says =
+          grind (arith, filled_are, shifted, decimal-zeros, decimal-digits, front_each)
 
-      front_value : ((ds : List ℕ) → AreEight 10 ds → (word * 2 ^ (64 - 8 * count)) % 2 ^ 64 ≡ packed ds → value ≡ decimal ds) → AreFront bytes count value
-      front_value says = record { some = some; most = front_most; each = front_each; says = value_says says }
+      front_value : ((ds : List ℕ) → AreEight 10 ds
+          → (word * 2 ^ (64 - 8 * count)) % 2 ^ 64 ≡ packed ds → value ≡ decimal ds)
+          → AreFront bytes count value
+      front_value says = grind (arith, front_most, front_each, value_says)
 
 -- the first byte is taken for a digit, and one that is a `-` for a `0`
 module _ (b : ℕ) (bs : List ℕ) (long : 8 ≤ length (b ∷ bs)) (low : (i : ℕ) → slice_index (b ∷ bs) i < 256)
@@ -536,9 +443,7 @@ module _ (b : ℕ) (bs : List ℕ) (long : 8 ≤ length (b ∷ bs)) (low : (i : 
 
   cleared : (word / 256 * 256) % 2 ^ 64 ≡ rest
   unfolding rest
-  cleared =
-      let first = zero_low b (low 0) in
-      ap (λ v. (v / 256 * 256) % 2 ^ 64) word_is ∙ (omega (arith, first, rest_below))
+  cleared = let first = zero_low b (low 0) in grind (arith, rest_below)
 
   follow : count ≡ prefix_len is_digit (eight (48 ∷ bs))
   unfolding rest
@@ -546,52 +451,48 @@ module _ (b : ℕ) (bs : List ℕ) (long : 8 ≤ length (b ∷ bs)) (low : (i : 
 
   word_below : word < 2 ^ 64
   unfolding scale
-  word_below =
-      let below : packed (map from_zero (eight (b ∷ bs))) < 2 ^ 64
-      = packed-below (map from_zero (eight (b ∷ bs)))
-      (zero_low b (low 0), (zero_low _ (low 1), (zero_low _ (low 2), (zero_low _ (low 3), (zero_low _ (low 4), (zero_low _ (low 5), (zero_low _ (low 6), (zero_low _ (low 7), tt)))))))) in
-      subst (λ w. w < 2 ^ 64) (sym is) below
+  word_below = search (rules, zero_low)
 
   wrapped : (word + (2 ^ 64 - 0)) % 2 ^ 64 ≡ word
   wrapped = let below = word_below in omega (arith, below)
 
   taken : b ≡ 45 → (word + (2 ^ 64 - 29)) % 2 ^ 64 ≡ rest
-  taken minus =
-      let below = rest_below in
-      let first : from_zero b ≡ 29 = ap from_zero minus in
-      let whole = word_is in
-      omega (arith, below, first, whole)
+  taken minus = grind (arith, rest_below, word_is)
 
   -- what is written where no `-` stands
   plain : is_digit b ≡ true → (digits : ℕ) → digits ≡ word
-      → ((ds : List ℕ) → AreEight 10 ds → (digits * 2 ^ (64 - 8 * count)) % 2 ^ 64 ≡ packed ds → value ≡ decimal ds)
-      → AreFront (b ∷ bs) count value
+      → ((ds : List ℕ) → AreEight 10 ds → (digits * 2 ^ (64 - 8 * count)) % 2 ^ 64 ≡ packed ds
+      → value ≡ decimal ds) → AreFront (b ∷ bs) count value
   plain digit digits same says =
-      front_value (b ∷ bs) long low count
-      (follow ∙ sym (ap (λ v. cond v (1 + prefix_len is_digit (drop 1 (eight (b ∷ bs)))) 0) digit))
-      some digits value (same ∙ is) says
+      front_value (b ∷ bs) long low count (grind (arith, follow)) some digits value (same ∙ is) says
 
   -- and where one does
   signed : (digits : ℕ) → digits ≡ rest
-      → ((ds : List ℕ) → AreEight 10 ds → (digits * 2 ^ (64 - 8 * count)) % 2 ^ 64 ≡ packed ds → value ≡ decimal ds)
-      → AreFront (48 ∷ bs) count value
+      → ((ds : List ℕ) → AreEight 10 ds → (digits * 2 ^ (64 - 8 * count)) % 2 ^ 64 ≡ packed ds
+      → value ≡ decimal ds) → AreFront (48 ∷ bs) count value
   unfolding rest
-  signed digits same says = front_value (48 ∷ bs) long low_zero count follow some digits value same says
+  signed digits same says = search (rules, front_value, low_zero, follow)
 
 -- what stands first of the bytes that were read as one number
 pub front : (bytes : List ℕ) → 8 ≤ length bytes → ((i : ℕ) → slice_index bytes i < 256)
     → (is_negative : Bool) → is_negative ≡ (slice_index bytes 0 == 45) → (bits count value : ℕ)
     → bits ≡ from_le_bytes w64 (eight bytes)
-    → ((xs : List ℕ) → AreEight 256 xs → (bit_xor bits 3472328296227680304 / 256 * 256) % 2 ^ 64 ≡ packed (map from_zero xs) → count ≡ prefix_len is_digit xs)
-    → 0 < count
-    → ((ds : List ℕ) → AreEight 10 ds → ((bit_xor bits 3472328296227680304 + (2 ^ 64 - 29 * from_bool is_negative)) % 2 ^ 64 * 2 ^ (64 - 8 * count)) % 2 ^ 64 ≡ packed ds → value ≡ decimal ds)
+    → ((xs : List ℕ) → AreEight 256 xs
+    → (bit_xor bits 3472328296227680304 / 256 * 256) % 2 ^ 64 ≡ packed (map from_zero xs)
+    → count ≡ prefix_len is_digit xs) → 0 < count
+    → ((ds : List ℕ) → AreEight 10 ds
+    → ((bit_xor bits 3472328296227680304 + (2 ^ 64 - 29 * from_bool
+    is_negative)) % 2 ^ 64 * 2 ^ (64 - 8 * count)) % 2 ^ 64 ≡ packed ds → value ≡ decimal ds)
     → is_digit (slice_index (unsigned is_negative bytes) 0) ≡ true
     → AreFront (unsigned is_negative bytes) count value
-front [] long low is_negative sign bits count value is counted some says digit = absurd (omega (arith, long))
+front [] long low is_negative sign bits count value is counted some says digit =
+    absurd (omega (arith, long))
 front (b ∷ bs) long low false sign bits count value is counted some says digit =
     let word = zeroed (b ∷ bs) long low bits (is ∙ pack_is _ _ _ _ _ _ _ _) in
-    plain b bs long low _ count value word counted some digit _ (wrapped b bs long low _ count value word counted some) says
+    plain b bs long low _ count value word counted some digit _
+    (wrapped b bs long low _ count value word counted some) says
 front (b ∷ bs) long low true sign bits count value is counted some says digit =
     let word = zeroed (b ∷ bs) long low bits (is ∙ pack_is _ _ _ _ _ _ _ _) in
     let minus : b ≡ 45 = grind (arith, nat_tests) in
-    signed b bs long low _ count value word counted some _ (taken b bs long low _ count value word counted some minus) says
+    signed b bs long low _ count value word counted some _
+    (taken b bs long low _ count value word counted some minus) says

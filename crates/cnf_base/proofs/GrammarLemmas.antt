@@ -1,14 +1,13 @@
 -- A text's words, as it is read, and that a number and a fixed word are spelled in one way.
 use Rattle.std.proofs.Common.{◌≡◌, ℕ, zero, suc, ◌≤◌, ◌==◌, ◌&&◌, ◌⊎◌, inl, inr, cond, not, Bool}
 use Rattle.std.proofs.Common.{true, false, List, [], ◌∷◌, ◌++◌, drop, map, filter, Option, None}
-use Rattle.std.proofs.Common.{Some, refl, sym, ap, ◌∙◌, append_assoc, subst, arith}
+use Rattle.std.proofs.Common.{Some, refl, sym, ap, ◌∙◌, append_assoc, subst, arith, rules}
 use Rattle.std.specs.Prelude.{codes}
 use Rattle.std.specs.Fmt.{decimal}
 use Rattle.std.specs.List.{list_all, flat_map, filter_map, cons_option, slice_split}
 use Rattle.std.specs.Str.{bytes_eq}
 use Rattle.std.specs.Bool.{then_some}
 use Rattle.std.specs.Option.{option_or}
-use Rattle.std.proofs.lemmas.Bool.Decides.{nat_tests}
 use Rattle.std.proofs.lemmas.Fmt.{decimal_digit, decimal-digits_value}
 use Rattle.std.proofs.lemmas.Slice.Eq.{bytes_eq-Decides}
 use Rattle.std.proofs.lemmas.List.{append-nil, map-append}
@@ -19,10 +18,9 @@ use Rattle.cnf_base.specs.Printing.{input_of}
 use Rattle.cnf_base.specs.Text.{is_separator, Spot, spot, one_on, next_line, along, Listed}
 use Rattle.cnf_base.specs.Text.{words_of, is_comment, line_tokens, with_front, Listing}
 use Rattle.cnf_base.specs.Text.{lines_listing, listing_of}
-use Rattle.cnf_base.specs.Words.{is_digit, is_counting, has_minus, size_of, number}
-use Rattle.cnf_base.specs.Code.Digits.{decimal_value}
-use Rattle.cnf_base.specs.Words.{fixed_word, word_of}
-use Rattle.cnf_base.specs.Code.Digits.{number_or}
+use Rattle.cnf_base.specs.Words.{is_digit, is_counting, has_minus, size_of, number, fixed_word}
+use Rattle.cnf_base.specs.Words.{word_of}
+use Rattle.cnf_base.specs.Code.Digits.{decimal_value, number_or}
 use Rattle.cnf_base.specs.declared.input.Ending.TheVariants.{End}
 use Rattle.cnf_base.specs.declared.word.Word.{Word}
 use Rattle.cnf_base.specs.declared.word.Word.TheVariants as words
@@ -66,13 +64,11 @@ parts_said : (s : Spot) (parts : List (List ℕ))
     → all_said (words_of s parts) ≡ map (λ w. Some (word_of w)) (filter is_word parts)
 parts_said s [] = refl
 parts_said s ([] ∷ parts) = parts_said (one_on s) parts
-parts_said s ((b ∷ bs) ∷ parts) =
-    ap (λ t. Some (word_of (b ∷ bs)) ∷ t) (parts_said (one_on (along s (b ∷ bs))) parts)
+parts_said s ((b ∷ bs) ∷ parts) = cc (parts_said (one_on (along s (b ∷ bs))) parts)
 
 -- and each is a word, before what follows
 parts_inside : (s : Spot) (parts : List (List ℕ)) (ts : List Listed)
-    → list_all (λ t. is_inside t.0) (words_of s parts ++ ts)
-    ≡ list_all (λ t. is_inside t.0) ts
+    → list_all (λ t. is_inside t.0) (words_of s parts ++ ts) ≡ list_all (λ t. is_inside t.0) ts
 parts_inside s [] ts = refl
 parts_inside s ([] ∷ parts) ts = parts_inside (one_on s) parts ts
 parts_inside s ((b ∷ bs) ∷ parts) ts = parts_inside (one_on (along s (b ∷ bs))) parts ts
@@ -83,78 +79,45 @@ lines_said lines = flat_map line_said (map words_in (filter (λ line. not (is_co
 
 -- a line in front of others
 lines_said-cons : (skips : Bool) (line : List ℕ) (rest : List (List ℕ)) → is_comment line ≡ skips
-    → lines_said (line ∷ rest)
-    ≡ cond skips (lines_said rest) (line_said (words_in line) ++ lines_said rest)
-lines_said-cons true line rest e = rw e refl
-lines_said-cons false line rest e = rw e refl
+    → lines_said (line ∷ rest) ≡ cond skips (lines_said rest)
+    (line_said (words_in line) ++ lines_said rest)
+lines_said-cons skips line rest e = grind arith
 
 -- tokens in front
 Says-front : (front : List Listed) (l : Listing) (all : List (Option Word))
-    → list_all (λ t. is_inside t.0) front ≡ true
-    → Says l all → Says (with_front front l) (all_said front ++ all)
-Says-front front l all are says = record {
-  words = by says.words;
-  inside = list_all-append (λ t. is_inside t.0) front l.tokens
-      ∙ ap (λ v. v && list_all (λ t. is_inside t.0) l.tokens) are ∙ says.inside;
-  ending = says.ending;
-}
-  where
-    joined : all_said (front ++ l.tokens) ≡ all_said front ++ all_said l.tokens
-    joined = map-append (λ t. said t.0) front l.tokens
-
-    by : (all_said l.tokens ≡ all) ⊎ (all_said l.tokens ++ None ∷ [] ≡ all)
-        → (all_said (front ++ l.tokens) ≡ all_said front ++ all)
-        ⊎ (all_said (front ++ l.tokens) ++ None ∷ [] ≡ all_said front ++ all)
-    by (inl e) = inl (joined ∙ ap (λ t. all_said front ++ t) e)
-    by (inr e) = inr
-        (ap (λ t. t ++ None ∷ []) joined
-        ∙ append_assoc (all_said front) (all_said l.tokens) (None ∷ [])
-        ∙ ap (λ t. all_said front ++ t) e)
+    → list_all (λ t. is_inside t.0) front ≡ true → Says l all
+    → Says (with_front front l) (all_said front ++ all)
+Says-front front l all are says = grind (arith, list_all-append, map-append, append_assoc)
 
 lines_say : (skips : Bool) (s : Spot) (line : List ℕ) (rest : List (List ℕ))
-    → is_comment line ≡ skips
-    → Says (lines_listing skips s (line ∷ rest) End) (lines_said (line ∷ rest))
-lines_say true s line [] e = record {
-  words = inl (sym (lines_said-cons true line [] e));
-  inside = refl;
-  ending = refl;
-}
+    → is_comment line ≡ skips → Says (lines_listing skips s (line ∷ rest) End)
+    (lines_said (line ∷ rest))
+lines_say true s line [] e = grind arith
 lines_say false s line [] e = record {
-  words = inr (ap (λ t. t ++ None ∷ []) (parts_said s (slice_split is_separator line))
-      ∙ sym (append-nil (line_said (words_in line))) ∙ sym (lines_said-cons false line [] e));
-  inside = ap (λ ts. list_all (λ t. is_inside t.0) ts)
-      (sym (append-nil (words_of s (slice_split is_separator line))))
-      ∙ parts_inside s (slice_split is_separator line) [];
+  words = grind (arith, parts_said, append-nil);
+  inside = cc (
+    append-nil (words_of s (slice_split is_separator line)),
+    parts_inside s (slice_split is_separator line) [],
+  );
   ending = refl;
 }
 lines_say true s line (next ∷ rest) e =
-    let later = lines_say (is_comment next) (next_line (along s line)) next rest refl in
-    subst (Says (lines_listing true s (line ∷ next ∷ rest) End))
-    (sym (lines_said-cons true line (next ∷ rest) e)) later
+    grind (arith, lines_say (is_comment next) (next_line (along s line)) next rest refl)
 lines_say false s line (next ∷ rest) e =
     let later = lines_say (is_comment next) (next_line (along s line)) next rest refl in
     subst (Says (lines_listing false s (line ∷ next ∷ rest) End))
     (ap (λ t. t ++ lines_said (next ∷ rest)) front
-    ∙ sym (lines_said-cons false line (next ∷ rest) e))
-    (Says-front (line_tokens false s line) _ (lines_said (next ∷ rest))
-    (parts_inside s (slice_split is_separator line) _) later)
+    ∙ sym (lines_said-cons false line (next ∷ rest) e)) (search (rules, Says-front, parts_inside))
   where
     front : all_said (line_tokens false s line) ≡ line_said (words_in line)
-    front = map-append (λ t. said t.0) (words_of s (slice_split is_separator line)) _
-        ∙ ap (λ t. t ++ None ∷ []) (parts_said s (slice_split is_separator line))
+    front = grind (arith, map-append, parts_said)
 
 -- a whole text
 pub listing_says : (bytes : List ℕ) → Says (listing_of (input_of bytes)) (text_said bytes)
 listing_says bytes =
     let f = first_part (λ b. b == 10) bytes in
     let same : is_comment f.0 ≡ is_comment bytes = sym (is_comment-lines_of bytes f.0 f.1 f.2) in
-    let P : List (List ℕ) → Type 0 =
-    λ lines. Says
-    (lines_listing (is_comment bytes)
-    (spot (record { line = 1; col = 1 }) 0) lines End) (lines_said lines) in
-    subst P (sym f.2)
-    (lines_say (is_comment bytes)
-    (spot (record { line = 1; col = 1 }) 0) f.0 f.1 same)
+    grind (arith, lines_say (is_comment bytes) (spot (record { line = 1; col = 1 }) 0) f.0 f.1 same)
 
 -- the words of a text, line ends aside
 pub listing_words : (bytes : List ℕ)
@@ -164,21 +127,16 @@ listing_words bytes =
     somes (listing_of (input_of bytes)).tokens ∙ by (listing_says bytes).words
     ∙ lines (word_lines bytes)
   where
-    somes : (ts : List Listed)
-        → filter_map (λ t. said t.0) ts ≡ filter_map (λ w. w) (all_said ts)
+    somes : (ts : List Listed) → filter_map (λ t. said t.0) ts ≡ filter_map (λ w. w) (all_said ts)
     somes [] = refl
     somes (t ∷ ts) = ap (cons_option (said t.0)) (somes ts)
 
-    by : (all_said (listing_of (input_of bytes)).tokens ≡ text_said bytes)
-        ⊎ (all_said (listing_of (input_of bytes)).tokens ++ None ∷ [] ≡ text_said bytes)
+    by : (all_said (listing_of (input_of bytes)).tokens ≡ text_said bytes) ⊎
+        (all_said (listing_of (input_of bytes)).tokens ++ None ∷ [] ≡ text_said bytes)
         → filter_map (λ w. w) (all_said (listing_of (input_of bytes)).tokens)
         ≡ filter_map (λ w. w) (text_said bytes)
     by (inl e) = ap (filter_map (λ w. w)) e
-    by (inr e) =
-        sym (append-nil (filter_map (λ w. w) (all_said (listing_of (input_of bytes)).tokens)))
-        ∙ sym (filter_map-append (λ w. w) (all_said (listing_of (input_of bytes)).tokens)
-        (None ∷ []))
-        ∙ ap (filter_map (λ w. w)) e
+    by (inr e) = grind (arith, append-nil, filter_map-append)
 
     line : (words : List (List ℕ)) (rest : List (Option Word))
         → filter_map (λ w. w) (line_said words ++ rest)
@@ -190,8 +148,11 @@ listing_words bytes =
         → filter_map (λ w. w) (flat_map line_said all) ≡ map word_of (flat_map (λ line. line) all)
     lines [] = refl
     lines (words ∷ all) =
-        line words (flat_map line_said all) ∙ ap (λ t. map word_of words ++ t) (lines all)
-        ∙ sym (map-append word_of words (flat_map (λ line. line) all))
+        cc (
+          line words (flat_map line_said all),
+          lines all,
+          map-append word_of words (flat_map (λ line. line) all),
+        )
 
 -- ---- Spelling
 
@@ -203,8 +164,8 @@ number_text true n = 45 ∷ decimal n
 -- how a word is spelled
 abbrev pub IsSpelled : Word → List ℕ → Type 0
 IsSpelled (words.Number n) run =
-    n.size ≤ 9223372036854775807
-    → (run ≡ number_text n.is_negative n.size) × (n.is_negative ≡ true → 1 ≤ n.size)
+    n.size ≤ 9223372036854775807 → (run ≡ number_text n.is_negative n.size)
+    × (n.is_negative ≡ true → 1 ≤ n.size)
 IsSpelled words.P run = run ≡ codes "p"
 IsSpelled words.Cnf run = run ≡ codes "cnf"
 IsSpelled words.D run = run ≡ codes "d"
@@ -218,11 +179,11 @@ IsSpelled words.Other run = Unit {0}
 -- digits without a leading zero
 counting_text : (ds : List ℕ) → is_counting ds ≡ true → size_of ds ≤ 9223372036854775807
     → (ds ≡ decimal (size_of ds)) × (1 ≤ size_of ds)
-counting_text [] h small = absurd (let bad : false ≡ true = h in cc)
+counting_text [] h small = absurd (cc)
 counting_text (d ∷ ds) h small =
     let first = both (is_digit d && not (d == 48)) (list_all is_digit ds) h in
     let parts = both (is_digit d) (not (d == 48)) first.0 in
-    let digits : AreAllDigits (d ∷ ds) = ap (λ v. v && list_all is_digit ds) parts.0 ∙ first.1 in
+    let digits : AreAllDigits (d ∷ ds) = cc in
     let other : d ≡ 48 → ⊥ = λ (e : d ≡ 48). zero_first d e parts.1 in
     let value : size_of (d ∷ ds) ≡ decimal_value (d ∷ ds) = omega arith in
     let text : decimal (decimal_value (d ∷ ds)) ≡ d ∷ ds =
@@ -232,32 +193,15 @@ counting_text (d ∷ ds) h small =
     (sym text', some (size_of (d ∷ ds)) text' other)
   where
     zero_first : (d : ℕ) → d ≡ 48 → not (d == 48) ≡ true → ⊥
-    zero_first d e k = let bad : not (48 == 48) ≡ true = subst (λ x. not (x == 48) ≡ true) e k in cc
+    zero_first d e k = cc
 
     some : (n : ℕ) → decimal n ≡ d ∷ ds → (d ≡ 48 → ⊥) → 1 ≤ n
-    some zero e other =
-        let bad : 48 ∷ [] ≡ d ∷ ds = sym (decimal_digit 0 (omega arith)) ∙ e in
-        absurd (other (let is : d ≡ 48 = cc in is))
+    some zero e other = grind (arith, decimal_digit)
     some (suc n) e other = omega arith
-
--- what a test finds, and else the rest
-found : (run : List ℕ) (test : Bool) (w rest : Word) → (test ≡ true → IsSpelled w run)
-    → IsSpelled rest run → IsSpelled (cond test w rest) run
-found run true w rest h r = h refl
-found run false w rest h r = r
 
 -- the fixed words
 fixed_spelled : (run : List ℕ) → IsSpelled (fixed_word run) run
-fixed_spelled run =
-    found run _ words.P _ (same (codes "p")) (found run _ words.Cnf _ (same (codes "cnf"))
-    (found run _ words.D _ (same (codes "d")) (found run _ words.S _ (same (codes "s"))
-    (found run _ words.V _ (same (codes "v"))
-    (found run _ words.Satisfiable _ (same (codes "SATISFIABLE"))
-    (found run _ words.Unsatisfiable _ (same (codes "UNSATISFIABLE"))
-    (found run _ words.Unknown words.Other (same (codes "UNKNOWN")) tt)))))))
-  where
-    same : (text : List ℕ) → bytes_eq run text ≡ true → run ≡ text
-    same text = (bytes_eq-Decides run text).0
+fixed_spelled run = search rules
 
 -- each word
 pub word_spelled : (run : List ℕ) → IsSpelled (word_of run) run
@@ -266,52 +210,48 @@ word_spelled run =
     (bytes_eq run (codes "0")) refl
   where
     zero_text : run ≡ codes "0" → (run ≡ decimal 0) × (false ≡ true → 1 ≤ 0)
-    zero_text e = (e ∙ sym (decimal_digit 0 (omega arith)), λ (bad : false ≡ true). cc)
+    zero_text e = grind (arith, decimal_digit)
 
     minus_text : (bs : List ℕ) → (has_minus bs && is_counting (drop 1 bs)) ≡ true
-        → size_of (drop 1 bs) ≤ 9223372036854775807
-        → (bs ≡ 45 ∷ decimal (size_of (drop 1 bs))) × (true ≡ true → 1 ≤ size_of (drop 1 bs))
-    minus_text [] h small = absurd (let bad : false ≡ true = h in cc)
+        → size_of (drop 1 bs) ≤ 9223372036854775807 → (bs ≡ 45 ∷ decimal (size_of (drop 1 bs)))
+        × (true ≡ true → 1 ≤ size_of (drop 1 bs))
+    minus_text [] h small = absurd (cc)
     minus_text (b ∷ bs) h small =
-        let k = both (b == 45) (is_counting bs) h in
-        let is : b ≡ 45 = grind (arith, nat_tests) in
-        let text = counting_text bs k.1 small in
-        (ap (λ x. x ∷ bs) is ∙ ap (λ t. 45 ∷ t) text.0, λ _. text.1)
+        let k = both (b == 45) (is_counting bs) h in grind (arith, counting_text bs k.1 small)
 
     or_number : (counting : Bool) → is_counting run ≡ counting → (minus : Bool)
-        → (has_minus run && is_counting (drop 1 run)) ≡ minus
-        → (nought : Bool) → bytes_eq run (codes "0") ≡ nought
+        → (has_minus run && is_counting (drop 1 run)) ≡ minus → (nought : Bool)
+        → bytes_eq run (codes "0") ≡ nought
         → IsSpelled (number_or (option_or (then_some counting (number false (size_of run)))
         (option_or (then_some minus (number true (size_of (drop 1 run))))
         (then_some nought (number false 0)))) (fixed_word run)) run
-    or_number true e minus m nought z = λ small.
-        let text = counting_text run e small in (text.0, λ (bad : false ≡ true). text.1)
+    or_number true e minus m nought z = grind (arith, counting_text)
     or_number false e true m nought z = λ small. minus_text run m small
     or_number false e false m true z = λ small. zero_text ((bytes_eq-Decides run (codes "0")).0 z)
     or_number false e false m false z = fixed_spelled run
 
 -- a number within the limit has one spelling
 pub number_spelled : (run : List ℕ) (is_negative : Bool) (n : ℕ) → n ≤ 9223372036854775807
-    → word_of run ≡ words.Number (number is_negative n)
-    → (run ≡ number_text is_negative n) × (is_negative ≡ true → 1 ≤ n)
-number_spelled run is_negative n small e = subst (λ w. IsSpelled w run) e (word_spelled run) small
+    → word_of run ≡ words.Number (number is_negative n) → (run ≡ number_text is_negative n)
+    × (is_negative ≡ true → 1 ≤ n)
+number_spelled run is_negative n small e = grind (arith, word_spelled run)
 
 -- and so do the fixed words
 pub p_spelled : (run : List ℕ) → word_of run ≡ words.P → run ≡ codes "p"
-p_spelled run e = subst (λ w. IsSpelled w run) e (word_spelled run)
+p_spelled run e = grind (arith, word_spelled run)
 
 pub cnf_spelled : (run : List ℕ) → word_of run ≡ words.Cnf → run ≡ codes "cnf"
-cnf_spelled run e = subst (λ w. IsSpelled w run) e (word_spelled run)
+cnf_spelled run e = grind (arith, word_spelled run)
 
 pub d_spelled : (run : List ℕ) → word_of run ≡ words.D → run ≡ codes "d"
-d_spelled run e = subst (λ w. IsSpelled w run) e (word_spelled run)
+d_spelled run e = grind (arith, word_spelled run)
 
 pub s_spelled : (run : List ℕ) → word_of run ≡ words.S → run ≡ codes "s"
-s_spelled run e = subst (λ w. IsSpelled w run) e (word_spelled run)
+s_spelled run e = grind (arith, word_spelled run)
 
 pub v_spelled : (run : List ℕ) → word_of run ≡ words.V → run ≡ codes "v"
-v_spelled run e = subst (λ w. IsSpelled w run) e (word_spelled run)
+v_spelled run e = grind (arith, word_spelled run)
 
 pub satisfiable_spelled : (run : List ℕ) → word_of run ≡ words.Satisfiable
     → run ≡ codes "SATISFIABLE"
-satisfiable_spelled run e = subst (λ w. IsSpelled w run) e (word_spelled run)
+satisfiable_spelled run e = grind (arith, word_spelled run)

@@ -1,16 +1,13 @@
 -- Where the tokens of a text end.
-use Rattle.std.proofs.Common.{◌≡◌, ℕ, ◌≤◌, Bool, true, false, List, [], ◌∷◌, ◌++◌, sym, subst}
-use Rattle.std.proofs.Common.{arith}
-use Rattle.std.specs.Prelude.{Result, Ok, Err}
+use Rattle.std.proofs.Common.{ℕ, ◌≤◌, Bool, true, false, List, [], ◌∷◌, ◌++◌, arith}
+use Rattle.std.specs.Prelude.{Result}
 use Rattle.std.specs.List.{slice_split}
 use Rattle.cnf_base.specs.Stream.{Suffix}
-use Rattle.cnf_base.specs.Text.{is_separator, Spot, one_on, next_line, along, Listed}
+use Rattle.cnf_base.specs.Text.{is_separator, Spot, one_on, next_line, along, Listed, words_of}
+use Rattle.cnf_base.specs.Text.{is_comment, line_tokens, last_tokens, Listing, lines_listing}
+use Rattle.cnf_base.specs.Text.{listing_at, Gives}
 use Rattle.cnf_base.specs.Code.Text.{listed}
-use Rattle.cnf_base.specs.Text.{words_of, but_last, is_comment, line_tokens, last_tokens}
-use Rattle.cnf_base.specs.Text.{with_front, Listing, lines_listing, lines_of, skips_at, listing_at}
-use Rattle.cnf_base.specs.Text.{Gives}
 use Rattle.cnf_base.specs.declared.input.Ending.{Ending}
-use Rattle.cnf_base.specs.declared.input.Ending.TheVariants.{End, Failed}
 use Rattle.cnf_base.specs.declared.input.ReadFailed.{ReadFailed}
 use Rattle.cnf_base.specs.declared.place.Place.{Place}
 use Rattle.cnf_base.specs.declared.token.Token as tokens
@@ -27,28 +24,34 @@ append-from n (t ∷ ts) us h k = (h.0, append-from n ts us h.1 k)
 
 along-later : (s : Spot) (bs : List ℕ) → s.offset ≤ (along s bs).offset
 along-later s [] = omega arith
-along-later s (b ∷ bs) = let further = along-later (one_on s) bs in omega (arith, further)
+along-later s (b ∷ bs) = omega (arith, along-later (one_on s) bs)
 
-words_of-from : (n : ℕ) (s : Spot) (parts : List (List ℕ)) → n ≤ s.offset → EndFrom n (words_of s parts)
+words_of-from : (n : ℕ) (s : Spot) (parts : List (List ℕ)) → n ≤ s.offset
+    → EndFrom n (words_of s parts)
 words_of-from n s [] h = tt
 words_of-from n s ([] ∷ parts) h = words_of-from n (one_on s) parts (omega (arith, h))
 words_of-from n s ((b ∷ bs) ∷ parts) h =
-    let past = along-later s (b ∷ bs) in
-    (omega (arith, past, h), words_of-from n (one_on (along s (b ∷ bs))) parts (omega (arith, past, h)))
+    let past = along-later s (b ∷ bs) in (
+      omega (arith, past, h),
+      words_of-from n (one_on (along s (b ∷ bs))) parts
+          (omega (arith, past, h)),
+    )
 
-line_tokens-from : (n : ℕ) (skips : Bool) (s : Spot) (line : List ℕ) → n ≤ s.offset → EndFrom n (line_tokens skips s line)
+line_tokens-from : (n : ℕ) (skips : Bool) (s : Spot) (line : List ℕ) → n ≤ s.offset
+    → EndFrom n (line_tokens skips s line)
 line_tokens-from n true s line h = tt
 line_tokens-from n false s line h =
     let past = along-later s line in
-    append-from n (words_of s (slice_split is_separator line)) (listed (token.LineEnd (along s line).place) (next_line (along s line)).offset ∷ [])
+    append-from n (words_of s (slice_split is_separator line))
+    (listed (token.LineEnd (along s line).place) (next_line (along s line)).offset ∷ [])
     (words_of-from n s (slice_split is_separator line) h) (omega (arith, past, h), tt)
 
-last_tokens-from : (n : ℕ) (skips : Bool) (s : Spot) (line : List ℕ) (ending : Ending) → n ≤ s.offset → EndFrom n (last_tokens skips s line ending)
-last_tokens-from n true s line ending h = tt
-last_tokens-from n false s line End h = words_of-from n s (slice_split is_separator line) h
-last_tokens-from n false s line Failed h = words_of-from n s (but_last (slice_split is_separator line)) h
+last_tokens-from : (n : ℕ) (skips : Bool) (s : Spot) (line : List ℕ) (ending : Ending)
+    → n ≤ s.offset → EndFrom n (last_tokens skips s line ending)
+last_tokens-from n skips s line ending h = grind (arith, words_of-from)
 
-lines_listing-from : (n : ℕ) (skips : Bool) (s : Spot) (lines : List (List ℕ)) (ending : Ending) → n ≤ s.offset → EndFrom n (lines_listing skips s lines ending).tokens
+lines_listing-from : (n : ℕ) (skips : Bool) (s : Spot) (lines : List (List ℕ)) (ending : Ending)
+    → n ≤ s.offset → EndFrom n (lines_listing skips s lines ending).tokens
 lines_listing-from n skips s [] ending h = tt
 lines_listing-from n skips s (line ∷ []) ending h = last_tokens-from n skips s line ending h
 lines_listing-from n skips s (line ∷ next ∷ lines) ending h =
@@ -58,22 +61,10 @@ lines_listing-from n skips s (line ∷ next ∷ lines) ending h =
 
 -- no token ends before the text begins
 pub listing_at-from : (p : Place) (i : Suffix) → EndFrom i.offset (listing_at p i).tokens
-listing_at-from p i =
-    lines_listing-from i.offset (skips_at p i.bytes) (record { place = p; offset = i.offset }) (lines_of i.bytes) i.ending (omega arith)
+listing_at-from p i = grind (arith, lines_listing-from)
 
 -- and none that was to come where the first of them was given
-pub Gives-from : (result : Result tokens.Token ReadFailed) (before : Listing) (p : Place) (rest : Suffix) → Gives result before (listing_at p rest) rest
+pub Gives-from : (result : Result tokens.Token ReadFailed) (before : Listing) (p : Place)
+    (rest : Suffix) → Gives result before (listing_at p rest) rest
     → EndFrom rest.offset before.tokens
-Gives-from result before p rest gives = by result gives
-  where
-    same : (l : Listing) → before ≡ l → EndFrom rest.offset l.tokens → EndFrom rest.offset before.tokens
-    same l is h = let P : Listing → Type 0 = λ x. EndFrom rest.offset x.tokens in subst P (sym is) h
-
-    first : (t : tokens.Token) → before ≡ with_front (listed t rest.offset ∷ []) (listing_at p rest) → EndFrom rest.offset before.tokens
-    first t is = same (with_front (listed t rest.offset ∷ []) (listing_at p rest)) is (omega arith, listing_at-from p rest)
-
-    by : (result : Result tokens.Token ReadFailed) → Gives result before (listing_at p rest) rest → EndFrom rest.offset before.tokens
-    by (Ok (token.Word q w)) gives = first (token.Word q w) gives
-    by (Ok (token.LineEnd q)) gives = first (token.LineEnd q) gives
-    by (Ok (token.End q)) gives = same (listing_at p rest) gives.0 (listing_at-from p rest)
-    by (Err failed) gives = same (listing_at p rest) gives.0 (listing_at-from p rest)
+Gives-from result before p rest gives = grind (arith, listing_at-from)

@@ -18,12 +18,12 @@ pub xor_one : (l : ℕ) → bit_xor l 1 ≡ complement l
 unfolding complement
 xor_one l =
     let sum = xor_add_and l 1 in
-    let low : bit_and l 1 ≡ l % 2 = and_mask l 1 in
-    grind (arith, nat_tests, sum, low)
+    let low : bit_and l 1 ≡ l % 2 = and_mask l 1 in grind (arith, nat_tests, sum, low)
 
 -- the complement of a literal is one
-pub complement_range : (l : ℕ) → 2 ≤ l → l < 536870912 → (2 ≤ complement l) × (complement l < 536870912)
+pub complement_range : (l : ℕ) → 2 ≤ l → l < 536870912 → (2 ≤ complement l)
+    × (complement l < 536870912)
 unfolding complement
-complement_range l low high = (grind (arith, nat_tests), grind (arith, nat_tests))
+complement_range l low high = grind arith
 
 pub ruleset xor_steps = (xor_one, complement_range)

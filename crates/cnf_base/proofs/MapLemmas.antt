@@ -1,7 +1,7 @@
 -- Finite maps by number: look-ups where one was changed, and sums over what one has.
-use Rattle.std.proofs.Common.{◌≡◌, ◌≢◌, ℕ, zero, suc, ◌+◌, ◌-◌, ◌*◌, ◌≤◌, Bool, true, false, cond, eqb}
-use Rattle.std.proofs.Common.{eq-eqb, ne_eqb, Option, Some, None, is_some, List, [], ◌∷◌, map, sum_by}
-use Rattle.std.proofs.Common.{length, refl, sym, ap, ◌∙◌, subst, arith, inl, inr, ◌⊎◌}
+use Rattle.std.proofs.Common.{◌≡◌, ◌≢◌, ℕ, zero, suc, ◌+◌, ◌-◌, ◌*◌, ◌≤◌, cond, eqb, eq-eqb, ne_eqb}
+use Rattle.std.proofs.Common.{Option, Some, None, List, [], ◌∷◌, map, sum_by, length, refl, sym, ap}
+use Rattle.std.proofs.Common.{◌∙◌, arith, ◌⊎◌, rules}
 use Rattle.std.specs.Ordering.{nat_cmp, is_eq}
 use Rattle.std.specs.Cmp.{nat_cmp_total, unsigned_tied}
 use Rattle.std.specs.declared.cmp.Ordering.{Ordering}
@@ -9,77 +9,76 @@ use Rattle.std.specs.declared.cmp.Ordering.TheVariants.{Less, Equal, Greater}
 use Rattle.std.specs.FinMap as maps
 use Rattle.std.specs.FinMap.{FinMap, put, find}
 use Rattle.std.specs.FinMap.Entries.{by_order}
-use Rattle.std.proofs.lemmas.Bool.{cases_eq}
 use Rattle.std.proofs.lemmas.List.Sums.{sum_by-cons}
-use Rattle.std.proofs.lemmas.Option.{none-some, same_Some}
+use Rattle.std.proofs.lemmas.Option.{none-some}
 use Rattle.cnf_base.specs.Maps.{sum_over}
 
 -- ---- Look-ups
 
 module _ {X : Type 0} where
-  pub get_insert : (m : FinMap nat_cmp X) (k : ℕ) (x : X) (q : ℕ) → maps.get (maps.insert m k x) q ≡ cond (eqb q k) (Some x) (maps.get m q)
-  get_insert m k x q = maps.get-insert nat_cmp_total m k x q ∙ ap (λ b. cond b (Some x) (maps.get m q)) (unsigned_tied q k)
+  pub get_insert : (m : FinMap nat_cmp X) (k : ℕ) (x : X) (q : ℕ)
+      → maps.get (maps.insert m k x) q ≡ cond (eqb q k) (Some x) (maps.get m q)
+  get_insert m k x q = cc (maps.get-insert nat_cmp_total m k x q, unsigned_tied q k)
 
-  pub get_remove : (m : FinMap nat_cmp X) (k q : ℕ) → maps.get (maps.remove m k) q ≡ cond (eqb q k) None (maps.get m q)
-  get_remove m k q = maps.get-remove nat_cmp_total m k q ∙ ap (λ b. cond b None (maps.get m q)) (unsigned_tied q k)
+  pub get_remove : (m : FinMap nat_cmp X) (k q : ℕ)
+      → maps.get (maps.remove m k) q ≡ cond (eqb q k) None (maps.get m q)
+  get_remove m k q = cc (maps.get-remove nat_cmp_total m k q, unsigned_tied q k)
 
   pub same_maps : (m n : FinMap nat_cmp X) → ((q : ℕ) → maps.get m q ≡ maps.get n q) → m ≡ n
   same_maps m n is = maps.same_map nat_cmp_total maps.nat_cmp-IsAntisymmetric m n is
 
-  pub insert_here : (m : FinMap nat_cmp X) (k s : ℕ) (c : X) → s ≡ k → maps.get (maps.insert m k c) s ≡ Some c
-  insert_here m k s c e = get_insert m k c s ∙ ap (λ b. cond b (Some c) (maps.get m s)) (eq-eqb s k e)
+  pub insert_here : (m : FinMap nat_cmp X) (k s : ℕ) (c : X) → s ≡ k
+      → maps.get (maps.insert m k c) s ≡ Some c
+  insert_here m k s c e = cc (get_insert m k c s, eq-eqb s k e)
 
-  pub insert_other : (m : FinMap nat_cmp X) (k s : ℕ) (c : X) → s ≢ k → maps.get (maps.insert m k c) s ≡ maps.get m s
-  insert_other m k s c ne = get_insert m k c s ∙ ap (λ b. cond b (Some c) (maps.get m s)) (ne_eqb s k ne)
+  pub insert_other : (m : FinMap nat_cmp X) (k s : ℕ) (c : X) → s ≢ k
+      → maps.get (maps.insert m k c) s ≡ maps.get m s
+  insert_other m k s c ne = cc (get_insert m k c s, ne_eqb s k ne)
 
   pub remove_here : (m : FinMap nat_cmp X) (k s : ℕ) → s ≡ k → maps.get (maps.remove m k) s ≡ None
-  remove_here m k s e = get_remove m k s ∙ ap (λ b. cond b None (maps.get m s)) (eq-eqb s k e)
+  remove_here m k s e = cc (get_remove m k s, eq-eqb s k e)
 
-  pub remove_other : (m : FinMap nat_cmp X) (k s : ℕ) → s ≢ k → maps.get (maps.remove m k) s ≡ maps.get m s
-  remove_other m k s ne = get_remove m k s ∙ ap (λ b. cond b None (maps.get m s)) (ne_eqb s k ne)
+  pub remove_other : (m : FinMap nat_cmp X) (k s : ℕ) → s ≢ k
+      → maps.get (maps.remove m k) s ≡ maps.get m s
+  remove_other m k s ne = cc (get_remove m k s, ne_eqb s k ne)
 
   -- a key that had nothing, and one that comes to have nothing again
-  pub inserted_is : (m n : FinMap nat_cmp X) (k : ℕ) (c : X) → maps.get n k ≡ Some c → ((s : ℕ) → s ≢ k → maps.get n s ≡ maps.get m s) → n ≡ maps.insert m k c
-  inserted_is m n k c here others = same_maps _ _ (λ s. elim (cases_eq s k) [
-    | inl e ↦ ap (maps.get n) e ∙ here ∙ sym (insert_here m k s c e)
-    | inr ne ↦ others s ne ∙ sym (insert_other m k s c ne)
-  ])
+  pub inserted_is : (m n : FinMap nat_cmp X) (k : ℕ) (c : X) → maps.get n k ≡ Some c
+      → ((s : ℕ) → s ≢ k → maps.get n s ≡ maps.get m s) → n ≡ maps.insert m k c
+  inserted_is m n k c here others = grind (arith, same_maps, insert_here, insert_other)
 
-  pub removed_back : (m n : FinMap nat_cmp X) (k : ℕ) → maps.get m k ≡ None → ((s : ℕ) → s ≢ k → maps.get n s ≡ maps.get m s) → maps.remove n k ≡ m
-  removed_back m n k free others = same_maps _ _ (λ s. elim (cases_eq s k) [
-    | inl e ↦ remove_here n k s e ∙ sym (ap (maps.get m) e ∙ free)
-    | inr ne ↦ remove_other n k s ne ∙ others s ne
-  ])
+  pub removed_back : (m n : FinMap nat_cmp X) (k : ℕ) → maps.get m k ≡ None
+      → ((s : ℕ) → s ≢ k → maps.get n s ≡ maps.get m s) → maps.remove n k ≡ m
+  removed_back m n k free others = grind (arith, same_maps, remove_here, remove_other)
 
-  pub after_insert : (m : FinMap nat_cmp X) (k : ℕ) (x : X) (s : ℕ) (c : X) → maps.get (maps.insert m k x) s ≡ Some c → (x ≡ c) ⊎ (maps.get m s ≡ Some c)
-  after_insert m k x s c is = by_test (eqb s k) (sym (get_insert m k x s) ∙ is)
-    where
-      by_test : (b : Bool) → cond b (Some x) (maps.get m s) ≡ Some c → (x ≡ c) ⊎ (maps.get m s ≡ Some c)
-      by_test true e = inl (same_Some x c e)
-      by_test false e = inr e
+  pub after_insert : (m : FinMap nat_cmp X) (k : ℕ) (x : X) (s : ℕ) (c : X)
+      → maps.get (maps.insert m k x) s ≡ Some c → (x ≡ c) ⊎ (maps.get m s ≡ Some c)
+  after_insert m k x s c is = grind (arith, get_insert)
 
-  pub after_remove : (m : FinMap nat_cmp X) (k s : ℕ) (c : X) → maps.get (maps.remove m k) s ≡ Some c → maps.get m s ≡ Some c
-  after_remove m k s c is = by_test (eqb s k) (sym (get_remove m k s) ∙ is)
-    where
-      by_test : (b : Bool) → cond b None (maps.get m s) ≡ Some c → maps.get m s ≡ Some c
-      by_test true e = absurd (none-some c e)
-      by_test false e = e
+  pub after_remove : (m : FinMap nat_cmp X) (k s : ℕ) (c : X)
+      → maps.get (maps.remove m k) s ≡ Some c → maps.get m s ≡ Some c
+  after_remove m k s c is = grind (arith, eqb, get_remove, cond, none-some)
 
-  pub len_with : (m : FinMap nat_cmp X) (k : ℕ) (c : X) → maps.get m k ≡ None → maps.len (maps.insert m k c) ≡ maps.len m + 1
-  len_with m k c free = maps.len-insert nat_cmp_total m k c ∙ ap (λ o. cond (is_some o) (maps.len m) (maps.len m + 1)) free
+  pub len_with : (m : FinMap nat_cmp X) (k : ℕ) (c : X) → maps.get m k ≡ None
+      → maps.len (maps.insert m k c) ≡ maps.len m + 1
+  len_with m k c free = cc (maps.len-insert nat_cmp_total m k c)
 
-  len_without : (m : FinMap nat_cmp X) (k : ℕ) (c : X) → maps.get m k ≡ Some c → maps.len (maps.remove m k) ≡ maps.len m - 1
-  len_without m k c here = maps.len-remove nat_cmp_total m k ∙ ap (λ o. cond (is_some o) (maps.len m - 1) (maps.len m)) here
+  len_without : (m : FinMap nat_cmp X) (k : ℕ) (c : X) → maps.get m k ≡ Some c
+      → maps.len (maps.remove m k) ≡ maps.len m - 1
+  len_without m k c here = cc (maps.len-remove nat_cmp_total m k)
 
   -- one in the place of another
-  insert_again : (m : FinMap nat_cmp X) (k : ℕ) (d : X) → maps.insert (maps.remove m k) k d ≡ maps.insert m k d
-  insert_again m k d = inserted_is m _ k d (insert_here (maps.remove m k) k k d refl) (λ s ne. insert_other (maps.remove m k) k s d ne ∙ remove_other m k s ne)
+  insert_again : (m : FinMap nat_cmp X) (k : ℕ) (d : X)
+      → maps.insert (maps.remove m k) k d ≡ maps.insert m k d
+  insert_again m k d = search (rules, inserted_is, insert_here, insert_other, remove_other)
 
-  pub insert_twice : (m : FinMap nat_cmp X) (k : ℕ) (c d : X) → maps.insert (maps.insert m k c) k d ≡ maps.insert m k d
-  insert_twice m k c d = inserted_is m _ k d (insert_here (maps.insert m k c) k k d refl) (λ s ne. insert_other (maps.insert m k c) k s d ne ∙ insert_other m k s c ne)
+  pub insert_twice : (m : FinMap nat_cmp X) (k : ℕ) (c d : X)
+      → maps.insert (maps.insert m k c) k d ≡ maps.insert m k d
+  insert_twice m k c d = search (rules, inserted_is, insert_here, insert_other)
 
   -- what is there already
-  pub insert_same : (m : FinMap nat_cmp X) (k : ℕ) (c : X) → maps.get m k ≡ Some c → maps.insert m k c ≡ m
+  pub insert_same : (m : FinMap nat_cmp X) (k : ℕ) (c : X) → maps.get m k ≡ Some c
+      → maps.insert m k c ≡ m
   insert_same m k c here = sym (inserted_is m m k c here (λ s ne. refl))
 
 -- ---- Sums
@@ -91,39 +90,42 @@ module _ {X : Type 0} (w : X → ℕ) where
   weight-cons : (e : ℕ × X) (es : List (ℕ × X)) → weight (e ∷ es) ≡ w e.1 + weight es
   weight-cons e es = sum_by-cons w e.1 (map (λ e. e.1) es)
 
-  weight_put : (k : ℕ) (c : X) (es : List (ℕ × X)) → find nat_cmp k es ≡ None → weight (put nat_cmp k c es) ≡ w c + weight es
+  weight_put : (k : ℕ) (c : X) (es : List (ℕ × X)) → find nat_cmp k es ≡ None
+      → weight (put nat_cmp k c es) ≡ w c + weight es
   weight_put k c [] none = weight-cons (k, c) []
   weight_put k c (e ∷ es) none = by_place (nat_cmp k e.0) none (weight_put k c es)
     where
-      by_place : (o : Ordering) → cond (is_eq o) (Some e.1) (find nat_cmp k es) ≡ None → (find nat_cmp k es ≡ None → weight (put nat_cmp k c es) ≡ w c + weight es) →
-          weight (by_order o ((k, c) ∷ e ∷ es) ((e.0, c) ∷ es) (e ∷ put nat_cmp k c es)) ≡ w c + weight (e ∷ es)
+      by_place : (o : Ordering) → cond (is_eq o) (Some e.1) (find nat_cmp k es) ≡ None
+          → (find nat_cmp k es ≡ None → weight (put nat_cmp k c es) ≡ w c + weight es)
+          → weight (by_order o ((k, c) ∷ e ∷ es) ((e.0, c) ∷ es) (e ∷ put nat_cmp k c es))
+          ≡ w c + weight (e ∷ es)
       by_place Less none rest = weight-cons (k, c) (e ∷ es)
       by_place Equal none rest = absurd (none-some e.1 (sym none))
-      by_place Greater none rest =
-          let h = rest none in
-          let first = weight-cons e (put nat_cmp k c es) in
-          let second = weight-cons e es in
-          omega arith
+      by_place Greater none rest = grind (arith, weight-cons)
 
   -- what comes to a new key adds its weight
-  pub sum_insert : (m : FinMap nat_cmp X) (k : ℕ) (c : X) → maps.get m k ≡ None → sum_over w (maps.insert m k c) ≡ w c + sum_over w m
+  pub sum_insert : (m : FinMap nat_cmp X) (k : ℕ) (c : X) → maps.get m k ≡ None
+      → sum_over w (maps.insert m k c) ≡ w c + sum_over w m
   sum_insert m k c none =
       ap weight (maps.entries-insert nat_cmp_total m k c)
       ∙ weight_put k c (maps.entries m) (sym (maps.get-entries m k) ∙ none)
 
   -- what is taken out takes its weight with it
-  pub sum_remove : (m : FinMap nat_cmp X) (k : ℕ) (c : X) → maps.get m k ≡ Some c → w c + sum_over w (maps.remove m k) ≡ sum_over w m
+  pub sum_remove : (m : FinMap nat_cmp X) (k : ℕ) (c : X) → maps.get m k ≡ Some c
+      → w c + sum_over w (maps.remove m k) ≡ sum_over w m
   sum_remove m k c here =
-      sym (sum_insert (maps.remove m k) k c (remove_here m k k refl))
-      ∙ ap (sum_over w) (sym (inserted_is (maps.remove m k) m k c here (λ s ne. sym (remove_other m k s ne))))
+      cc (
+        sum_insert (maps.remove m k) k c (remove_here m k k refl),
+        inserted_is (maps.remove m k) m k c here (λ s ne. sym (remove_other m k s ne)),
+      )
 
-  pub sum_replace : (m : FinMap nat_cmp X) (k : ℕ) (c d : X) → maps.get m k ≡ Some c → w d ≡ w c → sum_over w (maps.insert m k d) ≡ sum_over w m
+  pub sum_replace : (m : FinMap nat_cmp X) (k : ℕ) (c d : X) → maps.get m k ≡ Some c → w d ≡ w c
+      → sum_over w (maps.insert m k d) ≡ sum_over w m
   sum_replace m k c d here alike =
-      sym (ap (sum_over w) (insert_again m k d)) ∙ sum_insert (maps.remove m k) k d (get_remove m k k ∙ ap (λ b. cond b None (maps.get m k)) (eq-eqb k k refl))
-      ∙ ap (λ n. n + sum_over w (maps.remove m k)) alike ∙ sum_remove m k c here
+      cc (insert_again m k d, sum_insert (maps.remove m k) k d (get_remove m k k ∙ ap (λ b. cond b None (maps.get m k)) (eq-eqb k k refl)), sum_remove m k c here)
 
   pub sum_empty : sum_over w maps.empty ≡ 0
-  sum_empty = ap (λ es. sum_by w (map (λ e. e.1) es)) (no_entries (maps.entries maps.empty) (sym (maps.len-entries maps.empty) ∙ maps.len-empty nat_cmp X))
+  sum_empty = cc (no_entries (maps.entries maps.empty) (sym (maps.len-entries maps.empty) ∙ maps.len-empty nat_cmp X))
     where
       no_entries : (es : List (ℕ × X)) → length es ≡ 0 → es ≡ []
       no_entries [] e = refl
@@ -142,65 +144,50 @@ module _ {X Y : Type 0} (w : X → ℕ) (v : Y → ℕ) where
   IsLighter m k = (s : ℕ) (x : X) → maps.get m s ≡ Some x → w x ≤ weight_at v (maps.get k s)
 
   -- what is taken out, if anything is there
-  sum_without : (k : FinMap nat_cmp Y) (s : ℕ) → weight_at v (maps.get k s) + sum_over v (maps.remove k s) ≡ sum_over v k
-  sum_without k s = by_option (maps.get k s) refl
-    where
-      nothing_there : maps.get k s ≡ None → maps.remove k s ≡ k
-      nothing_there none = removed_back k k s none (λ q ne. refl)
+  sum_without : (k : FinMap nat_cmp Y) (s : ℕ)
+      → weight_at v (maps.get k s) + sum_over v (maps.remove k s) ≡ sum_over v k
+  sum_without k s = grind (arith, removed_back, sum_remove)
 
-      by_option : (o : Option Y) → maps.get k s ≡ o → weight_at v o + sum_over v (maps.remove k s) ≡ sum_over v k
-      by_option None is = let same = ap (sum_over v) (nothing_there is) in omega (arith, same)
-      by_option (Some y) is = sum_remove v k s y is
+  lighter_rest : (m : FinMap nat_cmp X) (k : FinMap nat_cmp Y) (t : ℕ) → IsLighter m k
+      → IsLighter (maps.remove m t) (maps.remove k t)
+  lighter_rest m k t each s x here = grind (arith, remove_here, remove_other)
 
-  lighter_rest : (m : FinMap nat_cmp X) (k : FinMap nat_cmp Y) (t : ℕ) → IsLighter m k → IsLighter (maps.remove m t) (maps.remove k t)
-  lighter_rest m k t each s x here = elim (cases_eq s t) [
-    | inl e ↦ absurd (none-some x (sym (remove_here m t s e) ∙ here))
-    | inr ne ↦ subst (λ o. w x ≤ weight_at v o) (sym (remove_other k t s ne)) (each s x (sym (remove_other m t s ne) ∙ here))
-  ]
-
-  sum_lighter_of : (n : ℕ) (m : FinMap nat_cmp X) (k : FinMap nat_cmp Y) → maps.len m ≡ n → IsLighter m k → sum_over w m ≤ sum_over v k
-  sum_lighter_of zero m k none each =
-      let nothing : sum_over w m ≡ 0 = ap (sum_over w) (maps.empty_of_len m none) ∙ sum_empty w in
-      omega arith
+  sum_lighter_of : (n : ℕ) (m : FinMap nat_cmp X) (k : FinMap nat_cmp Y) → maps.len m ≡ n
+      → IsLighter m k → sum_over w m ≤ sum_over v k
+  sum_lighter_of zero m k none each = grind (arith, maps.empty_of_len m none, sum_empty w)
   sum_lighter_of (suc n) m k long each = by_first (maps.entries m) refl (sum_lighter_of n)
     where
-      by_first : (es : List (ℕ × X)) → maps.entries m ≡ es →
-          ((r : FinMap nat_cmp X) (q : FinMap nat_cmp Y) → maps.len r ≡ n → IsLighter r q → sum_over w r ≤ sum_over v q) → sum_over w m ≤ sum_over v k
-      by_first [] is fewer = absurd (let wrong : ⊥ = omega (arith, maps.len-entries m, ap length is) in wrong)
+      by_first : (es : List (ℕ × X)) → maps.entries m ≡ es
+          → ((r : FinMap nat_cmp X) (q : FinMap nat_cmp Y) → maps.len r ≡ n → IsLighter r q
+          → sum_over w r ≤ sum_over v q) → sum_over w m ≤ sum_over v k
+      by_first [] is fewer = grind arith
       by_first (e ∷ es) is fewer =
           let here : maps.get m e.0 ≡ Some e.1 =
-          maps.get-entries m e.0 ∙ ap (find nat_cmp e.0) is ∙ ap (λ b. cond b (Some e.1) (find nat_cmp e.0 es)) (unsigned_tied e.0 e.0 ∙ eq-eqb e.0 e.0 refl) in
+          cc (maps.get-entries m e.0, unsigned_tied e.0 e.0, eq-eqb e.0 e.0 refl) in
           let one_less = len_without m e.0 e.1 here in
-          let rest = fewer (maps.remove m e.0) (maps.remove k e.0) (omega arith) (lighter_rest m k e.0 each) in
-          let first = each e.0 e.1 here in
-          let by_w = sum_remove w m e.0 e.1 here in
-          let by_v = sum_without k e.0 in
-          omega arith
+          omega (arith, fewer (maps.remove m e.0) (maps.remove k e.0) (omega arith) (lighter_rest m k e.0 each), each e.0 e.1 here, sum_remove w m e.0 e.1 here, sum_without k e.0)
 
-  pub sum_lighter : (m : FinMap nat_cmp X) (k : FinMap nat_cmp Y) → IsLighter m k → sum_over w m ≤ sum_over v k
+  pub sum_lighter : (m : FinMap nat_cmp X) (k : FinMap nat_cmp Y) → IsLighter m k
+      → sum_over w m ≤ sum_over v k
   sum_lighter m k each = sum_lighter_of (maps.len m) m k refl each
 
 -- ---- Sums by two weights
 
 module _ {X : Type 0} where
-  sum_le : (w v : X → ℕ) (m : FinMap nat_cmp X) → ((s : ℕ) (x : X) → maps.get m s ≡ Some x → w x ≤ v x) → sum_over w m ≤ sum_over v m
-  sum_le w v m each = sum_lighter w v m m (λ s x here. subst (λ o. w x ≤ weight_at v o) (sym here) (each s x here))
+  sum_le : (w v : X → ℕ) (m : FinMap nat_cmp X)
+      → ((s : ℕ) (x : X) → maps.get m s ≡ Some x → w x ≤ v x) → sum_over w m ≤ sum_over v m
+  sum_le w v m each = grind (arith, sum_lighter)
 
-  pub sum_alike : (w v : X → ℕ) (m : FinMap nat_cmp X) → ((s : ℕ) (x : X) → maps.get m s ≡ Some x → w x ≡ v x) → sum_over w m ≡ sum_over v m
-  sum_alike w v m each =
-      let up = sum_le w v m (λ s x is. let e = each s x is in omega arith) in
-      let down = sum_le v w m (λ s x is. let e = each s x is in omega arith) in
-      omega arith
+  pub sum_alike : (w v : X → ℕ) (m : FinMap nat_cmp X)
+      → ((s : ℕ) (x : X) → maps.get m s ≡ Some x → w x ≡ v x) → sum_over w m ≡ sum_over v m
+  sum_alike w v m each = grind (arith, sum_le)
 
-  pub sum_bound : (w : X → ℕ) (most : ℕ) (m : FinMap nat_cmp X) → ((s : ℕ) (x : X) → maps.get m s ≡ Some x → w x ≤ most) → sum_over w m ≤ most * maps.len m
+  pub sum_bound : (w : X → ℕ) (most : ℕ) (m : FinMap nat_cmp X)
+      → ((s : ℕ) (x : X) → maps.get m s ≡ Some x → w x ≤ most) → sum_over w m ≤ most * maps.len m
   sum_bound w most m each =
-      let up = sum_le w (λ x. most) m each in
-      let all = all_most (maps.entries m) in
-      subst (λ n. sum_over w m ≤ most * n) (sym (maps.len-entries m)) (omega arith)
+      grind (arith, sum_le w (λ x. most) m each, all_most (maps.entries m), maps.len-entries m)
     where
       all_most : (es : List (ℕ × X)) → sum_by (λ x. most) (map (λ e. e.1) es) ≡ most * length es
       all_most [] = omega arith
       all_most (e ∷ es) =
-          let step = sum_by-cons (λ (x : X). most) e.1 (map (λ e. e.1) es) in
-          let rest = all_most es in
-          omega arith
+          omega (arith, sum_by-cons (λ (x : X). most) e.1 (map (λ e. e.1) es), all_most es)

@@ -1,38 +1,30 @@
 -- Texts that were printed plainly, as they are read.
 use Rattle.std.proofs.Common.{◌≡◌, ℕ, zero, suc, ◌+◌, ◌-◌, ◌*◌, ◌%◌, ◌^◌, ◌<◌, ◌≤◌, ◌==◌, ◌&&◌}
 use Rattle.std.proofs.Common.{nat_le, cond, not, Bool, true, false, List, [], ◌∷◌, ◌++◌, length}
-use Rattle.std.proofs.Common.{fold, get_or, Option, Some, refl, sym, ap, ◌∙◌, append_assoc}
-use Rattle.std.proofs.Common.{append-nil, length-append, arith}
+use Rattle.std.proofs.Common.{fold, get_or, Option, Some, refl, ap, ◌∙◌, append_assoc, append-nil}
+use Rattle.std.proofs.Common.{length-append, arith}
 use Rattle.std.specs.Prelude.{codes}
 use Rattle.std.specs.Fmt.{decimal}
 use Rattle.std.specs.List.{list_all, join_with_byte}
 use Rattle.std.proofs.lemmas.Bool.Decides.{nat_tests}
-use Rattle.std.specs.Bool.{then_some}
-use Rattle.std.specs.Int.{IsInRange}
 use Rattle.std.proofs.lemmas.Fmt.{decimal_digit, decimal_nonempty, first_decimal, digits_decimal}
 use Rattle.std.proofs.lemmas.Fmt.{digits_value-decimal}
 use Rattle.std.proofs.lemmas.Str.Parse.{IsDigitsTest, IsNumeralModel, numerals_by_fold}
 use Rattle.cnf_base.specs.Literals.{Literal, variable}
 use Rattle.cnf_base.specs.Printing.{words_line, is_literal, literal_text}
 use Rattle.cnf_base.specs.Stream.{suffix}
-use Rattle.cnf_base.specs.Text.{is_separator, is_comment, with_front}
-use Rattle.cnf_base.specs.Code.Text.{col_after, line_after, listed}
-use Rattle.cnf_base.specs.Text.{Listing, listing_at}
-use Rattle.cnf_base.specs.Code.Text.{col_along}
-use Rattle.cnf_base.specs.Words.{is_digit, is_counting, size_of, number}
+use Rattle.cnf_base.specs.Text.{is_separator, is_comment, with_front, Listing, listing_at}
+use Rattle.cnf_base.specs.Code.Text.{col_after, line_after, listed, col_along}
+use Rattle.cnf_base.specs.Words.{is_digit, is_counting, size_of, number, number_literal, word_of}
 use Rattle.cnf_base.specs.Code.Digits.{decimal_value}
-use Rattle.cnf_base.specs.Words.{number_literal, word_of}
 use Rattle.cnf_base.specs.declared.input.Ending.TheVariants.{End}
 use Rattle.cnf_base.specs.declared.place.Place.{Place}
 use Rattle.cnf_base.specs.declared.word.Number.{Number}
 use Rattle.cnf_base.specs.declared.word.Word.TheVariants as words
 use Rattle.cnf_base.specs.declared.token.Token as tokens
 use Rattle.cnf_base.specs.declared.token.Token.TheVariants as token
-use Rattle.cnf_base.proofs.TextLemmas.{Each, none, more, IsRun, inner_skips, and_false}
-use Rattle.cnf_base.proofs.TextLemmas.{listing_at-separator, listing_at-feed, listing_at-run}
-use Rattle.cnf_base.specs.declared.scanner.digits.Digits.TheVariants.{Counting}
-use Rattle.cnf_base.specs.Code.Digits.{negative, positive}
-use Rattle.cnf_base.proofs.WordLemmas.{Spells-word}
+use Rattle.cnf_base.proofs.TextLemmas.{Each, none, more, IsRun, listing_at-separator}
+use Rattle.cnf_base.proofs.TextLemmas.{listing_at-feed, listing_at-run}
 
 -- ---- Lines of words
 
@@ -50,23 +42,30 @@ pub words_line-cons : (w : List ℕ) (ws : List (List ℕ)) (rest : List ℕ)
     → words_line (w ∷ ws) ++ rest ≡ w ++ after_word ws rest
 words_line-cons w [] rest = append_assoc w (10 ∷ []) rest
 words_line-cons w (v ∷ vs) rest =
-    ap (λ t. t ++ rest) (append_assoc w (32 ∷ join_with_byte 32 (v ∷ vs)) (10 ∷ []))
-    ∙ append_assoc w (32 ∷ words_line (v ∷ vs)) rest
-    ∙ ap (λ t. w ++ 32 ∷ t) (words_line-cons v vs rest)
+    cc (
+      append_assoc w (32 ∷ join_with_byte 32 (v ∷ vs)) (10 ∷ []),
+      append_assoc w (32 ∷ words_line (v ∷ vs)) rest,
+      words_line-cons v vs rest,
+    )
 
 -- the offset of the byte after a line of which these words are left
 abbrev pub end_of_line : ℕ → List (List ℕ) → ℕ
 end_of_line n ws = n + length (after_word ws [])
 
 -- it stays while words are taken
-pub end_of_line-next : (n : ℕ) (w : List ℕ) (ws : List (List ℕ)) → end_of_line (suc n + length w) ws ≡ end_of_line n (w ∷ ws)
-end_of_line-next n w ws = omega (arith, length-append w (after_word ws []))
+pub end_of_line-next : (n : ℕ) (w : List ℕ) (ws : List (List ℕ))
+    → end_of_line (suc n + length w) ws ≡ end_of_line n (w ∷ ws)
+end_of_line-next n w ws = grind (arith, length-append)
 
-pub end_of_line-first : (n : ℕ) (w : List ℕ) (ws : List (List ℕ)) → end_of_line (n + length w) ws ≡ n + length (words_line (w ∷ ws))
+pub end_of_line-first : (n : ℕ) (w : List ℕ) (ws : List (List ℕ))
+    → end_of_line (n + length w) ws ≡ n + length (words_line (w ∷ ws))
 end_of_line-first n w ws =
-    let all : length (words_line (w ∷ ws)) ≡ length (w ++ after_word ws []) =
-    ap length (sym (append-nil (words_line (w ∷ ws))) ∙ words_line-cons w ws []) in
-    omega (arith, all, length-append w (after_word ws []))
+    grind (
+      arith,
+      append-nil (words_line (w ∷ ws)),
+      words_line-cons w ws [],
+      length-append w (after_word ws []),
+    )
 
 -- a word that is a token
 pub record IsPlain (w : List ℕ) : Type 0 where
@@ -98,36 +97,29 @@ run_first : (p : Place) (n : ℕ) (w : List ℕ) (ws : List (List ℕ)) (rest : 
     ≡ with_front (listed (token.Word p (word_of w)) (n + length w) ∷ [])
     (line_from (col_along p w) (n + length w) ws rest)
 run_first p n w [] rest r = listing_at-run p n w 10 rest End r refl
-run_first p n w (v ∷ vs) rest r = listing_at-run p n w 32 (v ++ after_word vs rest) End r refl
+run_first p n w (v ∷ vs) rest r = grind (arith, listing_at-run)
 
 -- a line's next word
-pub next_word : (p : Place) (n : ℕ) (w : List ℕ) (ws : List (List ℕ)) (rest : List ℕ) → 0 < p.col → IsPlain w
-    → Begins (line_from p n (w ∷ ws) rest) (token.Word (col_after p) (word_of w)) (suc n + length w)
-    (line_from (past p w) (suc n + length w) ws rest)
+pub next_word : (p : Place) (n : ℕ) (w : List ℕ) (ws : List (List ℕ)) (rest : List ℕ) → 0 < p.col
+    → IsPlain w → Begins (line_from p n (w ∷ ws) rest) (token.Word (col_after p) (word_of w))
+    (suc n + length w) (line_from (past p w) (suc n + length w) ws rest)
 next_word p n w ws rest from_one plain = record {
   is = listing_at-separator p n 32 (w ++ after_word ws rest) End from_one refl refl
-      ∙ run_first (col_after p) (suc n) w ws rest
-      (record { each = plain.each; some = plain.some; text = inner_skips p w from_one });
+      ∙ run_first (col_after p) (suc n) w ws rest (grind arith);
 }
 
 -- a line's end
 pub next_line : (p : Place) (n : ℕ) (rest : List ℕ)
-    → Begins (line_from p n [] rest) (token.LineEnd p) (suc n) (listing_at (line_after p) (suffix (suc n) rest End))
+    → Begins (line_from p n [] rest) (token.LineEnd p) (suc n)
+    (listing_at (line_after p) (suffix (suc n) rest End))
 next_line p n rest = record { is = listing_at-feed p n rest End }
 
 -- a line's first word, which begins no comment
-pub first_word : (p : Place) (n : ℕ) (w : List ℕ) (ws : List (List ℕ)) (rest : List ℕ) → is_comment w ≡ false → IsPlain w
-    → Begins (listing_at p (suffix n (words_line (w ∷ ws) ++ rest) End))
-    (token.Word p (word_of w)) (n + length w)
-    (line_from (col_along p w) (n + length w) ws rest)
-first_word p n w ws rest no_comment plain = record {
-  is = ap (λ t. listing_at p (suffix n t End)) (words_line-cons w ws rest)
-      ∙ run_first p n w ws rest (record {
-        each = plain.each;
-        some = plain.some;
-        text = ap (λ v. (p.col == 1) && v) no_comment ∙ and_false (p.col == 1);
-      });
-}
+pub first_word : (p : Place) (n : ℕ) (w : List ℕ) (ws : List (List ℕ)) (rest : List ℕ)
+    → is_comment w ≡ false → IsPlain w
+    → Begins (listing_at p (suffix n (words_line (w ∷ ws) ++ rest) End)) (token.Word p (word_of w))
+    (n + length w) (line_from (col_along p w) (n + length w) ws rest)
+first_word p n w ws rest no_comment plain = grind (arith, words_line-cons, run_first)
 
 -- ---- Words
 
@@ -138,17 +130,17 @@ each_from p (b ∷ bs) h = by (p b) refl h (each_from p bs)
   where
     by : (v : Bool) → p b ≡ v → (not v && list_all (λ b. not (p b)) bs) ≡ true
         → (list_all (λ b. not (p b)) bs ≡ true → Each p bs) → Each p (b ∷ bs)
-    by true e k later = absurd (let bad : false ≡ true = k in cc)
+    by true e k later = absurd (cc)
     by false e k later = more b bs e (later k)
 
 -- a fixed word
-pub fixed_plain : (b : ℕ) (bs : List ℕ) → list_all (λ b. not (is_separator b)) (b ∷ bs) ≡ true → IsPlain (b ∷ bs)
-fixed_plain b bs h = record { each = each_from is_separator (b ∷ bs) h; some = omega arith }
+pub fixed_plain : (b : ℕ) (bs : List ℕ) → list_all (λ b. not (is_separator b)) (b ∷ bs) ≡ true
+    → IsPlain (b ∷ bs)
+fixed_plain b bs h = grind (arith, each_from)
 
 -- both of two tests
 pub both : (a b : Bool) → (a && b) ≡ true → (a ≡ true) × (b ≡ true)
-both true b h = (refl, h)
-both false b h = absurd (let bad : false ≡ true = h in cc)
+both a b h = grind arith
 
 -- digits
 abbrev pub AreAllDigits : List ℕ → Type 0
@@ -159,17 +151,7 @@ first_digit d ds h = both (is_digit d) (list_all is_digit ds) h
 
 -- our words for them mean what those of the library do
 digits_test : IsDigitsTest AreAllDigits
-digits_test = record {
-  empty = refl;
-  parts = λ d ds h. (range d (first_digit d ds h).0, (first_digit d ds h).1);
-  more = λ d ds k h. ap (λ v. v && list_all is_digit ds) (in_range d k) ∙ h;
-}
-  where
-    range : (d : ℕ) → is_digit d ≡ true → IsInRange 48 57 d
-    range d h = grind (arith, nat_tests)
-
-    in_range : (d : ℕ) → IsInRange 48 57 d → is_digit d ≡ true
-    in_range d k = grind (arith, nat_tests)
+digits_test = grind arith
 
 pub numerals : IsNumeralModel AreAllDigits decimal_value
 numerals = numerals_by_fold AreAllDigits digits_test (fold (λ n d. n * 10 + (d - 48)))
@@ -178,60 +160,43 @@ numerals = numerals_by_fold AreAllDigits digits_test (fold (λ n d. n * 10 + (d 
 -- the digits of a number other than 0
 module _ (n : ℕ) (some : 0 < n) (small : n < 2 ^ 64) where
   decimal_size : n ≡ size_of (decimal n)
-  decimal_size = let value : decimal_value (decimal n) ≡ n = digits_value-decimal numerals n small in omega arith
+  decimal_size = grind (arith, digits_value-decimal, numerals)
 
   decimal_counting : is_counting (decimal n) ≡ true
   decimal_counting =
-      by (decimal n) (decimal_nonempty n small) (first_decimal n some small) (digits_decimal numerals n small)
+      by (decimal n) (decimal_nonempty n small) (first_decimal n some small)
+      (digits_decimal numerals n small)
     where
-      by : (ds : List ℕ) → 0 < length ds → 48 < get_or ds 0 0 → AreAllDigits ds → is_counting ds ≡ true
+      by : (ds : List ℕ) → 0 < length ds → 48 < get_or ds 0 0 → AreAllDigits ds
+          → is_counting ds ≡ true
       by [] l f h = absurd (omega arith)
-      by (d ∷ ds) l f h =
-          let k = first_digit d ds h in
-          let other : (d == 48) ≡ false = grind (arith, nat_tests) in
-          ap (λ v. v && not (d == 48) && list_all is_digit ds) k.0
-          ∙ ap (λ v. true && not v && list_all is_digit ds) other ∙ k.1
+      by (d ∷ ds) l f h = grind arith
 
 digit_inner : (b : ℕ) → is_digit b ≡ true → is_separator b ≡ false
 digit_inner b h = grind (arith, nat_tests)
 
 digits_each : (ds : List ℕ) → AreAllDigits ds → Each is_separator ds
 digits_each [] h = none
-digits_each (d ∷ ds) h = let k = first_digit d ds h in more d ds (digit_inner d k.0) (digits_each ds k.1)
+digits_each (d ∷ ds) h =
+    let k = first_digit d ds h in more d ds (digit_inner d k.0) (digits_each ds k.1)
 
 -- a number's text is a token, after a `-` too, and begins no comment
 pub decimal_plain : (n : ℕ) → n < 2 ^ 64 → IsPlain (decimal n)
-decimal_plain n small = record {
-  each = digits_each (decimal n) (digits_decimal numerals n small);
-  some = decimal_nonempty n small;
-}
+decimal_plain n small = grind (arith, digits_each, digits_decimal, numerals, decimal_nonempty)
 
 pub minus_plain : (n : ℕ) → n < 2 ^ 64 → IsPlain (45 ∷ decimal n)
-minus_plain n small = record { each = more 45 (decimal n) refl (decimal_plain n small).each; some = omega arith }
+minus_plain n small = grind (arith, more, decimal_plain)
 
 pub decimal_no_comment : (n : ℕ) → n < 2 ^ 64 → is_comment (decimal n) ≡ false
-decimal_no_comment n small = by (decimal n) (digits_decimal numerals n small)
-  where
-    by : (ds : List ℕ) → AreAllDigits ds → is_comment ds ≡ false
-    by [] h = refl
-    by (d ∷ ds) h = let k = (first_digit d ds h).0 in grind (arith, nat_tests)
+decimal_no_comment n small = grind (arith, digits_decimal, numerals)
 
 -- the word of a number other than 0, and after a `-`
 module _ (n : ℕ) (some : 0 < n) (small : n < 2 ^ 64) where
   pub decimal_word : word_of (decimal n) ≡ words.Number (number false n)
-  decimal_word =
-      by (decimal n) (digits_decimal numerals n small) (decimal_counting n some small) (decimal_size n some small)
-    where
-      by : (ds : List ℕ) → AreAllDigits ds → is_counting ds ≡ true → n ≡ size_of ds
-          → word_of ds ≡ words.Number (number false n)
-      by [] h counting size = absurd (let bad : false ≡ true = counting in cc)
-      by (d ∷ ds) h counting size =
-          sym (Spells-word false (Counting n) (d ∷ ds)
-          (positive (Counting n) d ds (first_digit d ds h).0 (counting, size)))
+  decimal_word = grind (arith, decimal_counting, decimal_size)
 
   pub minus_word : word_of (45 ∷ decimal n) ≡ words.Number (number true n)
-  minus_word = sym (Spells-word true (Counting n) (45 ∷ decimal n)
-      (negative (Counting n) (decimal n) (decimal_counting n some small, decimal_size n some small)))
+  minus_word = grind (arith, decimal_counting, decimal_size)
 
 -- the word of a number, also of 0
 pub count_word : (n : ℕ) → n < 2 ^ 64 → word_of (decimal n) ≡ words.Number (number false n)
@@ -248,7 +213,8 @@ zero_plain = fixed_plain 48 [] refl
 abbrev pub literal_number : Literal → Number
 literal_number l = number (not (l % 2 == 0)) (variable l)
 
-pub literal_range : (greatest l : ℕ) → is_literal greatest l ≡ true → (1 ≤ variable l) × (variable l ≤ greatest)
+pub literal_range : (greatest l : ℕ) → is_literal greatest l ≡ true → (1 ≤ variable l)
+    × (variable l ≤ greatest)
 literal_range greatest l h = grind (arith, nat_tests)
 
 -- a number, or one after a `-`
@@ -257,25 +223,15 @@ signed_text is_positive n = cond is_positive (decimal n) (45 ∷ decimal n)
 
 signed_word : (is_positive : Bool) (n : ℕ) → 1 ≤ n → n ≤ 268435455
     → word_of (signed_text is_positive n) ≡ words.Number (number (not is_positive) n)
-signed_word true n low high = decimal_word n low (omega arith)
-signed_word false n low high = minus_word n low (omega arith)
+signed_word is_positive n low high = grind (arith, decimal_word, low, minus_word)
 
 signed_plain : (is_positive : Bool) (n : ℕ) → n ≤ 268435455 → IsPlain (signed_text is_positive n)
 signed_plain true n high = decimal_plain n (omega arith)
 signed_plain false n high = minus_plain n (omega arith)
 
-signed_no_comment : (is_positive : Bool) (n : ℕ) → n ≤ 268435455 → is_comment (signed_text is_positive n) ≡ false
-signed_no_comment true n high = decimal_no_comment n (omega arith)
-signed_no_comment false n high = refl
-
--- a literal's number is its own
-signed_literal : (is_positive : Bool) (l : ℕ) → (l % 2 == 0) ≡ is_positive
-    → cond (not is_positive) (2 * variable l + 1) (2 * variable l) ≡ l
-signed_literal true l e = let even : l % 2 ≡ 0 = grind (arith, nat_tests) in omega arith
-signed_literal false l e = let odd : l % 2 ≡ 1 = grind (arith, nat_tests) in omega arith
-
-within_limit : (n : ℕ) → 1 ≤ n → n ≤ 268435455 → (nat_le 1 n ≡ true) × (nat_le n 268435455 ≡ true)
-within_limit n low high = (grind (arith, nat_tests), grind (arith, nat_tests))
+signed_no_comment : (is_positive : Bool) (n : ℕ) → n ≤ 268435455
+    → is_comment (signed_text is_positive n) ≡ false
+signed_no_comment is_positive n high = grind (arith, decimal_no_comment)
 
 -- a literal within the limit: its word, that its text is a token and begins no comment, and what it is taken for
 module _ (greatest l : ℕ) (within : greatest ≤ 268435455) (is : is_literal greatest l ≡ true) where
@@ -294,15 +250,7 @@ module _ (greatest l : ℕ) (within : greatest ≤ 268435455) (is : is_literal g
   pub literal_no_comment : is_comment (literal_text l) ≡ false
   literal_no_comment = signed_no_comment (l % 2 == 0) (variable l) high
 
-  literal_number_literal : number_literal (literal_number l) ≡ Some l
-  literal_number_literal =
-      let code : ℕ = cond (not (l % 2 == 0)) (2 * variable l + 1) (2 * variable l) in
-      ap (λ v. then_some (v && nat_le (variable l) 268435455) code) (within_limit (variable l) low high).0
-      ∙ ap (λ v. then_some (true && v) code) (within_limit (variable l) low high).1
-      ∙ ap Some (signed_literal (l % 2 == 0) l refl)
-
   pub literal_taken : {X : Type 0} (take : Option Literal → X) (other : X)
-      → cond (nat_le (variable l) 268435455) (take (number_literal (literal_number l))) other ≡ take (Some l)
-  literal_taken {X} take other =
-      ap (λ v. cond v (take (number_literal (literal_number l))) other) (within_limit (variable l) low high).1
-      ∙ ap take literal_number_literal
+      → cond (nat_le (variable l) 268435455) (take (number_literal (literal_number l))) other
+      ≡ take (Some l)
+  literal_taken {X} take other = grind arith

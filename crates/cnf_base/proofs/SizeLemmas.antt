@@ -1,7 +1,7 @@
 -- Clauses as sets: what is summed over their different literals, and clauses that repeat nothing.
-use Rattle.std.proofs.Common.{◌≡◌, ℕ, ◌+◌, ◌<◌, ◌≤◌, Bool, true, false, not}
-use Rattle.std.proofs.Common.{cond, eqb, eqb-true, [], ◌∷◌, ◌++◌, length, take, get_or}
-use Rattle.std.proofs.Common.{zero, suc, refl, sym, ap, ◌∙◌, subst, arith, inl, inr}
+use Rattle.std.proofs.Common.{◌≡◌, ℕ, ◌+◌, ◌<◌, ◌≤◌, Bool, true, false, not, cond, eqb, eqb-true}
+use Rattle.std.proofs.Common.{[], ◌∷◌, ◌++◌, length, take, get_or, zero, suc, refl, sym, ap, ◌∙◌}
+use Rattle.std.proofs.Common.{subst, arith, inl, inr}
 use Rattle.std.proofs.lemmas.Bool.{false≢true, true≢false, cases_Bool, eqb-false}
 use Rattle.std.proofs.lemmas.Bool.{false_from_ne_true}
 use Rattle.cnf_base.specs.Literals.{Literal, Clause, has, without, size}
@@ -26,7 +26,8 @@ without_absent (k ∷ d) l h = elim (cases_Bool (eqb k l)) [
 
 module _ (f : Literal → ℕ) where
   -- without a literal that it has, a clause weighs less by that literal
-  pub sum_without : (d : Clause) (l : Literal) → has d l ≡ true → sum_distinct f d ≡ f l + sum_distinct f (without d l)
+  pub sum_without : (d : Clause) (l : Literal) → has d l ≡ true
+      → sum_distinct f d ≡ f l + sum_distinct f (without d l)
   sum_without [] l h = absurd (false≢true h)
   sum_without (k ∷ d) l h = elim (cases_Bool (eqb k l)) [
     | inl e ↦
@@ -65,22 +66,14 @@ module _ (f : Literal → ℕ) where
   ]
 
   pub sum_same : (c d : Clause) → IsWithin c d → IsWithin d c → sum_distinct f c ≡ sum_distinct f d
-  sum_same c d there back =
-      let below = sum_covered c d there in
-      let above = sum_covered d c back in
-      omega arith
+  sum_same c d there back = grind (arith, sum_covered)
 
   -- one more literal at the end
-  pub sum_push : (c : Clause) (l : Literal) → sum_distinct f (c ++ l ∷ []) ≡ cond (has c l) (sum_distinct f c) (f l + sum_distinct f c)
-  sum_push c l = sum_same (c ++ l ∷ []) (l ∷ c)
-      (λ k h. elim (has_append_cases c (l ∷ []) k h) [
-        | inl g ↦ has_tail l c k g
-        | inr g ↦ elim (has_cases l [] k g) [ inl e ↦ subst (λ x. has (l ∷ c) x ≡ true) e (has_head l c) | inr n ↦ absurd (false≢true n) ]
-      ])
-      (λ k h. elim (has_cases l c k h) [
-        | inl e ↦ has_append_right c (l ∷ []) k (subst (λ x. has (l ∷ []) x ≡ true) e (has_head l []))
-        | inr g ↦ has_append_left c (l ∷ []) k g
-      ])
+  pub sum_push : (c : Clause) (l : Literal)
+      → sum_distinct f (c ++ l ∷ []) ≡ cond (has c l) (sum_distinct f c) (f l + sum_distinct f c)
+  sum_push c l =
+      sum_same (c ++ l ∷ []) (l ∷ c) (grind (arith, has_append_cases))
+      (grind (arith, has_append_right, has_append_left))
 
 -- ---- Sizes
 
@@ -89,17 +82,14 @@ size_is [] = refl
 size_is (l ∷ c) = ap (λ n. cond (has c l) n (1 + n)) (size_is c)
 
 pub size_same : (c d : Clause) → IsWithin c d → IsWithin d c → size c ≡ size d
-size_same c d there back = size_is c ∙ sum_same (λ _. 1) c d there back ∙ sym (size_is d)
+size_same c d there back = grind (arith, size_is, sum_same)
 
-pub size_push : (c : Clause) (l : Literal) → size (c ++ l ∷ []) ≡ cond (has c l) (size c) (1 + size c)
-size_push c l = size_is (c ++ l ∷ []) ∙ sum_push (λ _. 1) c l ∙ ap (λ n. cond (has c l) n (1 + n)) (sym (size_is c))
+pub size_push : (c : Clause) (l : Literal)
+    → size (c ++ l ∷ []) ≡ cond (has c l) (size c) (1 + size c)
+size_push c l = grind (arith, size_is, sum_push)
 
 pub size_covered : (c d : Clause) → IsWithin c d → size c ≤ size d
-size_covered c d there =
-    let below = sum_covered (λ _. 1) c d there in
-    let first = size_is c in
-    let second = size_is d in
-    omega arith
+size_covered c d there = grind (arith, sum_covered, size_is)
 
 -- a clause within one of the same size has all its literals
 pub all_covered : (c d : Clause) → IsWithin c d → size c ≡ size d → IsWithin d c
@@ -109,8 +99,6 @@ all_covered c d there same l h = elim (cases_Bool (has c l)) [
       let apart : (k : Literal) → has c k ≡ true → k ≡ l → ⊥ = λ k g e. true≢false (sym g ∙ ap (has c) e ∙ missing) in
       let below = size_covered c (without d l) (λ k g. has-without d l k (there k g) (apart k g)) in
       let smaller = sum_without (λ _. 1) d l h in
-      let first = size_is d in
-      let second = size_is (without d l) in
       absurd (let wrong : ⊥ = omega arith in wrong)
 ]
 
@@ -124,32 +112,23 @@ size_le_length (l ∷ c) = by_test (has c l) (size c) (length c) (size_le_length
     by_test true m n h = omega arith
     by_test false m n h = omega arith
 
-pub distinct_parts : (l : Literal) (c : Clause) → size (l ∷ c) ≡ length (l ∷ c) → (has c l ≡ false) × (size c ≡ length c)
-distinct_parts l c h = by_test (has c l) refl h
-  where
-    by_test : (b : Bool) → has c l ≡ b → cond b (size c) (1 + size c) ≡ suc (length c) → (has c l ≡ false) × (size c ≡ length c)
-    by_test true e g = let le = size_le_length c in absurd (let wrong : ⊥ = omega arith in wrong)
-    by_test false e g = (e, omega arith)
+pub distinct_parts : (l : Literal) (c : Clause) → size (l ∷ c) ≡ length (l ∷ c) → (has c l ≡ false)
+    × (size c ≡ length c)
+distinct_parts l c h = grind (arith, cond, size_le_length)
 
 has_own : (c : Clause) (i : ℕ) (x : Literal) → i < length c → x ≡ get_or c i x → has c x ≡ true
 has_own [] i x low e = absurd (let wrong : ⊥ = omega arith in wrong)
-has_own (l ∷ c) zero x low e = subst (λ y. has (l ∷ c) y ≡ true) (sym e) (has_head l c)
+has_own (l ∷ c) zero x low e = cc (has_head l c)
 has_own (l ∷ c) (suc i) x low e = has_tail l c x (has_own c i x (omega arith) e)
 
 pub has_at : (c : Clause) (i : ℕ) (x : Literal) → i < length c → x ≡ get_or c i x → has c x ≡ true
 has_at = has_own
 
 -- a literal stands nowhere before its place
-pub distinct_before : (c : Clause) (i : ℕ) (x : Literal) → size c ≡ length c → i < length c → x ≡ get_or c i x → has (take i c) x ≡ false
+pub distinct_before : (c : Clause) (i : ℕ) (x : Literal) → size c ≡ length c → i < length c
+    → x ≡ get_or c i x → has (take i c) x ≡ false
 distinct_before [] i x d low e = absurd (let wrong : ⊥ = omega arith in wrong)
 distinct_before (l ∷ c) zero x d low e = refl
 distinct_before (l ∷ c) (suc i) x d low e =
     let parts = distinct_parts l c d in
-    let rest = distinct_before c i x parts.1 (omega arith) e in
-    elim (cases_Bool (eqb l x)) [
-      | inl is ↦ absurd (true≢false (sym (has_own c i x (omega arith) e) ∙ ap (has c) (sym (eqb-true l x is)) ∙ parts.0))
-      | inr apart ↦ false_from_ne_true (has (l ∷ take i c) x) (λ h. elim (has_cases l (take i c) x h) [
-        | inl same ↦ eqb-false l x apart same
-        | inr g ↦ true≢false (sym g ∙ rest)
-      ])
-    ]
+    let rest = distinct_before c i x parts.1 (omega arith) e in grind (arith, has_own)

@@ -1,20 +1,16 @@
 -- A text's listing, byte by byte and run by run.
-use Rattle.std.proofs.Common.{◌≡◌, ℕ, ◌+◌, ◌-◌, ◌^◌, ◌<◌, ◌==◌, ◌&&◌, min, cond, Bool, true, false}
-use Rattle.std.proofs.Common.{List, [], ◌∷◌, ◌++◌, length, take, zero, suc, not, refl, sym, ap, ◌∙◌}
-use Rattle.std.proofs.Common.{arith}
+use Rattle.std.proofs.Common.{◌≡◌, ℕ, ◌+◌, ◌<◌, ◌==◌, ◌&&◌, cond, Bool, true, false, List, [], ◌∷◌}
+use Rattle.std.proofs.Common.{◌++◌, length, take, zero, suc, not, refl, ap, arith}
 use Rattle.std.specs.Prelude.{slice_index}
 use Rattle.std.specs.List.{slice_split, onto_first, list_all}
 use Rattle.std.proofs.lemmas.Bool.{and_parts}
 use Rattle.cnf_base.specs.Stream.{more_count, suffix}
 use Rattle.std.proofs.lemmas.Bool.Decides.{nat_tests}
 use Rattle.cnf_base.specs.Words.{word_of}
-use Rattle.cnf_base.specs.Text.{is_separator, Spot, spot, one_on, next_line}
-use Rattle.cnf_base.specs.Code.Text.{col_after, line_after}
-use Rattle.cnf_base.specs.Text.{along, Listed, words_of, but_last, is_comment, line_tokens}
-use Rattle.cnf_base.specs.Code.Text.{listed}
-use Rattle.cnf_base.specs.Text.{last_tokens, with_front, Listing, lines_listing, lines_of, skips_at}
-use Rattle.cnf_base.specs.Text.{listing_at}
-use Rattle.cnf_base.specs.Code.Text.{col_along, comment_at}
+use Rattle.cnf_base.specs.Text.{is_separator, Spot, spot, one_on, next_line, along, Listed}
+use Rattle.cnf_base.specs.Text.{words_of, but_last, is_comment, line_tokens, last_tokens}
+use Rattle.cnf_base.specs.Text.{with_front, lines_listing, lines_of, skips_at, listing_at}
+use Rattle.cnf_base.specs.Code.Text.{col_after, line_after, listed, col_along}
 use Rattle.cnf_base.specs.declared.input.Ending.{Ending}
 use Rattle.cnf_base.specs.declared.input.Ending.TheVariants.{End, Failed}
 use Rattle.cnf_base.specs.declared.place.Place.{Place}
@@ -29,44 +25,40 @@ pub data Each (p : ℕ → Bool) : List ℕ → Type 0 where
   none : Each p []
   more : (b : ℕ) (bs : List ℕ) → p b ≡ false → Each p bs → Each p (b ∷ bs)
 
-pub Each-append : (p : ℕ → Bool) (bs : List ℕ) (b : ℕ) → Each p bs → p b ≡ false → Each p (bs ++ b ∷ [])
+pub Each-append : (p : ℕ → Bool) (bs : List ℕ) (b : ℕ) → Each p bs → p b ≡ false
+    → Each p (bs ++ b ∷ [])
 Each-append p [] b e h = more b [] h none
 Each-append p (x ∷ xs) b (more _ _ k e) h = more x (xs ++ b ∷ []) k (Each-append p xs b e h)
 
 pub Each-all : (p : ℕ → Bool) (xs : List ℕ) → list_all (λ x. not (p x)) xs ≡ true → Each p xs
 Each-all p [] h = none
 Each-all p (x ∷ xs) h =
-    let both = and_parts _ _ h in
-    more x xs (not_true (p x) both.0) (Each-all p xs both.1)
+    let both = and_parts _ _ h in more x xs (not_true (p x) both.0) (Each-all p xs both.1)
   where
     not_true : (b : Bool) → not b ≡ true → b ≡ false
     not_true true h = cc
     not_true false h = refl
 
 -- a list that is cut has a first part
-pub first_part : (p : ℕ → Bool) (xs : List ℕ) → (first : List ℕ) × (rest : List (List ℕ)) × (slice_split p xs ≡ first ∷ rest)
+pub first_part : (p : ℕ → Bool) (xs : List ℕ) → (first : List ℕ) × (rest : List (List ℕ))
+    × (slice_split p xs ≡ first ∷ rest)
 first_part p [] = ([], [], refl)
 first_part p (x ∷ xs) = by (p x) (first_part p xs)
   where
     by : (v : Bool) → (first : List ℕ) × (rest : List (List ℕ)) × (slice_split p xs ≡ first ∷ rest)
-        → (first : List ℕ) × (rest : List (List ℕ)) × (cond v ([] ∷ slice_split p xs) (onto_first x (slice_split p xs)) ≡ first ∷ rest)
+        → (first : List ℕ) × (rest : List (List ℕ))
+        × (cond v ([] ∷ slice_split p xs) (onto_first x (slice_split p xs)) ≡ first ∷ rest)
     by true f = ([], slice_split p xs, refl)
     by false f = (x ∷ f.0, f.1, ap (onto_first x) f.2)
-
-cons_nil : (x : List ℕ) (xs : List (List ℕ)) → x ∷ xs ≡ [] → ⊥
-cons_nil x xs h = cc
 
 -- bytes that don't cut come to the first part
 pub split-append : (p : ℕ → Bool) (xs ys first : List ℕ) (rest : List (List ℕ)) → Each p xs
     → slice_split p ys ≡ first ∷ rest → slice_split p (xs ++ ys) ≡ (xs ++ first) ∷ rest
 split-append p [] ys first rest e h = h
-split-append p (x ∷ xs) ys first rest (more _ _ k e) h =
-    ap (λ v. cond v ([] ∷ slice_split p (xs ++ ys)) (onto_first x (slice_split p (xs ++ ys)))) k
-    ∙ ap (onto_first x) (split-append p xs ys first rest e h)
+split-append p (x ∷ xs) ys first rest (more _ _ k e) h = cc (split-append p xs ys first rest e h)
 
 pub and_false : (b : Bool) → (b && false) ≡ false
-and_false true = refl
-and_false false = refl
+and_false b = grind arith
 
 pub no_comment : (b : ℕ) → is_separator b ≡ true → (b == 99) ≡ false
 no_comment b h = grind (arith, nat_tests)
@@ -74,139 +66,73 @@ no_comment b h = grind (arith, nat_tests)
 pub no_feed : (b : ℕ) → is_separator b ≡ false → (b == 10) ≡ false
 no_feed b h = grind (arith, nat_tests)
 
-pub separator_skips : (p : Place) (b : ℕ) (bs : List ℕ) → is_separator b ≡ true → skips_at p (b ∷ bs) ≡ false
-separator_skips p b bs h = ap (λ v. (p.col == 1) && v) (no_comment b h) ∙ and_false (p.col == 1)
+pub separator_skips : (p : Place) (b : ℕ) (bs : List ℕ) → is_separator b ≡ true
+    → skips_at p (b ∷ bs) ≡ false
+separator_skips p b bs h = grind arith
 
 -- past a line's first byte no comment begins
 pub inner_skips : (p : Place) (bs : List ℕ) → 0 < p.col → skips_at (col_after p) bs ≡ false
-inner_skips p bs h =
-    let later : (min (p.col + 1) (2 ^ 64 - 1) == 1) ≡ false = grind (arith, nat_tests) in
-    ap (λ v. v && is_comment bs) later
-
--- a separator in front of a line that is no comment
-line-separator : (s : Spot) (b : ℕ) (line : List ℕ) (rest : List (List ℕ)) (ending : Ending) → is_separator b ≡ true
-    → lines_listing false s ((b ∷ line) ∷ rest) ending ≡ lines_listing false (one_on s) (line ∷ rest) ending
-line-separator s b line [] ending h = ap (λ t. record { tokens = t; end = (along (one_on s) line).place; ending = ending }) (last ending)
-  where
-    parts : slice_split is_separator (b ∷ line) ≡ [] ∷ slice_split is_separator line
-    parts = ap (λ v. cond v ([] ∷ slice_split is_separator line) (onto_first b (slice_split is_separator line))) h
-
-    keeps : (g : List ℕ) (gs ps : List (List ℕ)) → ps ≡ g ∷ gs → words_of s (but_last ([] ∷ ps)) ≡ words_of (one_on s) (but_last ps)
-    keeps g gs ps e = rw e refl
-
-    last : (ending : Ending) → last_tokens false s (b ∷ line) ending ≡ last_tokens false (one_on s) line ending
-    last End = ap (words_of s) parts
-    last Failed = ap (λ ps. words_of s (but_last ps)) parts
-        ∙ (let f = first_part is_separator line in keeps f.0 f.1 _ f.2)
-line-separator s b line (next ∷ rest) ending h =
-    ap (λ t. with_front (t ++ listed (token.LineEnd (along (one_on s) line).place) (next_line (along (one_on s) line)).offset ∷ []) (lines_listing (is_comment next) (next_line (along (one_on s) line)) (next ∷ rest) ending)) (ap (words_of s) parts)
-  where
-    parts : slice_split is_separator (b ∷ line) ≡ [] ∷ slice_split is_separator line
-    parts = ap (λ v. cond v ([] ∷ slice_split is_separator line) (onto_first b (slice_split is_separator line))) h
+inner_skips p bs h = grind arith
 
 -- a byte of a line comes to the line's front
-lines_of-cons : (b : ℕ) (bs first : List ℕ) (rest : List (List ℕ)) → (b == 10) ≡ false → lines_of bs ≡ first ∷ rest
-    → lines_of (b ∷ bs) ≡ (b ∷ first) ∷ rest
-lines_of-cons b bs first rest h e = ap (λ v. cond v ([] ∷ lines_of bs) (onto_first b (lines_of bs))) h ∙ ap (onto_first b) e
+lines_of-cons : (b : ℕ) (bs first : List ℕ) (rest : List (List ℕ)) → (b == 10) ≡ false
+    → lines_of bs ≡ first ∷ rest → lines_of (b ∷ bs) ≡ (b ∷ first) ∷ rest
+lines_of-cons b bs first rest h e = cc
 
 -- the first line begins as the text does
-pub is_comment-lines_of : (bs : List ℕ) (first : List ℕ) (rest : List (List ℕ)) → lines_of bs ≡ first ∷ rest → is_comment bs ≡ is_comment first
-is_comment-lines_of [] first rest e = by first rest e
-  where
-    by : (first : List ℕ) (rest : List (List ℕ)) → [] ∷ [] ≡ first ∷ rest → false ≡ is_comment first
-    by [] rest e = refl
-    by (x ∷ xs) rest e = absurd (let h : [] ∷ [] ≡ (x ∷ xs) ∷ rest = e in cc)
-is_comment-lines_of (b ∷ bs) first rest e = by (b == 10) refl
-  where
-    by : (v : Bool) → (b == 10) ≡ v → (b == 99) ≡ is_comment first
-    by true h =
-        let nothing : [] ∷ lines_of bs ≡ first ∷ rest = sym (ap (λ v. cond v ([] ∷ lines_of bs) (onto_first b (lines_of bs))) h) ∙ e in
-        let same : first ≡ [] = cc in
-        let other : (b == 99) ≡ false = grind (arith, nat_tests) in
-        other ∙ sym (ap is_comment same)
-    by false h =
-        let f = first_part (λ x. x == 10) bs in
-        let longer : (b ∷ f.0) ∷ f.1 ≡ first ∷ rest = sym (lines_of-cons b bs f.0 f.1 h f.2) ∙ e in
-        let same : b ∷ f.0 ≡ first = cc in
-        ap is_comment same
+pub is_comment-lines_of : (bs : List ℕ) (first : List ℕ) (rest : List (List ℕ))
+    → lines_of bs ≡ first ∷ rest → is_comment bs ≡ is_comment first
+is_comment-lines_of [] first rest e = grind arith
+is_comment-lines_of (b ∷ bs) first rest e = grind arith
 
 -- a separator that is no line feed
-pub listing_at-separator : (p : Place) (n b : ℕ) (bs : List ℕ) (ending : Ending) → 0 < p.col → is_separator b ≡ true → (b == 10) ≡ false
+pub listing_at-separator : (p : Place) (n b : ℕ) (bs : List ℕ) (ending : Ending) → 0 < p.col
+    → is_separator b ≡ true → (b == 10) ≡ false
     → listing_at p (suffix n (b ∷ bs) ending) ≡ listing_at (col_after p) (suffix (suc n) bs ending)
 listing_at-separator p n b bs ending from_one h line =
-    let f = first_part (λ x. x == 10) bs in
-    ap (λ v. lines_listing v (spot p n) (lines_of (b ∷ bs)) ending) (separator_skips p b bs h)
-    ∙ ap (λ t. lines_listing false (spot p n) t ending) (lines_of-cons b bs f.0 f.1 line f.2)
-    ∙ line-separator (spot p n) b f.0 f.1 ending h
-    ∙ ap (λ t. lines_listing false (spot (col_after p) (suc n)) t ending) (sym f.2)
-    ∙ ap (λ v. lines_listing v (spot (col_after p) (suc n)) (lines_of bs) ending) (sym (inner_skips p bs from_one))
+    grind (arith, separator_skips p b bs h, inner_skips p bs from_one)
 
 -- the lines after a line feed
-lines_listing-feed : (skips : Bool) (s : Spot) (p : Place) (n : ℕ) (line : List ℕ) (bs : List ℕ) (ending : Ending)
-    → next_line (along s line) ≡ spot p n → (p.col == 1) ≡ true
+lines_listing-feed : (skips : Bool) (s : Spot) (p : Place) (n : ℕ) (line : List ℕ) (bs : List ℕ)
+    (ending : Ending) → next_line (along s line) ≡ spot p n → (p.col == 1) ≡ true
     → lines_listing skips s (line ∷ lines_of bs) ending
     ≡ with_front (line_tokens skips s line) (listing_at p (suffix n bs ending))
-lines_listing-feed skips s p n line bs ending next start =
-    let f = first_part (λ x. x == 10) bs in
-    ap (λ t. lines_listing skips s (line ∷ t) ending) f.2
-    ∙ ap (λ v. with_front (line_tokens skips s line) (lines_listing v (next_line (along s line)) (f.0 ∷ f.1) ending)) (sym (is_comment-lines_of bs f.0 f.1 f.2))
-    ∙ ap (λ t. with_front (line_tokens skips s line) (lines_listing (is_comment bs) (next_line (along s line)) t ending)) (sym f.2)
-    ∙ ap (λ t. with_front (line_tokens skips s line) (lines_listing (is_comment bs) t (lines_of bs) ending)) next
-    ∙ ap (λ v. with_front (line_tokens skips s line) (lines_listing (v && is_comment bs) (spot p n) (lines_of bs) ending)) (sym start)
+lines_listing-feed skips s p n line bs ending next start = grind arith
 
 -- a line feed
 pub listing_at-feed : (p : Place) (n : ℕ) (bs : List ℕ) (ending : Ending)
     → listing_at p (suffix n (10 ∷ bs) ending)
-    ≡ with_front (listed (token.LineEnd p) (suc n) ∷ []) (listing_at (line_after p) (suffix (suc n) bs ending))
+    ≡ with_front (listed (token.LineEnd p) (suc n) ∷ [])
+    (listing_at (line_after p) (suffix (suc n) bs ending))
 listing_at-feed p n bs ending =
-    ap (λ v. lines_listing v (spot p n) ([] ∷ lines_of bs) ending) (and_false (p.col == 1))
-    ∙ lines_listing-feed false (spot p n) (line_after p) (suc n) [] bs ending refl refl
+    cc (
+      and_false (p.col == 1),
+      lines_listing-feed false (spot p n) (line_after p) (suc n)
+          [] bs ending refl refl,
+    )
 
 -- the end
 pub listing_at-end : (p : Place) (n : ℕ) (ending : Ending)
     → listing_at p (suffix n [] ending) ≡ record { tokens = []; end = p; ending = ending }
-listing_at-end p n ending = ap (λ v. lines_listing v (spot p n) ([] ∷ []) ending) (and_false (p.col == 1)) ∙ by ending
-  where
-    by : (ending : Ending) → lines_listing false (spot p n) ([] ∷ []) ending ≡ record { tokens = []; end = p; ending = ending }
-    by End = refl
-    by Failed = refl
+listing_at-end p n ending = grind arith
 
 -- a comment's bytes
 skipped : (s : Spot) (b : ℕ) (line : List ℕ) (rest : List (List ℕ)) (ending : Ending)
-    → lines_listing true s ((b ∷ line) ∷ rest) ending ≡ lines_listing true (one_on s) (line ∷ rest) ending
+    → lines_listing true s ((b ∷ line) ∷ rest) ending
+    ≡ lines_listing true (one_on s) (line ∷ rest) ending
 skipped s b line [] ending = refl
 skipped s b line (next ∷ rest) ending = refl
 
-pub comment_at-more : (p : Place) (n b : ℕ) (bs : List ℕ) (ending : Ending) → (b == 10) ≡ false
-    → comment_at p (suffix n (b ∷ bs) ending) ≡ comment_at (col_after p) (suffix (suc n) bs ending)
-comment_at-more p n b bs ending h =
-    let f = first_part (λ x. x == 10) bs in
-    ap (λ t. lines_listing true (spot p n) t ending) (lines_of-cons b bs f.0 f.1 h f.2)
-    ∙ skipped (spot p n) b f.0 f.1 ending ∙ ap (λ t. lines_listing true (spot (col_after p) (suc n)) t ending) (sym f.2)
-
-pub comment_at-feed : (p : Place) (n : ℕ) (bs : List ℕ) (ending : Ending)
-    → comment_at p (suffix n (10 ∷ bs) ending) ≡ listing_at (line_after p) (suffix (suc n) bs ending)
-comment_at-feed p n bs ending = lines_listing-feed true (spot p n) (line_after p) (suc n) [] bs ending refl refl
-
-pub comment_at-end : (p : Place) (n : ℕ) (ending : Ending) → comment_at p (suffix n [] ending) ≡ listing_at p (suffix n [] ending)
-comment_at-end p n ending = sym (listing_at-end p n ending)
-
-pub listing_at-comment : (p : Place) (n : ℕ) (bs : List ℕ) (ending : Ending) → (p.col == 1) ≡ true
-    → listing_at p (suffix n (99 ∷ bs) ending) ≡ comment_at (col_after p) (suffix (suc n) bs ending)
-listing_at-comment p n bs ending h =
-    ap (λ v. lines_listing (v && true) (spot p n) (lines_of (99 ∷ bs)) ending) h ∙ comment_at-more p n 99 bs ending refl
-
 -- the column goes on by the bytes
-pub col_along-length : (p : Place) (run : List ℕ) → 0 < length run → col_along p run ≡ record { line = p.line; col = more_count p.col (length run) }
+pub col_along-length : (p : Place) (run : List ℕ) → 0 < length run
+    → col_along p run ≡ record { line = p.line; col = more_count p.col (length run) }
 col_along-length p [] some = absurd (omega arith)
 col_along-length p (b ∷ []) some = refl
 col_along-length p (b ∷ c ∷ cs) some =
-    col_along-length (col_after p) (c ∷ cs) (omega arith) ∙ ap (λ n. record { line = p.line; col = n }) further
-  where
-    further : more_count (more_count p.col 1) (length (c ∷ cs)) ≡ more_count p.col (length (b ∷ c ∷ cs))
-    further = omega arith
+    grind (arith, col_along-length (col_after p) (c ∷ cs) (omega arith))
 
-pub col_along-append : (p : Place) (xs ys : List ℕ) → col_along p (xs ++ ys) ≡ col_along (col_along p xs) ys
+pub col_along-append : (p : Place) (xs ys : List ℕ)
+    → col_along p (xs ++ ys) ≡ col_along (col_along p xs) ys
 col_along-append p [] ys = refl
 col_along-append p (x ∷ xs) ys = col_along-append (col_after p) xs ys
 
@@ -215,9 +141,10 @@ along-append s [] ys = refl
 along-append s (x ∷ xs) ys = along-append (one_on s) xs ys
 
 -- past bytes of a line stand the others
-along-spot : (p : Place) (n : ℕ) (xs : List ℕ) → along (spot p n) xs ≡ spot (col_along p xs) (n + length xs)
+along-spot : (p : Place) (n : ℕ) (xs : List ℕ)
+    → along (spot p n) xs ≡ spot (col_along p xs) (n + length xs)
 along-spot p n [] = ap (λ m. spot p m) (omega arith)
-along-spot p n (x ∷ xs) = along-spot (col_after p) (suc n) xs ∙ ap (λ m. spot (col_along p (x ∷ xs)) m) (omega arith)
+along-spot p n (x ∷ xs) = grind (arith, along-spot (col_after p) (suc n) xs)
 
 Each-feed : (run : List ℕ) → Each is_separator run → Each (λ b. b == 10) run
 Each-feed [] e = none
@@ -229,11 +156,13 @@ pub record IsRun (p : Place) (run : List ℕ) : Type 0 where
   pub some : 0 < length run
   pub text : skips_at p run ≡ false
 
-pub skips_at-append : (p : Place) (run bytes : List ℕ) → 0 < length run → skips_at p (run ++ bytes) ≡ skips_at p run
+pub skips_at-append : (p : Place) (run bytes : List ℕ) → 0 < length run
+    → skips_at p (run ++ bytes) ≡ skips_at p run
 skips_at-append p [] bytes some = absurd (omega arith)
 skips_at-append p (b ∷ bs) bytes some = refl
 
-pub skips_at-front : (p : Place) (bytes : List ℕ) (count : ℕ) → 0 < length bytes → 0 < count → skips_at p (take count bytes) ≡ skips_at p (slice_index bytes 0 ∷ [])
+pub skips_at-front : (p : Place) (bytes : List ℕ) (count : ℕ) → 0 < length bytes → 0 < count
+    → skips_at p (take count bytes) ≡ skips_at p (slice_index bytes 0 ∷ [])
 skips_at-front p [] count some front = absurd (omega arith)
 skips_at-front p (b ∷ bs) zero some front = absurd (omega arith)
 skips_at-front p (b ∷ bs) (suc n) some front = refl
@@ -245,99 +174,83 @@ token_of s run = listed (token.Word s.place (word_of run)) (along s run).offset
 words_of-run : (s : Spot) (run : List ℕ) (parts : List (List ℕ)) → 0 < length run
     → words_of s ((run ++ []) ∷ parts) ≡ token_of s run ∷ words_of (one_on (along s run)) parts
 words_of-run s [] parts some = absurd (omega arith)
-words_of-run s (b ∷ bs) parts some =
-    ap (λ r. token_of s (b ∷ r) ∷ words_of (one_on (along s (b ∷ r))) parts) (append_nil bs)
+words_of-run s (b ∷ bs) parts some = cc (append_nil bs)
 
 -- a run in front of the rest of a line, which begins with a separator or is at its end
-lines_listing-run : (s : Spot) (p : Place) (run line : List ℕ) (parts : List (List ℕ)) (rest : List (List ℕ)) (ending : Ending) → IsRun p run
+lines_listing-run : (s : Spot) (p : Place) (run line : List ℕ) (parts : List (List ℕ))
+    (rest : List (List ℕ)) (ending : Ending) → IsRun p run
     → slice_split is_separator line ≡ [] ∷ parts → ((rest ≡ []) × (parts ≡ []) → ending ≡ End)
     → lines_listing false s ((run ++ line) ∷ rest) ending
     ≡ with_front (token_of s run ∷ []) (lines_listing false (along s run) (line ∷ rest) ending)
 lines_listing-run s p run line parts [] ending r cut counts =
-    ap (λ q. record { tokens = last_tokens false s (run ++ line) ending; end = q.place; ending = ending }) (along-append s run line)
-    ∙ ap (λ t. record { tokens = t; end = (along (along s run) line).place; ending = ending }) (last ending parts cut (λ h. counts (refl, h)))
+    cc (along-append s run line, last ending parts cut (λ h. counts (refl, h)))
   where
-    last : (ending : Ending) (parts : List (List ℕ)) → slice_split is_separator line ≡ [] ∷ parts → (parts ≡ [] → ending ≡ End)
-        → last_tokens false s (run ++ line) ending ≡ token_of s run ∷ last_tokens false (along s run) line ending
+    last : (ending : Ending) (parts : List (List ℕ)) → slice_split is_separator line ≡ [] ∷ parts
+        → (parts ≡ [] → ending ≡ End) → last_tokens false s (run ++ line) ending
+        ≡ token_of s run ∷ last_tokens false (along s run) line ending
     last End parts cut counts =
-        ap (words_of s) (split-append is_separator run line [] parts r.each cut) ∙ words_of-run s run parts r.some
-        ∙ ap (λ ps. token_of s run ∷ words_of (along s run) ps) (sym cut)
-    last Failed [] cut counts = absurd (let h : Failed ≡ End = counts refl in cc)
+        cc (split-append is_separator run line [] parts r.each cut, words_of-run s run parts r.some)
+    last Failed [] cut counts = grind arith
     last Failed (part ∷ parts) cut counts =
-        ap (λ ps. words_of s (but_last ps)) (split-append is_separator run line [] (part ∷ parts) r.each cut)
-        ∙ words_of-run s run (but_last (part ∷ parts)) r.some
-        ∙ ap (λ ps. token_of s run ∷ words_of (along s run) (but_last ps)) (sym cut)
+        cc (
+          split-append is_separator run line [] (part ∷ parts) r.each cut,
+          words_of-run s run (but_last (part ∷ parts)) r.some,
+        )
 lines_listing-run s p run line parts (next ∷ rest) ending r cut counts =
-    ap (λ ps. with_front (words_of s ps ++ feed (along s (run ++ line)) ∷ []) (after (along s (run ++ line))))
-    (split-append is_separator run line [] parts r.each cut)
-    ∙ ap (λ ws. with_front (ws ++ feed (along s (run ++ line)) ∷ []) (after (along s (run ++ line))))
-    (words_of-run s run parts r.some)
-    ∙ ap (λ ps. with_front (token_of s run ∷ words_of (along s run) ps ++ feed (along s (run ++ line)) ∷ []) (after (along s (run ++ line))))
-    (sym cut)
-    ∙ ap (λ q. with_front (token_of s run ∷ words_of (along s run) (slice_split is_separator line) ++ feed q ∷ []) (after q))
-    (along-append s run line)
-  where
-    feed : Spot → Listed
-    feed q = listed (token.LineEnd q.place) (next_line q).offset
-
-    after : Spot → Listing
-    after q = lines_listing (is_comment next) (next_line q) (next ∷ rest) ending
+    cc (
+      split-append is_separator run line [] parts r.each cut,
+      words_of-run s run parts r.some,
+      along-append s run line,
+    )
 
 -- a run that a separator follows
-pub listing_at-run : (p : Place) (n : ℕ) (run : List ℕ) (b : ℕ) (bs : List ℕ) (ending : Ending) → IsRun p run → is_separator b ≡ true
+pub listing_at-run : (p : Place) (n : ℕ) (run : List ℕ) (b : ℕ) (bs : List ℕ) (ending : Ending)
+    → IsRun p run → is_separator b ≡ true
     → listing_at p (suffix n (run ++ b ∷ bs) ending)
-    ≡ with_front (listed (token.Word p (word_of run)) (n + length run) ∷ []) (listing_at (col_along p run) (suffix (n + length run) (b ∷ bs) ending))
+    ≡ with_front (listed (token.Word p (word_of run)) (n + length run) ∷ [])
+    (listing_at (col_along p run) (suffix (n + length run) (b ∷ bs) ending))
 listing_at-run p n run b bs ending r h =
-    ap (λ v. lines_listing v start (lines_of (run ++ b ∷ bs)) ending) (skips_at-append p run (b ∷ bs) r.some ∙ r.text)
-    ∙ by (b == 10) refl
-    ∙ ap (λ q. with_front (listed (token.Word p (word_of run)) q.offset ∷ []) (lines_listing false q (lines_of (b ∷ bs)) ending)) (along-spot p n run)
-    ∙ ap (λ v. with_front (listed (token.Word p (word_of run)) (n + length run) ∷ []) (lines_listing v (spot (col_along p run) (n + length run)) (lines_of (b ∷ bs)) ending)) (sym (separator_skips (col_along p run) b bs h))
+    grind (arith, by (b == 10) refl, along-spot p n run, separator_skips (col_along p run) b bs h)
   where
     start : Spot
     start = spot p n
 
-    by : (v : Bool) → (b == 10) ≡ v → lines_listing false start (lines_of (run ++ b ∷ bs)) ending
-        ≡ with_front (token_of start run ∷ []) (lines_listing false (along start run) (lines_of (b ∷ bs)) ending)
+    by : (v : Bool) → (b == 10) ≡ v
+        → lines_listing false start (lines_of (run ++ b ∷ bs)) ending
+        ≡ with_front (token_of start run ∷ [])
+        (lines_listing false (along start run) (lines_of (b ∷ bs)) ending)
     by true feed =
-        let cut : lines_of (b ∷ bs) ≡ [] ∷ lines_of bs = ap (λ v. cond v ([] ∷ lines_of bs) (onto_first b (lines_of bs))) feed in
+        let cut : lines_of (b ∷ bs) ≡ [] ∷ lines_of bs = cc in
         let f = first_part (λ x. x == 10) bs in
-        let some : (lines_of bs ≡ []) × ([] ≡ []) → ending ≡ End = λ (e : (lines_of bs ≡ []) × ([] ≡ [])). absurd (cons_nil f.0 f.1 (sym f.2 ∙ e.0)) in
-        ap (λ t. lines_listing false start t ending) (split-append (λ x. x == 10) run (b ∷ bs) [] (lines_of bs) (Each-feed run r.each) cut)
-        ∙ lines_listing-run start p run [] [] (lines_of bs) ending r refl some
-        ∙ ap (λ t. with_front (token_of start run ∷ []) (lines_listing false (along start run) t ending)) (sym cut)
+        let some : (lines_of bs ≡ []) × ([] ≡ []) → ending ≡ End = grind arith in
+        cc (
+          split-append (λ x. x == 10) run (b ∷ bs) [] (lines_of bs) (Each-feed run r.each) cut,
+          lines_listing-run start p run [] [] (lines_of bs) ending r refl some,
+        )
     by false line =
         let f = first_part (λ x. x == 10) bs in
         let cut = lines_of-cons b bs f.0 f.1 line f.2 in
         let g = first_part is_separator f.0 in
-        let some : (f.1 ≡ []) × (slice_split is_separator f.0 ≡ []) → ending ≡ End = λ (e : (f.1 ≡ []) × (slice_split is_separator f.0 ≡ [])). absurd (cons_nil g.0 g.1 (sym g.2 ∙ e.1)) in
-        ap (λ t. lines_listing false start t ending) (split-append (λ x. x == 10) run (b ∷ bs) (b ∷ f.0) f.1 (Each-feed run r.each) cut)
-        ∙ lines_listing-run start p run (b ∷ f.0) (slice_split is_separator f.0) f.1 ending r
-        (ap (λ v. cond v ([] ∷ slice_split is_separator f.0) (onto_first b (slice_split is_separator f.0))) h) some
-        ∙ ap (λ t. with_front (token_of start run ∷ []) (lines_listing false (along start run) t ending)) (sym cut)
+        let some : (f.1 ≡ []) × (slice_split is_separator f.0 ≡ []) → ending ≡ End = grind arith in
+        cc (split-append (λ x. x == 10) run (b ∷ bs) (b ∷ f.0) f.1 (Each-feed run r.each) cut, lines_listing-run start p run (b ∷ f.0) (slice_split is_separator f.0) f.1 ending r (ap (λ v. cond v ([] ∷ slice_split is_separator f.0) (onto_first b (slice_split is_separator f.0))) h) some)
 
 -- a run at the end
 pub listing_at-last_run : (p : Place) (n : ℕ) (run : List ℕ) → IsRun p run
     → listing_at p (suffix n (run ++ []) End)
-    ≡ with_front (listed (token.Word p (word_of run)) (n + length run) ∷ []) (listing_at (col_along p run) (suffix (n + length run) [] End))
+    ≡ with_front (listed (token.Word p (word_of run)) (n + length run) ∷ [])
+    (listing_at (col_along p run) (suffix (n + length run) [] End))
 listing_at-last_run p n run r =
-    ap (λ v. lines_listing v start (lines_of (run ++ [])) End) (skips_at-append p run [] r.some ∙ r.text)
-    ∙ ap (λ t. lines_listing false start t End) (split-append (λ x. x == 10) run [] [] [] (Each-feed run r.each) refl)
-    ∙ lines_listing-run start p run [] [] [] End r refl (λ _. refl)
-    ∙ ap (λ q. with_front (listed (token.Word p (word_of run)) q.offset ∷ []) (lines_listing false q ([] ∷ []) End)) (along-spot p n run)
-    ∙ ap (with_front (listed (token.Word p (word_of run)) (n + length run) ∷ [])) (sym (listing_at-end (col_along p run) (n + length run) End))
+    cc (skips_at-append p run [] r.some, split-append (λ x. x == 10) run [] [] [] (Each-feed run r.each) refl, lines_listing-run start p run [] [] [] End r refl (λ _. refl), along-spot p n run, listing_at-end (col_along p run) (n + length run) End)
   where
     start : Spot
     start = spot p n
 
 -- a run that touches a failed read
 pub listing_at-cut_run : (p : Place) (n : ℕ) (run : List ℕ) → IsRun p run
-    → listing_at p (suffix n (run ++ []) Failed) ≡ listing_at (col_along p run) (suffix (n + length run) [] Failed)
+    → listing_at p (suffix n (run ++ []) Failed)
+    ≡ listing_at (col_along p run) (suffix (n + length run) [] Failed)
 listing_at-cut_run p n run r =
-    ap (λ v. lines_listing v start (lines_of (run ++ [])) Failed) (skips_at-append p run [] r.some ∙ r.text)
-    ∙ ap (λ t. lines_listing false start t Failed) (split-append (λ x. x == 10) run [] [] [] (Each-feed run r.each) refl)
-    ∙ ap (λ ps. record { tokens = words_of start (but_last ps); end = (along start (run ++ [])).place; ending = Failed }) (split-append is_separator run [] [] [] r.each refl)
-    ∙ ap (λ q. record { tokens = []; end = q.place; ending = Failed }) (along-append start run [] ∙ along-spot p n run)
-    ∙ sym (listing_at-end (col_along p run) (n + length run) Failed)
+    cc (skips_at-append p run [] r.some, split-append (λ x. x == 10) run [] [] [] (Each-feed run r.each) refl, split-append is_separator run [] [] [] r.each refl, along-append start run [], along-spot p n run, listing_at-end (col_along p run) (n + length run) Failed)
   where
     start : Spot
     start = spot p n

@@ -1,6 +1,6 @@
 -- The token that a call gave.
-use Rattle.std.proofs.Common.{◌≡◌, true, false, [], subst}
-use Rattle.std.specs.Prelude.{Result, Ok, Err, IsErr}
+use Rattle.std.proofs.Common.{◌≡◌, [], arith}
+use Rattle.std.specs.Prelude.{Result, IsErr}
 use Rattle.cnf_base.specs.Stream.{Stream, Along}
 use Rattle.cnf_base.specs.Text.{listing_at, Gives}
 use Rattle.cnf_base.specs.declared.input.Ending.TheVariants.{Failed}
@@ -8,15 +8,15 @@ use Rattle.cnf_base.specs.declared.input.ReadFailed.{ReadFailed}
 use Rattle.cnf_base.specs.declared.token.Token.{Token}
 
 -- by its pattern
-pub told : (now new : Stream) (result token : Result Token ReadFailed) → Along now new (λ i j. Gives result (listing_at now.place i) (listing_at new.place j) j)
-    → result ≡ token → Along now new (λ i j. Gives token (listing_at now.place i) (listing_at new.place j) j)
-told now new result token gives is =
-    let P : Result Token ReadFailed → Type 0 = λ r. Along now new (λ i j. Gives r (listing_at now.place i) (listing_at new.place j) j) in
-    subst P is gives
+pub told : (now new : Stream) (result token : Result Token ReadFailed)
+    → Along now new (λ i j. Gives result (listing_at now.place i) (listing_at new.place j) j)
+    → result ≡ token → Along now new
+    (λ i j. Gives token (listing_at now.place i) (listing_at new.place j) j)
+told now new result token gives is = grind arith
 
 -- a failed read, whatever the error
 pub failed : (now new : Stream) (result : Result Token ReadFailed) → IsErr result
-    → Along now new (λ i j. (listing_at now.place i ≡ listing_at new.place j) × ((listing_at now.place i).tokens ≡ []) × ((listing_at now.place i).ending ≡ Failed))
+    → Along now new (λ i j. (listing_at now.place i ≡ listing_at new.place j)
+    × ((listing_at now.place i).tokens ≡ []) × ((listing_at now.place i).ending ≡ Failed))
     → Along now new (λ i j. Gives result (listing_at now.place i) (listing_at new.place j) j)
-failed now new (Ok t) err cut = absurd (let h : false ≡ true = err in cc)
-failed now new (Err f) err cut = cut
+failed now new result err cut = grind arith

@@ -14,7 +14,8 @@ loop-byte-init g c = Stands-start _
 
 pub returns-in-Ok-None-clause-tokens : goal.returns-in-Ok-None-clause-tokens
 returns-in-Ok-None-clause-tokens g c =
-    Stands-end _ _ _ _ c.loop-byte.invariant c.peek.ensures.look (search rules) (search rules) c.place-in-Ok-None.ensures.value
+    Stands-end _ _ _ _ c.loop-byte.invariant c.peek.ensures.look (search rules) (search rules)
+    c.place-in-Ok-None.ensures.value
 
 pub returns-in-Err-clause-tokens : goal.returns-in-Err-clause-tokens
 returns-in-Err-clause-tokens g c =
@@ -45,7 +46,8 @@ loop-byte-preserved g c =
     let start : (c.peek.new.self.place.col == 1) ≡ true = rw (← c.place.ensures.value) both.0 in
     let text = rw c.bump_in_line.ensures at c.skip_comment.ensures.text in
     record {
-      text = Stands-comment _ _ _ c.in-Ok-Some.byte _ stands (search rules) (search rules) both.1 start text;
+      text = Stands-comment _ _ _ c.in-Ok-Some.byte _ stands (search rules) (search rules)
+          both.1 start text;
       fewer = grind (arith, common_steps);
       mark = search rules;
     }
@@ -53,17 +55,20 @@ loop-byte-preserved g c =
 pub returns-in-Some-clause-tokens : goal.returns-in-Some-clause-tokens
 returns-in-Some-clause-tokens g c =
     let number = rw c.ahead.ensures at c.in-Some.ensures in
-    rw c.skip_in_line.ensures
-    (Stands-word _ _ _ _ _ (Stands-looked _ _ _ c.loop-byte.invariant c.peek.ensures.look (search rules))
+    rw c.skip_in_line.ensures (Stands-word _ _ _ _ _
+    (Stands-looked _ _ _ c.loop-byte.invariant c.peek.ensures.look (search rules))
     c.place-place-else-begins_comment.ensures.value
-    (whole_number-read _ c.in-Ok-Some.byte _ _ (search rules) (search rules) (search rules) number))
+    (whole_number-read _ c.in-Ok-Some.byte _ _ (search rules) (search rules) (search rules)
+    number))
 
 pub returns-else-begins_comment-clause-tokens : goal.returns-else-begins_comment-clause-tokens
 returns-else-begins_comment-clause-tokens g c =
-    Stands-word _ _ _ _ c.in_ok-read_word-in-Ok-Some.field-0 (Stands-looked _ _ _ c.loop-byte.invariant c.peek.ensures.look (search rules))
+    Stands-word _ _ _ _ c.in_ok-read_word-in-Ok-Some.field-0
+    (Stands-looked _ _ _ c.loop-byte.invariant c.peek.ensures.look (search rules))
     c.place-place-else-begins_comment.ensures.value c.in_ok-read_word-in-Ok-Some.ensures.text
 
-pub returns-in_err-read_word-in-Ok-Some-clause-tokens : goal.returns-in_err-read_word-in-Ok-Some-clause-tokens
+pub returns-in_err-read_word-in-Ok-Some-clause-tokens
+    : goal.returns-in_err-read_word-in-Ok-Some-clause-tokens
 returns-in_err-read_word-in-Ok-Some-clause-tokens g c =
     let cut = Stands-cut_word _ _ _ (Stands-looked _ _ _ c.loop-byte.invariant c.peek.ensures.look (search rules)) c.in_err-read_word-in-Ok-Some.ensures.text in
     failed _ _ _ c.from_residual.ensures.0 cut

@@ -1,6 +1,6 @@
 -- The digits are shifted to the top, and count as if zeros stood before them.
-use Rattle.std.proofs.Common.{◌≡◌, ℕ, ◌<◌, ◌≤◌, ◌+◌, ◌-◌, ◌*◌, ◌%◌, ◌^◌, List, [], ◌∷◌, length, take, refl, ap, ◌∙◌, subst}
-use Rattle.std.proofs.Common.{arith}
+use Rattle.std.proofs.Common.{◌≡◌, ℕ, ◌<◌, ◌≤◌, ◌+◌, ◌-◌, ◌*◌, ◌%◌, ◌^◌, List, [], ◌∷◌, length}
+use Rattle.std.proofs.Common.{take, refl, ap, ◌∙◌, subst, arith}
 use Rattle.std.specs.Prelude.{slice_index}
 use Rattle.std.specs.Int.{from_le_bytes, w64}
 use Rattle.std.specs.Int.Bits.{bit_xor}
@@ -17,7 +17,8 @@ eight_is (a ∷ b ∷ c ∷ []) long = absurd (let wrong : ⊥ = omega (arith, l
 eight_is (a ∷ b ∷ c ∷ d ∷ []) long = absurd (let wrong : ⊥ = omega (arith, long) in wrong)
 eight_is (a ∷ b ∷ c ∷ d ∷ e ∷ []) long = absurd (let wrong : ⊥ = omega (arith, long) in wrong)
 eight_is (a ∷ b ∷ c ∷ d ∷ e ∷ f ∷ []) long = absurd (let wrong : ⊥ = omega (arith, long) in wrong)
-eight_is (a ∷ b ∷ c ∷ d ∷ e ∷ f ∷ g ∷ []) long = absurd (let wrong : ⊥ = omega (arith, long) in wrong)
+eight_is (a ∷ b ∷ c ∷ d ∷ e ∷ f ∷ g ∷ []) long =
+    absurd (let wrong : ⊥ = omega (arith, long) in wrong)
 eight_is (a ∷ b ∷ c ∷ d ∷ e ∷ f ∷ g ∷ h ∷ rest) long = refl
 
 pub returns : goal.returns
@@ -26,8 +27,11 @@ returns c some digit =
     let low : (i : ℕ) → slice_index bytes i < 256 = λ i. (c.type_inv.bytes i).fits in
     let first : c.in-Some.eight.now ≡ take 8 bytes = c.in-Some.ensures.cases.same in
     let word = bit_xor c.from_le_bytes-packed.result 3472328296227680304 in
-    let says = subst (λ m. (ds : List ℕ) → AreEight 10 ds → ((word + (2 ^ 64 - 29 * m)) % 2 ^ 64 * 2 ^ (64 - 8 * c.digit_count-count.result)) % 2 ^ 64 ≡ packed ds → c.value_of.result ≡ decimal ds) c.from.ensures c.value_of.ensures in
-    front bytes c.requires.long low c.args.is_negative c.requires.sign c.from_le_bytes-packed.result c.digit_count-count.result
-    c.value_of.result
-    (c.from_le_bytes-packed.ensures ∙ ap (from_le_bytes w64) (first ∙ eight_is bytes c.requires.long))
+    let says = subst (λ m. (ds : List ℕ) → AreEight 10 ds
+    → ((word + (2 ^ 64 - 29 * m)) % 2 ^ 64 * 2 ^ (64 - 8 * c.digit_count-count.result)) % 2
+    ^ 64 ≡ packed ds → c.value_of.result ≡ decimal ds) c.from.ensures c.value_of.ensures in
+    front bytes c.requires.long low c.args.is_negative c.requires.sign c.from_le_bytes-packed.result
+    c.digit_count-count.result c.value_of.result
+    (c.from_le_bytes-packed.ensures
+    ∙ ap (from_le_bytes w64) (first ∙ eight_is bytes c.requires.long))
     c.digit_count-count.ensures.count some says digit

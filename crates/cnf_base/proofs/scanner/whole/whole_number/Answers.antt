@@ -4,7 +4,8 @@ use Rattle.std.specs.Prelude.{slice_index}
 use Rattle.cnf_base.specs.Words.{is_digit}
 use Rattle.cnf_base.proofs.WholeLemmas.{IsWholeNumber-signed}
 use Rattle.cnf_base.proofs.scanner.whole.whole_number.Goals as goal
-use Rattle.cnf_base.proofs.scanner.whole.whole_number.Goals.{else-lead-eq48-via-then-lead-eq48+else-count-gt1, else-lead-eq48-via-else-lead-eq48}
+use Rattle.cnf_base.proofs.scanner.whole.whole_number.Goals.{else-lead-eq48-via-then-lead-eq48+else-count-gt1}
+use Rattle.cnf_base.proofs.scanner.whole.whole_number.Goals.{else-lead-eq48-via-else-lead-eq48}
 
 pub returns : goal.returns
 returns c =
