@@ -1,11 +1,11 @@
 -- The blocks of a memory, as a finite map.
-use Rattle.std.proofs.Common.{◌≡◌, ℕ, zero, suc, ◌+◌, ◌-◌, ◌<◌, ◌≤◌, true, false, cond}
-use Rattle.std.proofs.Common.{Option, Some, None, List, [], ◌∷◌, ◌++◌}
-use Rattle.std.proofs.Common.{length, drop, refl, sym, ap, ◌∙◌, arith, inl, inr}
+use Rattle.std.proofs.Common.{◌≡◌, ℕ, zero, suc, ◌+◌, ◌-◌, ◌<◌, ◌≤◌, true, false, cond, Option}
+use Rattle.std.proofs.Common.{Some, None, List, [], ◌∷◌, ◌++◌, length, drop, refl, sym, ap, ◌∙◌}
+use Rattle.std.proofs.Common.{arith, inl, inr}
 use Rattle.std.specs.Ordering.{nat_cmp}
 use Rattle.std.specs.FinMap as maps
 use Rattle.std.specs.FinMap.{FinMap}
-use Rattle.std.proofs.lemmas.Bool.{cases_Bool, false≢true, true≢false}
+use Rattle.std.proofs.lemmas.Bool.{cases_Bool}
 use Rattle.std.proofs.lemmas.List.{drop-append-le, get_or-drop, get_or_past, length-drop}
 use Rattle.clause_memory.specs.Blocks.{cells_in}
 use Rattle.clause_memory.specs.Code.Cells.{IsBlock, blocks_from, blocks_in, is_rest, kind_at, rests}
@@ -22,42 +22,28 @@ block_if Free n = Some n
 block_if Rest n = None
 
 block_begins : (k : Kind) (n : ℕ) → is_rest k ≡ false → block_if k n ≡ Some n
-block_begins Live n h = refl
-block_begins Free n h = refl
-block_begins Rest n h = absurd (true≢false h)
-
-block_goes_on : (k : Kind) (n : ℕ) → is_rest k ≡ true → block_if k n ≡ None
-block_goes_on Live n h = absurd (false≢true h)
-block_goes_on Free n h = absurd (false≢true h)
-block_goes_on Rest n h = refl
+block_begins k n h = grind arith
 
 pub block_alike : (k l : Kind) (n : ℕ) → is_rest l ≡ is_rest k → block_if l n ≡ block_if k n
-block_alike k l n same = elim (cases_Bool (is_rest k)) [
-  | inl on ↦ block_goes_on l n (same ∙ on) ∙ sym (block_goes_on k n on)
-  | inr off ↦ block_begins l n (same ∙ off) ∙ sym (block_begins k n off)
-]
+block_alike k l n same = grind arith
 
 -- ---- Cells that go on
 
 rests_cons : (k : Kind) (ks : List Kind) → rests (k ∷ ks) ≡ cond (is_rest k) (rests ks + 1) 0
-rests_cons Live ks = refl
-rests_cons Free ks = refl
-rests_cons Rest ks = refl
+rests_cons k ks = grind arith
 
 rests_is : (ks : List Kind) (m : ℕ) → m ≤ length ks → ((i : ℕ) → i < m → is_rest (kind_at ks i) ≡ true) → (m < length ks → is_rest (kind_at ks m) ≡ false) → rests ks ≡ m
 rests_is [] m le on stop = omega arith
-rests_is (k ∷ ks) zero le on stop = rests_cons k ks ∙ ap (λ b. cond b (rests ks + 1) 0) (stop (omega arith))
+rests_is (k ∷ ks) zero le on stop = grind arith
 rests_is (k ∷ ks) (suc m) le on stop =
-    let rest = rests_is ks m (omega arith) (λ i low. on (suc i) (omega arith)) (λ low. stop (omega arith)) in
-    rests_cons k ks ∙ ap (λ b. cond b (rests ks + 1) 0) (on 0 (omega arith)) ∙ ap (λ n. n + 1) rest ∙ (let same : m + 1 ≡ suc m = omega arith in same)
+    grind (arith, rests_is ks m (omega arith) (λ i low. on (suc i) (omega arith)) (λ low. stop (omega arith)), on 0 (omega arith))
 
 pub rests_alike : (ks ls : List Kind) → length ls ≡ length ks → ((i : ℕ) → is_rest (kind_at ls i) ≡ is_rest (kind_at ks i)) → rests ls ≡ rests ks
 rests_alike [] [] long same = refl
 rests_alike [] (l ∷ ls) long same = absurd (let wrong : ⊥ = omega arith in wrong)
 rests_alike (k ∷ ks) [] long same = absurd (let wrong : ⊥ = omega arith in wrong)
 rests_alike (k ∷ ks) (l ∷ ls) long same =
-    rests_cons l ls ∙ ap (λ b. cond b (rests ls + 1) 0) (same 0)
-    ∙ ap (λ n. cond (is_rest k) (n + 1) 0) (rests_alike ks ls (omega arith) (λ i. same (suc i))) ∙ sym (rests_cons k ks)
+    cc (rests_cons l ls, same 0, rests_alike ks ls (omega arith) (λ i. same (suc i)), rests_cons k ks)
 
 -- before a block that begins
 pub rests_before : (ks ls : List Kind) → rests (ks ++ Free ∷ ls) ≡ rests ks
@@ -72,47 +58,47 @@ below_block : (ks : List Kind) (n q : ℕ) → q < n → maps.get (blocks_from n
 below_block [] n q low = maps.get-empty nat_cmp q
 below_block (Rest ∷ ks) n q low = below_block ks (n + 1) q (omega arith)
 below_block (Live ∷ ks) n q low =
-    insert_other (blocks_from (n + 1) ks) n q (rests ks + 1) (λ same. absurd (let wrong : ⊥ = omega arith in wrong)) ∙ below_block ks (n + 1) q (omega arith)
+    insert_other (blocks_from (n + 1) ks) n q (rests ks + 1) (omega arith)
+    ∙ below_block ks (n + 1) q (omega arith)
 below_block (Free ∷ ks) n q low =
-    insert_other (blocks_from (n + 1) ks) n q (rests ks + 1) (λ same. absurd (let wrong : ⊥ = omega arith in wrong)) ∙ below_block ks (n + 1) q (omega arith)
+    insert_other (blocks_from (n + 1) ks) n q (rests ks + 1) (omega arith)
+    ∙ below_block ks (n + 1) q (omega arith)
 
 -- a cell behind the first one
-other_block_at : (m : FinMap nat_cmp ℕ) (n x q : ℕ) → n < q → maps.get (maps.insert m n x) q ≡ maps.get m q
-other_block_at m n x q more = insert_other m n q x (λ same. absurd (let wrong : ⊥ = omega arith in wrong))
+other_block_at : (m : FinMap nat_cmp ℕ) (n x q : ℕ) → n < q
+    → maps.get (maps.insert m n x) q ≡ maps.get m q
+other_block_at m n x q more = grind (arith, insert_other)
 
-block_from : (ks : List Kind) (n k q : ℕ) → q ≡ n + k → maps.get (blocks_from n ks) q ≡ block_if (kind_at ks k) (rests (drop (suc k) ks) + 1)
+block_from : (ks : List Kind) (n k q : ℕ) → q ≡ n + k
+    → maps.get (blocks_from n ks) q ≡ block_if (kind_at ks k) (rests (drop (suc k) ks) + 1)
 block_from [] n k q e = maps.get-empty nat_cmp q
 block_from (Rest ∷ ks) n zero q e = below_block ks (n + 1) q (omega arith)
 block_from (Rest ∷ ks) n (suc k) q e = block_from ks (n + 1) k q (omega arith)
-block_from (Live ∷ ks) n zero q e = insert_here (blocks_from (n + 1) ks) n q (rests ks + 1) (omega arith)
+block_from (Live ∷ ks) n zero q e = grind (arith, insert_here)
 block_from (Live ∷ ks) n (suc k) q e = other_block_at (blocks_from (n + 1) ks) n (rests ks + 1) q (omega arith) ∙ block_from ks (n + 1) k q (omega arith)
-block_from (Free ∷ ks) n zero q e = insert_here (blocks_from (n + 1) ks) n q (rests ks + 1) (omega arith)
+block_from (Free ∷ ks) n zero q e = grind (arith, insert_here)
 block_from (Free ∷ ks) n (suc k) q e = other_block_at (blocks_from (n + 1) ks) n (rests ks + 1) q (omega arith) ∙ block_from ks (n + 1) k q (omega arith)
 
-pub get_block : (ks : List Kind) (s : ℕ) → maps.get (blocks_in ks) s ≡ block_if (kind_at ks s) (rests (drop (suc s) ks) + 1)
+pub get_block : (ks : List Kind) (s : ℕ)
+    → maps.get (blocks_in ks) s ≡ block_if (kind_at ks s) (rests (drop (suc s) ks) + 1)
 unfolding blocks_in
 get_block ks s = block_from ks 0 s s (omega arith)
 
 -- behind all cells
 pub block_past : (ks : List Kind) → maps.get (blocks_in ks) (length ks) ≡ None
-block_past ks = get_block ks (length ks) ∙ ap (λ k. block_if k (rests (drop (suc (length ks)) ks) + 1)) (get_or_past ks (length ks) Rest (omega arith))
+block_past ks = grind (arith, get_block, get_or_past)
 
 -- a block has the number of cells that is seen
 pub block_is : {ks : List Kind} {s n : ℕ} → IsBlock ks s n → maps.get (blocks_in ks) s ≡ Some n
 block_is {ks} {s} {n} is =
-    let some = is.some in
-    let fits = is.fits in
     let long = length-drop (suc s) ks in
     let one_less : n - 1 + 1 ≡ n = omega arith in
-    get_block ks s ∙ block_begins (kind_at ks s) _ is.begins
-    ∙ ap (λ m. Some (m + 1)) (rests_is (drop (suc s) ks) (n - 1) (omega arith) (λ i low. ap is_rest (get_or-drop (suc s) ks i Rest) ∙ goes_on (suc s + i) (omega arith) (omega arith)) (λ low.
-    let at : suc s + (n - 1) ≡ s + n = omega arith in
-    ap is_rest (get_or-drop (suc s) ks (n - 1) Rest) ∙ ap (λ u. is_rest (kind_at ks u)) at ∙ stops (omega arith))) ∙ ap Some one_less
+    cc (get_block ks s, block_begins (kind_at ks s) _ is.begins, rests_is (drop (suc s) ks) (n - 1) (omega arith) (λ i low. ap is_rest (get_or-drop (suc s) ks i Rest) ∙ goes_on (suc s + i) (omega arith) (omega arith)) (λ low. let at : suc s + (n - 1) ≡ s + n = omega arith in ap is_rest (get_or-drop (suc s) ks (n - 1) Rest) ∙ ap (λ u. is_rest (kind_at ks u)) at ∙ stops (omega arith)))
   where
     goes_on : (u : ℕ) → s < u → u < s + n → is_rest (kind_at ks u) ≡ true
     goes_on u more low = elim (cases_Bool (is_rest (kind_at ks u))) [
       | inl on ↦ on
-      | inr off ↦ (let same : s ≡ u = sym (is.own u (omega arith) low) ∙ start_begins ks u off in absurd (let wrong : ⊥ = omega arith in wrong))
+      | inr off ↦ grind (arith, start_begins ks u off)
     ]
 
     last_start : (m : ℕ) → suc m ≡ s + n → 0 < n → start_of ks m ≡ s
@@ -120,43 +106,32 @@ block_is {ks} {s} {n} is =
 
     next_start : (u : ℕ) → u ≡ s + n → 0 < n → is_rest (kind_at ks u) ≡ true → start_of ks u ≡ s
     next_start zero e some on = absurd (let wrong : ⊥ = omega arith in wrong)
-    next_start (suc m) e some on = ap (λ b. cond b (start_of ks m) (suc m)) on ∙ last_start m e some
+    next_start (suc m) e some on = cc (last_start m e some)
 
     stops : s + n < length ks → is_rest (kind_at ks (s + n)) ≡ false
-    stops inside = elim (cases_Bool (is_rest (kind_at ks (s + n)))) [
-      | inl on ↦ (let low = is.alone (s + n) inside (next_start (s + n) refl is.some on) in absurd (let wrong : ⊥ = omega arith in wrong))
-      | inr off ↦ off
-    ]
+    stops inside = grind (arith, next_start)
 
 -- kinds of which the same ones begin a block have the same blocks
 pub blocks_same : {ks ls : List Kind} → AreAlike ks ls → blocks_in ls ≡ blocks_in ks
 blocks_same {ks} {ls} alike = same_maps (blocks_in ls) (blocks_in ks) (λ s.
-    let long = alike.len in
     let old = length-drop (suc s) ks in
     let new = length-drop (suc s) ls in
-    get_block ls s
-    ∙ ap (λ n. block_if (kind_at ls s) (n + 1)) (rests_alike (drop (suc s) ks) (drop (suc s) ls) (omega arith)
-    (λ i. ap is_rest (get_or-drop (suc s) ls i Rest) ∙ alike.rest (suc s + i) ∙ sym (ap is_rest (get_or-drop (suc s) ks i Rest))))
-    ∙ block_alike (kind_at ks s) (kind_at ls s) _ (alike.rest s) ∙ sym (get_block ks s))
+    cc (get_block ls s, rests_alike (drop (suc s) ks) (drop (suc s) ls) (omega arith) (λ i. ap is_rest (get_or-drop (suc s) ls i Rest) ∙ alike.rest (suc s + i) ∙ sym (ap is_rest (get_or-drop (suc s) ks i Rest))), block_alike (kind_at ks s) (kind_at ls s) _ (alike.rest s), get_block ks s))
 
 -- a block before others
-pub block_before : (ks ls : List Kind) (s : ℕ) → s < length ks → kind_at (ks ++ Free ∷ ls) s ≡ kind_at ks s → maps.get (blocks_in (ks ++ Free ∷ ls)) s ≡ maps.get (blocks_in ks) s
-block_before ks ls s low same =
-    get_block (ks ++ Free ∷ ls) s ∙ ap (λ k. block_if k (rests (drop (suc s) (ks ++ Free ∷ ls)) + 1)) same
-    ∙ ap (λ x. block_if (kind_at ks s) (x + 1)) (ap rests (drop-append-le (suc s) ks (Free ∷ ls) (omega arith)) ∙ rests_before (drop (suc s) ks) ls) ∙ sym (get_block ks s)
+pub block_before : (ks ls : List Kind) (s : ℕ) → s < length ks
+    → kind_at (ks ++ Free ∷ ls) s ≡ kind_at ks s
+    → maps.get (blocks_in (ks ++ Free ∷ ls)) s ≡ maps.get (blocks_in ks) s
+block_before ks ls s low same = grind (arith, get_block, drop-append-le, rests_before)
 
 -- the cells of the blocks are all, but for those at the front that begin none
 cells_from : (ks : List Kind) (n : ℕ) → cells_in (blocks_from n ks) + rests ks ≡ length ks
-cells_from [] n = let none = sum_empty {X = ℕ} (λ x. x) in omega arith
+cells_from [] n = grind (arith, sum_empty)
 cells_from (Rest ∷ ks) n = let rest = cells_from ks (n + 1) in omega arith
 cells_from (Live ∷ ks) n =
-    let rest = cells_from ks (n + 1) in
-    let more = sum_insert (λ x. x) (blocks_from (n + 1) ks) n (rests ks + 1) (below_block ks (n + 1) n (omega arith)) in
-    omega arith
+    grind (arith, cells_from ks (n + 1), sum_insert (λ x. x) (blocks_from (n + 1) ks) n (rests ks + 1) (below_block ks (n + 1) n (omega arith)))
 cells_from (Free ∷ ks) n =
-    let rest = cells_from ks (n + 1) in
-    let more = sum_insert (λ x. x) (blocks_from (n + 1) ks) n (rests ks + 1) (below_block ks (n + 1) n (omega arith)) in
-    omega arith
+    grind (arith, cells_from ks (n + 1), sum_insert (λ x. x) (blocks_from (n + 1) ks) n (rests ks + 1) (below_block ks (n + 1) n (omega arith)))
 
 pub cells_are : (ks : List Kind) → rests ks ≡ 0 → cells_in (blocks_in ks) ≡ length ks
 unfolding blocks_in

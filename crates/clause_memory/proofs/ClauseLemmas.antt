@@ -1,26 +1,21 @@
 -- The clauses of a memory, as a finite map.
-use Rattle.std.proofs.Common.{◌≡◌, ℕ, zero, suc, ◌+◌, ◌*◌, ◌<◌, ◌≤◌, Bool, true, false}
-use Rattle.std.proofs.Common.{cond, eqb, eq-eqb, ne_eqb, Option, Some, None, is_some, List, [], ◌∷◌}
-use Rattle.std.proofs.Common.{length, drop, refl, sym, ap, ◌∙◌, arith, inl, inr}
+use Rattle.std.proofs.Common.{◌≡◌, ℕ, zero, suc, ◌+◌, ◌*◌, ◌<◌, ◌≤◌, true, Option, Some, None}
+use Rattle.std.proofs.Common.{is_some, List, [], ◌∷◌, length, sym, ap, ◌∙◌, arith, rules}
 use Rattle.std.specs.Ordering.{nat_cmp}
 use Rattle.std.specs.Cmp.{nat_cmp_total}
 use Rattle.std.specs.FinMap as maps
-use Rattle.std.proofs.lemmas.Bool.{cases_eq, false≢true}
 use Rattle.std.proofs.lemmas.List.{length-drop, length-take}
-use Rattle.std.proofs.lemmas.Option.{same_Some}
 use Rattle.cnf_base.specs.Literals.{Clause}
 use Rattle.clause_memory.specs.Blocks.{BlocksState}
 use Rattle.clause_memory.specs.Memory.{literals_in}
 use Rattle.cnf_base.specs.Maps.{sum_over}
 use Rattle.clause_memory.specs.Code.Fields.{IsMemory, seen_as}
-use Rattle.clause_memory.specs.Code.Cells.{clause_at, clauses_from, clauses_in, is_rest, kept_as}
-use Rattle.clause_memory.specs.Code.Cells.{kept_in, kind_at, literal_words, size_at, start_of}
-use Rattle.clause_memory.specs.Code.Cells.{sum_from}
+use Rattle.clause_memory.specs.Code.Cells.{clause_at, clauses_from, clauses_in, kept_in, kind_at}
+use Rattle.clause_memory.specs.Code.Cells.{literal_words, size_at, sum_from}
 use Rattle.clause_memory.specs.declared.kind.Kind.{Kind}
 use Rattle.clause_memory.specs.declared.kind.Kind.TheVariants.{Live, Free, Rest}
 use Rattle.cnf_base.proofs.MapLemmas.{get_insert, get_remove, insert_here, insert_other, same_maps}
 use Rattle.cnf_base.proofs.MapLemmas.{sum_empty, sum_insert}
-use Rattle.clause_memory.proofs.CellLemmas.{live_isnt_free, cells_hold}
 
 -- the clause of a cell of this kind, if it begins one's block
 abbrev pub clause_if : Kind → Clause → Option Clause
@@ -29,26 +24,25 @@ clause_if Free c = None
 clause_if Rest c = None
 
 module _ (words : List ℕ) where
-  below_from : (kinds : List Kind) (n q : ℕ) → q < n → maps.get (clauses_from words n kinds) q ≡ None
+  below_from : (kinds : List Kind) (n q : ℕ) → q < n
+      → maps.get (clauses_from words n kinds) q ≡ None
   below_from [] n q low = maps.get-empty nat_cmp q
   below_from (Free ∷ rest) n q low = below_from rest (n + 1) q (omega arith)
   below_from (Rest ∷ rest) n q low = below_from rest (n + 1) q (omega arith)
   below_from (Live ∷ rest) n q low =
-      insert_other (clauses_from words (n + 1) rest) n q (clause_at words n) (λ same. absurd (let wrong : ⊥ = omega arith in wrong))
+      insert_other (clauses_from words (n + 1) rest) n q (clause_at words n) (omega arith)
       ∙ below_from rest (n + 1) q (omega arith)
 
-  at_from : (kinds : List Kind) (n k q : ℕ) → q ≡ n + k → maps.get (clauses_from words n kinds) q ≡ clause_if (kind_at kinds k) (clause_at words q)
+  at_from : (kinds : List Kind) (n k q : ℕ) → q ≡ n + k
+      → maps.get (clauses_from words n kinds) q ≡ clause_if (kind_at kinds k) (clause_at words q)
   at_from [] n k q e = maps.get-empty nat_cmp q
   at_from (Free ∷ rest) n zero q e = below_from rest (n + 1) q (omega arith)
   at_from (Free ∷ rest) n (suc k) q e = at_from rest (n + 1) k q (omega arith)
   at_from (Rest ∷ rest) n zero q e = below_from rest (n + 1) q (omega arith)
   at_from (Rest ∷ rest) n (suc k) q e = at_from rest (n + 1) k q (omega arith)
-  at_from (Live ∷ rest) n zero q e =
-      let same : q ≡ n = omega arith in
-      insert_here (clauses_from words (n + 1) rest) n q (clause_at words n) same
-      ∙ ap (λ x. Some (clause_at words x)) (sym same)
+  at_from (Live ∷ rest) n zero q e = grind (arith, insert_here)
   at_from (Live ∷ rest) n (suc k) q e =
-      insert_other (clauses_from words (n + 1) rest) n q (clause_at words n) (λ same. absurd (let wrong : ⊥ = omega arith in wrong))
+      insert_other (clauses_from words (n + 1) rest) n q (clause_at words n) (omega arith)
       ∙ at_from rest (n + 1) k q (omega arith)
 
   few_from : (kinds : List Kind) (n : ℕ) → maps.len (clauses_from words n kinds) ≤ length kinds
@@ -57,122 +51,95 @@ module _ (words : List ℕ) where
   few_from (Rest ∷ rest) n = let few = few_from rest (n + 1) in omega arith
   few_from (Live ∷ rest) n =
       let few = few_from rest (n + 1) in
-      let more = maps.len-insert nat_cmp_total (clauses_from words (n + 1) rest) n (clause_at words n) in
-      by_test (maps.contains_key (clauses_from words (n + 1) rest) n) _ _ more few
-    where
-      by_test : (b : Bool) (x m : ℕ) → x ≡ cond b m (m + 1) → m ≤ length rest → x ≤ suc (length rest)
-      by_test true x m e few = omega arith
-      by_test false x m e few = omega arith
+      let more = maps.len-insert nat_cmp_total (clauses_from words (n + 1) rest) n
+      (clause_at words n) in
+      grind arith
 
   -- one cell more
-  kept_more : (f : ℕ → ℕ) (k : Kind) (rest : List Kind) (n : ℕ) → sum_from f (n + 1) rest ≡ sum_over length (clauses_from words (n + 1) rest) → (k ≡ Live → f n ≡ length (clause_at words n)) →
-      ((k ≡ Live → ⊥) → f n ≡ 0) → sum_from f n (k ∷ rest) ≡ sum_over length (clauses_from words n (k ∷ rest))
-  kept_more f Live rest n later is differs =
-      let here = is refl in
-      let more = sum_insert length (clauses_from words (n + 1) rest) n (clause_at words n) (below_from rest (n + 1) n (omega arith)) in
-      omega arith
-  kept_more f Free rest n later is differs = let none = differs (λ e. live_isnt_free Free e refl) in omega arith
-  kept_more f Rest rest n later is differs = let none = differs (λ e. false≢true (sym (ap is_rest e))) in omega arith
+  kept_more : (f : ℕ → ℕ) (k : Kind) (rest : List Kind) (n : ℕ)
+      → sum_from f (n + 1) rest ≡ sum_over length (clauses_from words (n + 1) rest)
+      → (k ≡ Live → f n ≡ length (clause_at words n)) → ((k ≡ Live → ⊥) → f n ≡ 0)
+      → sum_from f n (k ∷ rest) ≡ sum_over length (clauses_from words n (k ∷ rest))
+  kept_more f k rest n later is differs = grind (arith, sum_insert, below_from)
 
   -- the words that are kept are those of the clauses
-  kept_from : (f : ℕ → ℕ) (kinds : List Kind) (n : ℕ) → ((k : ℕ) → k < length kinds → kind_at kinds k ≡ Live → f (n + k) ≡ length (clause_at words (n + k))) →
-      ((k : ℕ) → k < length kinds → (kind_at kinds k ≡ Live → ⊥) → f (n + k) ≡ 0) → sum_from f n kinds ≡ sum_over length (clauses_from words n kinds)
+  kept_from : (f : ℕ → ℕ) (kinds : List Kind) (n : ℕ)
+      → ((k : ℕ) → k < length kinds → kind_at kinds k ≡ Live
+      → f (n + k) ≡ length (clause_at words (n + k)))
+      → ((k : ℕ) → k < length kinds → (kind_at kinds k ≡ Live → ⊥) → f (n + k) ≡ 0)
+      → sum_from f n kinds ≡ sum_over length (clauses_from words n kinds)
   kept_from f [] n live others = sym (sum_empty length)
   kept_from f (k ∷ rest) n live others =
       let here : n + 0 ≡ n = omega arith in
-      kept_more f k rest n
-      (kept_from f rest (n + 1)
-      (λ i low is. let at : n + 1 + i ≡ n + suc i = omega arith in ap f at ∙ live (suc i) (omega arith) is ∙ ap (λ x. length (clause_at words x)) (sym at))
-      (λ i low differs. let at : n + 1 + i ≡ n + suc i = omega arith in ap f at ∙ others (suc i) (omega arith) differs))
-      (λ e. ap f (sym here) ∙ live 0 (omega arith) e ∙ ap (λ x. length (clause_at words x)) here)
-      (λ ne. ap f (sym here) ∙ others 0 (omega arith) ne)
+      kept_more f k rest n (kept_from f rest (n + 1)
+      (λ i low is. let at : n + 1 + i ≡ n + suc i = omega arith in
+      grind arith) (λ i low differs. let at : n + 1 + i ≡ n + suc i = omega arith in
+      ap f at ∙ others (suc i) (omega arith) differs)) (grind arith) (grind arith)
 
 module _ (kinds : List Kind) (words : List ℕ) where
-  pub get_clause : (s : ℕ) → maps.get (clauses_in kinds words) s ≡ clause_if (kind_at kinds s) (clause_at words s)
+  pub get_clause : (s : ℕ) → maps.get (clauses_in kinds words) s
+      ≡ clause_if (kind_at kinds s) (clause_at words s)
   unfolding clauses_in
   get_clause s = at_from words kinds 0 s s (omega arith)
 
-  pub get_live : (s : ℕ) → kind_at kinds s ≡ Live → maps.get (clauses_in kinds words) s ≡ Some (clause_at words s)
-  get_live s is = get_clause s ∙ ap (λ k. clause_if k (clause_at words s)) is
+  pub get_live : (s : ℕ) → kind_at kinds s ≡ Live
+      → maps.get (clauses_in kinds words) s ≡ Some (clause_at words s)
+  get_live s is = cc (get_clause s)
 
   pub get_free : (s : ℕ) → kind_at kinds s ≡ Free → maps.get (clauses_in kinds words) s ≡ None
-  get_free s is = get_clause s ∙ ap (λ k. clause_if k (clause_at words s)) is
+  get_free s is = cc (get_clause s)
 
-  pub alive_kind : (s : ℕ) → is_some (maps.get (clauses_in kinds words) s) ≡ true → kind_at kinds s ≡ Live
-  alive_kind s alive = by_kind (kind_at kinds s) (sym (ap is_some (get_clause s)) ∙ alive)
-    where
-      by_kind : (k : Kind) → is_some (clause_if k (clause_at words s)) ≡ true → k ≡ Live
-      by_kind Live h = refl
-      by_kind Free h = absurd (false≢true h)
-      by_kind Rest h = absurd (false≢true h)
+  pub alive_kind : (s : ℕ) → is_some (maps.get (clauses_in kinds words) s) ≡ true
+      → kind_at kinds s ≡ Live
+  alive_kind s alive = grind (arith, get_clause)
 
   pub few_clauses : maps.len (clauses_in kinds words) ≤ length kinds
   unfolding clauses_in
   few_clauses = few_from words kinds 0
 
 -- a slot of a live clause
-pub alive_in : (kinds : List Kind) (words : List ℕ) (state : BlocksState) → seen_as kinds words ≡ state → (s : ℕ) → is_some (maps.get state.live s) ≡ true → kind_at kinds s ≡ Live
-alive_in kinds words state view s alive = alive_kind kinds words s (ap (λ (v : BlocksState). is_some (maps.get v.live s)) view ∙ alive)
+pub alive_in : (kinds : List Kind) (words : List ℕ) (state : BlocksState)
+    → seen_as kinds words ≡ state → (s : ℕ) → is_some (maps.get state.live s) ≡ true
+    → kind_at kinds s ≡ Live
+alive_in kinds words state view s alive = grind (arith, alive_kind)
 
 -- maps of memories that agree but in one slot
-pub clauses_with : (ks ls : List Kind) (words now : List ℕ) (s : ℕ) → kind_at ls s ≡ Live → ((t : ℕ) → (t ≡ s → ⊥) → clause_if (kind_at ls t) (clause_at now t) ≡ clause_if (kind_at ks t) (clause_at words t)) →
-    clauses_in ls now ≡ maps.insert (clauses_in ks words) s (clause_at now s)
-clauses_with ks ls words now s live others = same_maps _ _ (λ t.
-    get_clause ls now t ∙ by_slot t ∙ ap (cond (eqb t s) (Some (clause_at now s))) (sym (get_clause ks words t)) ∙ sym (get_insert (clauses_in ks words) s (clause_at now s) t))
-  where
-    by_slot : (t : ℕ) → clause_if (kind_at ls t) (clause_at now t) ≡ cond (eqb t s) (Some (clause_at now s)) (clause_if (kind_at ks t) (clause_at words t))
-    by_slot t = elim (cases_eq t s) [
-      | inl is ↦ ap (λ x. clause_if (kind_at ls x) (clause_at now x)) is ∙ ap (λ k. clause_if k (clause_at now s)) live ∙ ap (λ b. cond b (Some (clause_at now s)) (clause_if (kind_at ks t) (clause_at words t))) (sym (eq-eqb t s is))
-      | inr apart ↦ others t apart ∙ ap (λ b. cond b (Some (clause_at now s)) (clause_if (kind_at ks t) (clause_at words t))) (sym (ne_eqb t s apart))
-    ]
+pub clauses_with : (ks ls : List Kind) (words now : List ℕ) (s : ℕ) → kind_at ls s ≡ Live
+    → ((t : ℕ) → (t ≡ s → ⊥) → clause_if (kind_at ls t) (clause_at now t)
+    ≡ clause_if (kind_at ks t) (clause_at words t))
+    → clauses_in ls now ≡ maps.insert (clauses_in ks words) s (clause_at now s)
+clauses_with ks ls words now s live others = grind (arith, same_maps, get_clause, get_insert)
 
-pub clauses_without : (ks ls : List Kind) (words now : List ℕ) (s : ℕ) → kind_at ls s ≡ Free → ((t : ℕ) → (t ≡ s → ⊥) → clause_if (kind_at ls t) (clause_at now t) ≡ clause_if (kind_at ks t) (clause_at words t)) →
-    clauses_in ls now ≡ maps.remove (clauses_in ks words) s
-clauses_without ks ls words now s free others = same_maps _ _ (λ t.
-    get_clause ls now t ∙ by_slot t ∙ ap (cond (eqb t s) None) (sym (get_clause ks words t)) ∙ sym (get_remove (clauses_in ks words) s t))
-  where
-    by_slot : (t : ℕ) → clause_if (kind_at ls t) (clause_at now t) ≡ cond (eqb t s) None (clause_if (kind_at ks t) (clause_at words t))
-    by_slot t = elim (cases_eq t s) [
-      | inl is ↦ ap (λ x. clause_if (kind_at ls x) (clause_at now x)) is ∙ ap (λ k. clause_if k (clause_at now s)) free ∙ ap (λ b. cond b None (clause_if (kind_at ks t) (clause_at words t))) (sym (eq-eqb t s is))
-      | inr apart ↦ others t apart ∙ ap (λ b. cond b None (clause_if (kind_at ks t) (clause_at words t))) (sym (ne_eqb t s apart))
-    ]
+pub clauses_without : (ks ls : List Kind) (words now : List ℕ) (s : ℕ) → kind_at ls s ≡ Free
+    → ((t : ℕ) → (t ≡ s → ⊥) → clause_if (kind_at ls t) (clause_at now t)
+    ≡ clause_if (kind_at ks t) (clause_at words t))
+    → clauses_in ls now ≡ maps.remove (clauses_in ks words) s
+clauses_without ks ls words now s free others = grind (arith, same_maps, get_clause, get_remove)
 
-pub clauses_same : (ks ls : List Kind) (words now : List ℕ) → ((t : ℕ) → clause_if (kind_at ls t) (clause_at now t) ≡ clause_if (kind_at ks t) (clause_at words t)) → clauses_in ls now ≡ clauses_in ks words
-clauses_same ks ls words now same = same_maps _ _ (λ t. get_clause ls now t ∙ same t ∙ sym (get_clause ks words t))
+pub clauses_same : (ks ls : List Kind) (words now : List ℕ)
+    → ((t : ℕ) → clause_if (kind_at ls t) (clause_at now t)
+    ≡ clause_if (kind_at ks t) (clause_at words t)) → clauses_in ls now ≡ clauses_in ks words
+clauses_same ks ls words now same = grind (arith, same_maps, get_clause)
 
 -- ---- What is kept
 
 module _ {kinds : List Kind} {words : List ℕ} {heads : ℕ → Option ℕ} (memory : IsMemory kinds words heads) where
   -- a clause is as long as its header says
   pub clause_fits : (s : ℕ) → kind_at kinds s ≡ Live → 4 * s + 1 + size_at words s ≤ length words
-  clause_fits s live =
-      let fits = (memory.block s live).fits in
-      let hold = cells_hold (size_at words s) in
-      let whole = memory.whole in
-      omega arith
+  clause_fits s live = grind arith
 
   pub clause_len : (s : ℕ) → kind_at kinds s ≡ Live → length (clause_at words s) ≡ size_at words s
-  clause_len s live =
-      let fits = clause_fits s live in
-      let len = length-take (size_at words s) (drop (4 * s + 1) words) in
-      let rest = length-drop (4 * s + 1) words in
-      omega arith
+  clause_len s live = grind (arith, length-take, length-drop)
 
   pub stored_is : literal_words kinds words ≡ literals_in (clauses_in kinds words)
   unfolding clauses_in literal_words
-  stored_is = kept_from words (kept_in kinds words) kinds 0
-      (λ k low live. ap (kept_in kinds words) (zero_left k) ∙ kept_live k live ∙ sym (clause_len k live) ∙ ap (λ x. length (clause_at words x)) (sym (zero_left k)))
-      (λ k low differs. ap (kept_in kinds words) (zero_left k) ∙ memory.clean k low differs)
-    where
-      zero_left : (k : ℕ) → 0 + k ≡ k
-      zero_left k = omega arith
-
-      kept_live : (k : ℕ) → kind_at kinds k ≡ Live → kept_in kinds words k ≡ size_at words k
-      kept_live k live = ap (λ x. kept_as x (kind_at kinds (start_of kinds k)) words k) live
+  stored_is =
+      kept_from words (kept_in kinds words) kinds 0 (search (rules, clause_len)) (grind arith)
 
   -- what is seen in a slot
-  pub seen_in : (state : BlocksState) → seen_as kinds words ≡ state → (s : ℕ) (c : Clause) → maps.get state.live s ≡ Some c → (kind_at kinds s ≡ Live) × (c ≡ clause_at words s) × (length c ≡ size_at words s)
+  pub seen_in : (state : BlocksState) → seen_as kinds words ≡ state → (s : ℕ) (c : Clause)
+      → maps.get state.live s ≡ Some c → (kind_at kinds s ≡ Live) × (c ≡ clause_at words s)
+      × (length c ≡ size_at words s)
   seen_in state view s c here =
       let live = alive_in kinds words state view s (ap is_some here) in
-      let same : c ≡ clause_at words s = same_Some _ _ (sym here ∙ ap (λ (v : BlocksState). maps.get v.live s) (sym view) ∙ get_live kinds words s live) in
-      (live, same, ap length same ∙ clause_len s live)
+      grind (arith, get_live, clause_len)

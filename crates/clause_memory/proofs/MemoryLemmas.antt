@@ -1,7 +1,7 @@
 -- A memory through a change: a block gets a clause, and loses it, and literals change places.
-use Rattle.std.proofs.Common.{◌≡◌, ◌≢◌, ℕ, zero, suc, ◌+◌, ◌-◌, ◌*◌, ◌<◌, ◌≤◌, true, false}
-use Rattle.std.proofs.Common.{Option, Some, None, is_some, List, [], ◌∷◌, length, take, drop}
-use Rattle.std.proofs.Common.{get_or, refl, sym, ap, ◌∙◌, subst, arith, inl, inr}
+use Rattle.std.proofs.Common.{◌≡◌, ◌≢◌, ℕ, zero, suc, ◌+◌, ◌-◌, ◌*◌, ◌<◌, ◌≤◌, true, false, Option}
+use Rattle.std.proofs.Common.{Some, None, is_some, List, [], ◌∷◌, length, take, drop, get_or, refl}
+use Rattle.std.proofs.Common.{sym, ap, ◌∙◌, subst, arith, inl, inr, rules}
 use Rattle.std.proofs.Math.ListN.{set}
 use Rattle.std.specs.FinMap as maps
 use Rattle.std.specs.List.{swap}
@@ -14,59 +14,34 @@ use Rattle.cnf_base.proofs.SetLemmas.{has_head, has_tail}
 use Rattle.clause_memory.specs.Blocks.{cells_for}
 use Rattle.clause_memory.specs.Code.Fields.{IsMemory}
 use Rattle.clause_memory.specs.Code.Free.{LeadsTo, link_at, link_of}
-use Rattle.clause_memory.specs.Code.Cells.{IsBlock, blocks_in, clause_at, clauses_in, kept_as, kept_in}
-use Rattle.clause_memory.specs.Code.Cells.{is_rest, kind_at, rests, size_at, start_of, written}
+use Rattle.clause_memory.specs.Code.Cells.{IsBlock, blocks_in, clause_at, clauses_in, kept_as}
+use Rattle.clause_memory.specs.Code.Cells.{kept_in, is_rest, kind_at, rests, size_at, start_of}
+use Rattle.clause_memory.specs.Code.Cells.{written}
 use Rattle.clause_memory.specs.declared.kind.Kind.{Kind}
 use Rattle.clause_memory.specs.declared.kind.Kind.TheVariants.{Live, Free, Rest}
 use Rattle.clause_memory.proofs.BlockLemmas.{blocks_same, rests_alike}
-use Rattle.clause_memory.proofs.ClauseLemmas.{clause_if, clause_len, clauses_with}
-use Rattle.clause_memory.proofs.ClauseLemmas.{clauses_without, get_free}
-use Rattle.clause_memory.proofs.FreeLemmas.{HasHead, first_of, head_here, head_known, link_low}
-use Rattle.clause_memory.proofs.FreeLemmas.{listed_still, listed_with, listed_without}
+use Rattle.clause_memory.proofs.ClauseLemmas.{clause_if, clause_len, clauses_with, clauses_without}
+use Rattle.clause_memory.proofs.ClauseLemmas.{get_free}
+use Rattle.clause_memory.proofs.FreeLemmas.{HasHead, first_of, head_known, link_low, listed_still}
+use Rattle.clause_memory.proofs.FreeLemmas.{listed_with, listed_without}
 use Rattle.clause_memory.proofs.RewatchLemmas.{named_is}
 use Rattle.cnf_base.proofs.MapLemmas.{insert_twice}
 use Rattle.clause_memory.proofs.CellLemmas.{IsChanged, alike_set, begins_inside, block_same}
-use Rattle.clause_memory.proofs.CellLemmas.{clause_same, free_begins, kept_same}
-use Rattle.clause_memory.proofs.CellLemmas.{live_isnt_free, part_blank, rest_by_kind, size_same}
-use Rattle.clause_memory.proofs.CellLemmas.{start_begins, start_le, start_same, cells_hold}
-
--- heads that have room for more
-pub memory_heads : {kinds : List Kind} {words : List ℕ} {heads : ℕ → Option ℕ} → (now : ℕ → Option ℕ) → IsMemory kinds words heads → ((k : ℕ) → link_of (now k) ≡ link_of (heads k)) → ((k : ℕ) → is_some (heads k) ≡ true → is_some (now k) ≡ true) → IsMemory kinds words now
-memory_heads {kinds} {words} {heads} now memory links known = record {
-  whole = memory.whole;
-  few = memory.few;
-  front = memory.front;
-  block = memory.block;
-  known = λ s live. known _ (memory.known s live);
-  free = record {
-    list = memory.free.list;
-    leads = λ n. subst (λ x. LeadsTo words x (memory.free.list n)) (sym (links n)) (memory.free.leads n);
-    once = memory.free.once;
-    free = memory.free.free;
-    block = memory.free.block;
-    all = memory.free.all;
-  };
-  clean = memory.clean;
-}
+use Rattle.clause_memory.proofs.CellLemmas.{clause_same, free_begins, kept_same, part_blank}
+use Rattle.clause_memory.proofs.CellLemmas.{size_same, start_begins, start_le, start_same}
+use Rattle.clause_memory.proofs.CellLemmas.{cells_hold}
 
 -- ---- What a change leaves
 
 module _ {ks ls : List Kind} {words now : List ℕ} {heads : ℕ → Option ℕ} {s n : ℕ} (memory : IsMemory ks words heads) (is : IsChanged ks ls words now s n) where
   whole_still : length now ≡ 4 * length ls
-  whole_still =
-      let whole = memory.whole in
-      let long = is.same_len in
-      let len = is.alike.len in
-      omega arith
+  whole_still = omega arith
 
   few_still : length ls ≤ 4294967295
-  few_still =
-      let few = memory.few in
-      let len = is.alike.len in
-      omega arith
+  few_still = omega arith
 
   front_still : rests ls ≡ 0
-  front_still = rests_alike ks ls is.alike.len is.alike.rest ∙ memory.front
+  front_still = grind (arith, rests_alike)
 
   live_before : (t : ℕ) → (t ≡ s → ⊥) → kind_at ls t ≡ Live → kind_at ks t ≡ Live
   live_before t ne live = sym (is.others t ne) ∙ live
@@ -74,24 +49,29 @@ module _ {ks ls : List Kind} {words now : List ℕ} {heads : ℕ → Option ℕ}
   size_still : (t : ℕ) → (t ≡ s → ⊥) → kind_at ls t ≡ Live → size_at now t ≡ size_at words t
   size_still t ne live = size_same is (memory.block t (live_before t ne live)) ne
 
-  block_still : (t : ℕ) → (t ≡ s → ⊥) → kind_at ls t ≡ Live → IsBlock ls t (cells_for (size_at now t))
-  block_still t ne live = subst (λ k. IsBlock ls t (cells_for k)) (sym (size_still t ne live)) (block_same is.alike (memory.block t (live_before t ne live)))
+  block_still : (t : ℕ) → (t ≡ s → ⊥) → kind_at ls t ≡ Live
+      → IsBlock ls t (cells_for (size_at now t))
+  block_still t ne live = grind (arith, size_still t ne live, block_same is.alike (memory.block t (live_before t ne live)))
 
-  known_still : (t : ℕ) → (t ≡ s → ⊥) → kind_at ls t ≡ Live → is_some (heads (cells_for (size_at now t))) ≡ true
-  known_still t ne live = ap (λ k. is_some (heads (cells_for k))) (size_still t ne live) ∙ memory.known t (live_before t ne live)
+  known_still : (t : ℕ) → (t ≡ s → ⊥) → kind_at ls t ≡ Live
+      → is_some (heads (cells_for (size_at now t))) ≡ true
+  known_still t ne live = grind (arith, size_still)
 
-  clause_still : (t : ℕ) → (t ≡ s → ⊥) → clause_if (kind_at ls t) (clause_at now t) ≡ clause_if (kind_at ks t) (clause_at words t)
-  clause_still t ne = ap (λ k. clause_if k (clause_at now t)) (is.others t ne) ∙ by_kind (kind_at ks t) (λ e. clause_same is (memory.block t e) ne (cells_hold (size_at words t)))
+  clause_still : (t : ℕ) → (t ≡ s → ⊥)
+      → clause_if (kind_at ls t) (clause_at now t) ≡ clause_if (kind_at ks t) (clause_at words t)
+  clause_still t ne = cc (is.others t ne, by_kind (kind_at ks t) (λ e. clause_same is (memory.block t e) ne (cells_hold (size_at words t))))
     where
-      by_kind : (k : Kind) → (k ≡ Live → clause_at now t ≡ clause_at words t) → clause_if k (clause_at now t) ≡ clause_if k (clause_at words t)
+      by_kind : (k : Kind) → (k ≡ Live → clause_at now t ≡ clause_at words t)
+          → clause_if k (clause_at now t) ≡ clause_if k (clause_at words t)
       by_kind Live same = ap Some (same refl)
       by_kind Free same = refl
       by_kind Rest same = refl
 
   -- a cell of another block keeps nothing, and a further one of this block is one that goes on
-  clean_still : (u : ℕ) → u < length ls → kind_at ls u ≢ Live → (u ≡ s → ⊥) → (start_of ks u ≡ s → kind_at ls u ≡ Rest → kept_in ls now u ≡ 0) → kept_in ls now u ≡ 0
+  clean_still : (u : ℕ) → u < length ls → kind_at ls u ≢ Live → (u ≡ s → ⊥)
+      → (start_of ks u ≡ s → kind_at ls u ≡ Rest → kept_in ls now u ≡ 0) → kept_in ls now u ≡ 0
   clean_still u inside differs ne own = elim (cases_eq (start_of ks u) s) [
-    | inl e ↦ own e (rest_by_kind (kind_at ls u) differs (λ free. ne (sym (start_begins ks u (sym (is.alike.rest u) ∙ free_begins (kind_at ls u) free)) ∙ e)))
+    | inl e ↦ grind (arith, start_begins)
     | inr other ↦ kept_same is u other ∙ memory.clean u (subst (λ m. u < m) is.alike.len inside) (λ live. differs (is.others u ne ∙ live))
   ]
 
@@ -124,16 +104,11 @@ module _ {ks : List Kind} {words : List ℕ} {heads : ℕ → Option ℕ} (memor
   pub first_low : (s < 4294967295) × (4 * s + 4 * n ≤ length words)
   first_low =
       let inside = begins_inside ks s first_block.begins in
-      let fits = first_block.fits in
-      let few = memory.few in
-      let whole = memory.whole in
-      (omega arith, omega arith)
+      let fits = first_block.fits in omega arith
 
   pub link_fits : link_at words s ≤ 4294967295
   link_fits =
-      let low = link_low words (link_at words s) (length ks) led.0 led.2 (λ t h. begins_inside ks t (free_begins (kind_at ks t) (memory.free.free n t (ap (λ xs. has xs t) led.1 ∙ has_tail s led.0 t h)))) in
-      let few = memory.few in
-      omega arith
+      grind (arith, link_low words (link_at words s) (length ks) led.0 led.2 (λ t h. begins_inside ks t (free_begins (kind_at ks t) (memory.free.free n t (ap (λ xs. has xs t) led.1 ∙ has_tail s led.0 t h)))))
 
 -- ---- A block whose first cell is of another kind now
 
@@ -145,14 +120,7 @@ module _ {ks : List Kind} {s n : ℕ} (kind : Kind) (block : IsBlock ks s n) whe
       → ((i : ℕ) → i < 4 * s → get_or now i 0 ≡ get_or words i 0)
       → ((i : ℕ) → 4 * (s + n) ≤ i → get_or now i 0 ≡ get_or words i 0)
       → IsChanged ks (set ks s kind) words now s n
-  changed_kind begins same_len before behind = record {
-    block = block;
-    alike = alike_set ks s kind block.begins begins;
-    others = λ u ne. get_or-set_other ks s u kind Rest ne;
-    same_len = same_len;
-    before = before;
-    behind = behind;
-  }
+  changed_kind begins same_len before behind = search (rules, alike_set)
 
 module _ {ks : List Kind} {words now : List ℕ} {heads heads_now : ℕ → Option ℕ} {s : ℕ} {c : Clause} (put : IsPutIn ks words now heads heads_now s c) where
   abbrev cells : ℕ
@@ -168,12 +136,7 @@ module _ {ks : List Kind} {words now : List ℕ} {heads heads_now : ℕ → Opti
   live_now = kind_now Live block
 
   changed : IsChanged ks filled words now s cells
-  changed =
-      changed_kind Live block refl put.same_len put.before
-      (λ i high. put.behind i (let hold = cells_hold (length c) in omega arith))
-
-  size_now : size_at now s ≡ length c
-  size_now = let header = put.header in omega arith
+  changed = changed_kind Live block refl put.same_len put.before (omega arith)
 
   pub put_in_memory : IsMemory filled now heads_now
   put_in_memory = record {
@@ -181,19 +144,21 @@ module _ {ks : List Kind} {words now : List ℕ} {heads heads_now : ℕ → Opti
     few = few_still put.memory changed;
     front = front_still put.memory changed;
     block = λ t live. elim (cases_eq t s) [
-      | inl e ↦ subst (λ x. IsBlock filled x (cells_for (size_at now x))) (sym e) (subst (λ k. IsBlock filled s (cells_for k)) (sym size_now) (block_same changed.alike block))
+      | inl e ↦ grind (arith, block_same changed.alike block)
       | inr ne ↦ block_still put.memory changed t ne live
     ];
     known = λ t live. elim (cases_eq t s) [
-      | inl e ↦ ap (λ x. is_some (heads_now (cells_for (size_at now x)))) e ∙ ap (λ k. is_some (heads_now (cells_for k))) size_now ∙ ap is_some (head_here put.head)
-      | inr ne ↦ head_known put.head _ (known_still put.memory changed t ne live)
+      | inl e ↦ grind arith
+      | inr ne ↦ head_known put.head _
+          (known_still put.memory changed t ne live)
     ];
-    free =
-        (let w = led put.memory cells s put.first in
+    free = (let w = led put.memory cells s put.first in
         listed_without changed put.memory.free w.0 w.1 w.2 put.head live_now);
-    clean = λ u inside differs.
-        clean_still put.memory changed u inside differs (λ e. differs (ap (kind_at filled) e ∙ live_now))
-        (λ start rest. ap (λ k. kept_as k (kind_at filled (start_of filled u)) now u) rest ∙ ap (λ k. kept_as Rest k now u) (ap (kind_at filled) (start_same changed.alike u ∙ start) ∙ live_now));
+    clean = λ u inside differs. clean_still put.memory changed u inside differs
+        (λ e. differs (ap (kind_at filled) e ∙ live_now))
+        (λ start rest. ap (λ k. kept_as k (kind_at filled (start_of filled u)) now u) rest
+        ∙ ap (λ k. kept_as Rest k now u)
+        (ap (kind_at filled) (start_same changed.alike u ∙ start) ∙ live_now));
   }
 
   pub put_in_blocks : blocks_in filled ≡ blocks_in ks
@@ -204,8 +169,7 @@ module _ {ks : List Kind} {words now : List ℕ} {heads heads_now : ℕ → Opti
 
   pub put_in_clauses : clauses_in filled now ≡ maps.insert (clauses_in ks words) s c
   put_in_clauses =
-      clauses_with ks filled words now s live_now (λ t ne. clause_still put.memory changed t ne)
-      ∙ ap (maps.insert (clauses_in ks words) s) (ap (λ k. take k (drop (4 * s + 1) now)) size_now ∙ put.literals)
+      grind (arith, clauses_with ks filled words now s live_now (λ t ne. clause_still put.memory changed t ne))
 
 -- ---- A clause that is taken out
 
@@ -225,37 +189,30 @@ module _ {ks : List Kind} {words now : List ℕ} {heads heads_now : ℕ → Opti
   emptied = set ks s Free
 
   block_out : IsBlock ks s n
-  block_out = subst (IsBlock ks s) (sym out.cells) (out.memory.block s out.live)
+  block_out = grind arith
 
   free_now : kind_at emptied s ≡ Free
   free_now = kind_now Free block_out
 
   changed_out : IsChanged ks emptied words now s n
-  changed_out = changed_kind Free block_out refl out.same_len out.before out.behind
+  changed_out = search rules
 
   inside_words : 4 * (s + n) ≤ length now
-  inside_words =
-      let fits = block_out.fits in
-      let whole = out.memory.whole in
-      let long = out.same_len in
-      omega arith
+  inside_words = grind arith
 
   first_blank : kept_as Free Free now s ≡ 0
   first_blank =
-      let some = block_out.some in
-      let inside = inside_words in
-      part_blank now (4 * s + 2) 2 (omega arith) (λ i low. out.blank (4 * s + 2 + i) (omega arith) (omega arith))
+      let inside = inside_words in part_blank now (4 * s + 2) 2 (omega arith) (omega arith)
 
-  rest_blank : (u : ℕ) → u < length emptied → (u ≡ s → ⊥) → start_of ks u ≡ s → written (take 4 (drop (4 * u) now)) ≡ 0
+  rest_blank : (u : ℕ) → u < length emptied → (u ≡ s → ⊥) → start_of ks u ≡ s
+      → written (take 4 (drop (4 * u) now)) ≡ 0
   rest_blank u inside ne start =
       let low = start_le ks u in
       let high = block_out.alone u (subst (λ m. u < m) changed_out.alike.len inside) start in
-      let more : s < u = omega (arith, ne) in
-      let words_in = inside_words in
-      part_blank now (4 * u) 4 (omega arith) (λ i below. out.blank (4 * u + i) (omega arith) (omega arith))
+      let words_in = inside_words in part_blank now (4 * u) 4 (omega arith) (omega arith)
 
   not_here : (t : ℕ) → kind_at emptied t ≡ Live → t ≡ s → ⊥
-  not_here t live e = live_isnt_free (kind_at emptied t) live (ap (kind_at emptied) e ∙ free_now)
+  not_here t live e = grind (arith, free_now)
 
   pub taken_out_memory : IsMemory emptied now heads_now
   taken_out_memory = record {
@@ -263,14 +220,13 @@ module _ {ks : List Kind} {words now : List ℕ} {heads heads_now : ℕ → Opti
     few = few_still out.memory changed_out;
     front = front_still out.memory changed_out;
     block = λ t live. block_still out.memory changed_out t (not_here t live) live;
-    known = λ t live. head_known out.head _ (known_still out.memory changed_out t (not_here t live) live);
-    free = listed_with changed_out out.memory.free out.live out.link out.head free_now;
+    known = λ t live. head_known out.head _
+        (known_still out.memory changed_out t (not_here t live) live);
+    free = grind (arith, listed_with, changed_out, free_now);
     clean = λ u inside differs. elim (cases_eq u s) [
-      | inl e ↦ ap (kept_in emptied now) e ∙ ap (λ k. kept_as k (kind_at emptied (start_of emptied s)) now s) free_now ∙ first_blank
-      | inr ne ↦
-          clean_still out.memory changed_out u inside differs ne
-          (λ start rest. ap (λ k. kept_as k (kind_at emptied (start_of emptied u)) now u) rest ∙ ap (λ k. kept_as Rest k now u) (ap (kind_at emptied) (start_same changed_out.alike u ∙ start) ∙ free_now)
-          ∙ rest_blank u inside ne start)
+      | inl e ↦ grind (arith, free_now, first_blank)
+      | inr ne ↦ clean_still out.memory changed_out u inside differs ne
+          (grind (arith, rest_blank))
     ];
   }
 
@@ -278,7 +234,7 @@ module _ {ks : List Kind} {words now : List ℕ} {heads heads_now : ℕ → Opti
   taken_out_blocks = blocks_same changed_out.alike
 
   pub taken_out_clauses : clauses_in emptied now ≡ maps.remove (clauses_in ks words) s
-  taken_out_clauses = clauses_without ks emptied words now s free_now (λ t ne. clause_still out.memory changed_out t ne)
+  taken_out_clauses = search (rules, clauses_without, free_now, clause_still, changed_out)
 
 -- ---- Literals that change places
 
@@ -300,41 +256,26 @@ module _ {ks : List Kind} {words : List ℕ} {heads : ℕ → Option ℕ} (memor
   swapped = swap words at_a at_b
 
   fits_in : 4 * s + 1 + size_at words s ≤ length words
-  fits_in =
-      let fits = (memory.block s live).fits in
-      let hold = cells_hold (size_at words s) in
-      let whole = memory.whole in
-      omega arith
+  fits_in = grind arith
 
   pub swap_inside : (at_a < length words) × (at_b < length words)
   swap_inside = let fits = fits_in in (omega arith, omega arith)
 
   swapped_is : swapped ≡ set (set words at_a (get_or words at_b 0)) at_b (get_or words at_a 0)
-  swapped_is = sym (swap_is words at_a at_b 0 swap_inside.0 swap_inside.1)
+  swapped_is = grind (arith, swap_is)
 
   other_word : (i : ℕ) → (i ≡ at_a → ⊥) → (i ≡ at_b → ⊥) → get_or swapped i 0 ≡ get_or words i 0
-  other_word i not_a not_b =
-      ap (λ ws. get_or ws i 0) swapped_is ∙ get_or-set_other (set words at_a (get_or words at_b 0)) at_b i (get_or words at_a 0) 0 not_b
-      ∙ get_or-set_other words at_a i (get_or words at_b 0) 0 not_a
+  other_word i not_a not_b = grind (arith, get_or-set_other)
 
   changed_by_swap : IsChanged ks ks words swapped s (cells_for (size_at words s))
-  changed_by_swap = record {
-    block = memory.block s live;
-    alike = record { len = refl; rest = λ u. refl };
-    others = λ u ne. refl;
-    same_len = length-swap words at_a at_b;
-    before = λ i low. other_word i (λ e. absurd (let wrong : ⊥ = omega arith in wrong)) (λ e. absurd (let wrong : ⊥ = omega arith in wrong));
-    behind = λ i high.
-        let hold = cells_hold (size_at words s) in
-        other_word i (λ e. absurd (let wrong : ⊥ = omega arith in wrong)) (λ e. absurd (let wrong : ⊥ = omega arith in wrong));
-  }
+  changed_by_swap = grind (arith, length-swap, other_word)
 
   pub size_swapped : size_at swapped s ≡ size_at words s
-  size_swapped = ap (λ w. w - 2) (other_word (4 * s) (λ e. absurd (let wrong : ⊥ = omega arith in wrong)) (λ e. absurd (let wrong : ⊥ = omega arith in wrong)))
+  size_swapped = grind (arith, other_word)
 
   size_all : (t : ℕ) → kind_at ks t ≡ Live → size_at swapped t ≡ size_at words t
   size_all t alive = elim (cases_eq t s) [
-    | inl e ↦ ap (size_at swapped) e ∙ size_swapped ∙ ap (size_at words) (sym e)
+    | inl e ↦ grind (arith, size_swapped)
     | inr ne ↦ size_still memory changed_by_swap t ne alive
   ]
 
@@ -343,12 +284,11 @@ module _ {ks : List Kind} {words : List ℕ} {heads : ℕ → Option ℕ} (memor
     whole = whole_still memory changed_by_swap;
     few = memory.few;
     front = memory.front;
-    block = λ t alive. subst (λ k. IsBlock ks t (cells_for k)) (sym (size_all t alive)) (memory.block t alive);
-    known = λ t alive. ap (λ k. is_some (heads (cells_for k))) (size_all t alive) ∙ memory.known t alive;
+    block = grind (arith, size_all);
+    known = grind (arith, size_all);
     free = listed_still changed_by_swap memory.free live live;
-    clean = λ u inside differs.
-        clean_still memory changed_by_swap u inside differs (λ e. differs (ap (kind_at ks) e ∙ live))
-        (λ start rest. ap (λ k. kept_as k (kind_at ks (start_of ks u)) swapped u) rest ∙ ap (λ k. kept_as Rest k swapped u) (ap (kind_at ks) start ∙ live));
+    clean = λ u inside differs. clean_still memory changed_by_swap u inside differs
+        (λ e. differs (ap (kind_at ks) e ∙ live)) (grind arith);
   }
 
   pub swapped_clause : clause_at swapped s ≡ swap (clause_at words s) a b
@@ -357,20 +297,19 @@ module _ {ks : List Kind} {words : List ℕ} {heads : ℕ → Option ℕ} (memor
       let d = 4 * s + 1 in
       let c = clause_at words s in
       let long = clause_len memory s live in
-      let read : (i : ℕ) → i < n → get_or words (d + i) 0 ≡ get_or c i 0 = λ i low. sym (get_or-drop d words i 0) ∙ sym (get_or-take n (drop d words) i 0 low) in
-      ap (λ k. take k (drop d swapped)) size_swapped ∙ ap (λ ws. take n (drop d ws)) swapped_is
-      ∙ ap (take n) (drop-set-add d (set words at_a (get_or words at_b 0)) b (get_or words at_a 0) ∙ ap (λ ws. set ws b (get_or words at_a 0)) (drop-set-add d words a (get_or words at_b 0)))
-      ∙ take_set (set (drop d words) a (get_or words at_b 0)) n b (get_or words at_a 0) ∙ ap (λ ws. set ws b (get_or words at_a 0)) (take_set (drop d words) n a (get_or words at_b 0))
-      ∙ ap (λ x. set (set c a x) b (get_or words at_a 0)) (read b second) ∙ ap (set (set c a (get_or c b 0)) b) (read a first)
-      ∙ swap_is c a b 0 (omega arith) (omega arith)
+      let read : (i : ℕ) → i < n → get_or words (d + i) 0 ≡ get_or c i 0 =
+      grind (arith, get_or-drop, get_or-take) in
+      grind (arith, size_swapped, swapped_is, drop-set-add, take_set, swap_is)
 
-  pub swapped_clauses : clauses_in ks swapped ≡ maps.insert (clauses_in ks words) s (swap (clause_at words s) a b)
+  pub swapped_clauses : clauses_in ks swapped
+      ≡ maps.insert (clauses_in ks words) s (swap (clause_at words s) a b)
   swapped_clauses = clauses_with ks ks words swapped s live (λ t ne. clause_still memory changed_by_swap t ne) ∙ ap (maps.insert (clauses_in ks words) s) swapped_clause
 
 -- ---- Literals that change places, of which none is read
 
-word_of : (words : List ℕ) (s i : ℕ) → i < size_at words s → get_or words (4 * s + 1 + i) 0 ≡ get_or (clause_at words s) i 0
-word_of words s i low = sym (get_or-drop (4 * s + 1) words i 0) ∙ sym (get_or-take (size_at words s) (drop (4 * s + 1) words) i 0 low)
+word_of : (words : List ℕ) (s i : ℕ) → i < size_at words s
+    → get_or words (4 * s + 1 + i) 0 ≡ get_or (clause_at words s) i 0
+word_of words s i low = grind (arith, get_or-drop, get_or-take)
 
 module _ {ks : List Kind} {words : List ℕ} {heads : ℕ → Option ℕ} (memory : IsMemory ks words heads) (s from to l other next : ℕ) (live : kind_at ks s ≡ Live) (low : from < 2) (past : 2 ≤ to) (inside : to < size_at words s)
     (is_l : get_or (clause_at words s) from 0 ≡ l) (is_other : get_or (clause_at words s) (1 - from) 0 ≡ other) (is_next : get_or (clause_at words s) to 0 ≡ next) where
@@ -381,20 +320,17 @@ module _ {ks : List Kind} {words : List ℕ} {heads : ℕ → Option ℕ} (memor
   rewritten = set (set (set words (4 * s + 1) other) (4 * s + 2) next) (4 * s + 1 + to) l
 
   pub rewrite_inside : 4 * s + 1 + to < length words
-  rewrite_inside = (swap_inside memory s 0 to live (omega (arith, past, inside)) inside).1
+  rewrite_inside = grind arith
 
   rewritten_is : rewritten ≡ swap turned (4 * s + 1 + 1) (4 * s + 1 + to)
   rewritten_is =
-      let second : 4 * s + 2 ≡ 4 * s + 1 + 1 = omega arith in
-      ap (λ n. set (set (set words (4 * s + 1) other) n next) (4 * s + 1 + to) l) second
-      ∙ named_is words (4 * s + 1) from to l other next low past rewrite_inside
-      (word_of words s from (omega (arith, low, past, inside)) ∙ is_l) (word_of words s (1 - from) (omega (arith, past, inside)) ∙ is_other) (word_of words s to inside ∙ is_next)
+      grind (arith, named_is words (4 * s + 1) from to l other next low past rewrite_inside (word_of words s from (omega (arith, low, past, inside)) ∙ is_l) (word_of words s (1 - from) (omega (arith, past, inside)) ∙ is_other) (word_of words s to inside ∙ is_next))
 
   turned_memory : IsMemory ks turned heads
   turned_memory = swapped_memory memory s 0 (1 - from) live (omega (arith, past, inside)) (omega (arith, past, inside))
 
   same_size : size_at turned s ≡ size_at words s
-  same_size = size_swapped memory s 0 (1 - from) live (omega (arith, past, inside)) (omega (arith, past, inside))
+  same_size = grind (arith, size_swapped)
 
   pub rewritten_memory : IsMemory ks rewritten heads
   rewritten_memory =
@@ -403,8 +339,4 @@ module _ {ks : List Kind} {words : List ℕ} {heads : ℕ → Option ℕ} (memor
 
   pub rewritten_clauses : clauses_in ks rewritten ≡ maps.insert (clauses_in ks words) s (swap (swap (clause_at words s) 0 (1 - from)) 1 to)
   rewritten_clauses =
-      let size = same_size in
-      ap (clauses_in ks) rewritten_is ∙ swapped_clauses turned_memory s 1 to live (omega (arith, size, past, inside)) (omega (arith, size, inside))
-      ∙ ap (λ m. maps.insert m s (swap (clause_at turned s) 1 to)) (swapped_clauses memory s 0 (1 - from) live (omega (arith, past, inside)) (omega (arith, past, inside)))
-      ∙ insert_twice (clauses_in ks words) s (swap (clause_at words s) 0 (1 - from)) (swap (clause_at turned s) 1 to)
-      ∙ ap (λ c. maps.insert (clauses_in ks words) s (swap c 1 to)) (swapped_clause memory s 0 (1 - from) live (omega (arith, past, inside)) (omega (arith, past, inside)))
+      grind (arith, same_size, rewritten_is, swapped_clauses, turned_memory, insert_twice, swapped_clause)

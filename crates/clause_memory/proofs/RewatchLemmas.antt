@@ -1,12 +1,12 @@
 -- Three words of a block that are written, so that its literals change places.
-use Rattle.std.proofs.Common.{◌≡◌, ℕ, ◌+◌, ◌-◌, ◌<◌, ◌≤◌, ◌++◌, List, length, take, drop, set, get_or}
-use Rattle.std.proofs.Common.{refl, sym, ap, ◌∙◌, arith, inl, inr}
+use Rattle.std.proofs.Common.{◌≡◌, ℕ, ◌+◌, ◌-◌, ◌<◌, ◌≤◌, ◌++◌, List, length, take, drop, set}
+use Rattle.std.proofs.Common.{get_or, refl, sym, ap, ◌∙◌, arith, inl, inr}
 use Rattle.std.specs.List.{swap}
 use Rattle.std.proofs.lemmas.Bool.{cases_eq}
 use Rattle.std.proofs.lemmas.Grind.{same_number_lists}
 use Rattle.std.proofs.lemmas.List.{drop-drop, get_or-set_other, get_or-set_same, length-drop}
-use Rattle.std.proofs.lemmas.List.{length-set, length-take-le, set-append_left}
-use Rattle.std.proofs.lemmas.List.{set-append_right, take-append-drop}
+use Rattle.std.proofs.lemmas.List.{length-set, length-take-le, set-append_left, set-append_right}
+use Rattle.std.proofs.lemmas.List.{take-append-drop}
 use Rattle.std.proofs.lemmas.List.Edits.{Swapped, length-swap, swapped_from_swap}
 
 -- the first two of the words from a place on, and one behind them
@@ -21,36 +21,27 @@ module _ (xs : List ℕ) (n to first second l : ℕ) (past : 2 ≤ to) (inside :
   rest = drop (n + to + 1) xs
 
   len : length block ≡ to + 1
-  len =
-      let left = length-drop n xs in
-      length-take-le (to + 1) (drop n xs) (omega (arith, left, inside))
+  len = grind (arith, length-drop, length-take-le)
 
   whole : block ++ rest ≡ drop n xs
-  whole =
-      let same : n + (to + 1) ≡ n + to + 1 = omega arith in
-      ap (λ ys. block ++ ys) (sym (drop-drop (to + 1) n xs ∙ ap (λ k. drop k xs) same)) ∙ take-append-drop (to + 1) (drop n xs)
+  whole = grind (arith, drop-drop (to + 1) n xs, take-append-drop (to + 1) (drop n xs))
 
   written : (ys : List ℕ) (i y : ℕ) → set (front ++ ys) (n + i) y ≡ front ++ set ys i y
   written ys i y =
-      let none : n + i - n ≡ i = omega arith in
-      set-append_right front ys n (n + i) y (length-take-le n xs (omega (arith, inside))) (omega arith) ∙ ap (λ k. front ++ set ys k y) none
+      grind (arith, set-append_right front ys n (n + i) y (length-take-le n xs (omega (arith, inside))) (omega arith))
 
-  pub three_written : front ++ (set (set (set block 0 first) 1 second) to l ++ rest) ≡ set (set (set xs n first) (n + 1) second) (n + to) l
+  pub three_written : front ++ (set (set (set block 0 first) 1 second) to l ++ rest)
+      ≡ set (set (set xs n first) (n + 1) second) (n + to) l
   three_written =
-      let one = length-set block 0 first in
-      let two = length-set (set block 0 first) 1 second in
       let long = len in
       let front_is : n + 0 ≡ n = omega arith in
-      ap (λ ys. front ++ ys)
-      (sym (set-append_left (set (set block 0 first) 1 second) rest to l (omega (arith, one, two, long)))
-      ∙ ap (λ ys. set ys to l) (sym (set-append_left (set block 0 first) rest 1 second (omega (arith, one, long, past))))
-      ∙ ap (λ ys. set (set ys 1 second) to l) (sym (set-append_left block rest 0 first (omega (arith, long))))
-      ∙ ap (λ ys. set (set (set ys 0 first) 1 second) to l) whole)
+      ap (λ ys. front ++ ys) (grind (arith, set-append_left, whole))
       ∙ sym (written (set (set (drop n xs) 0 first) 1 second) to l)
       ∙ ap (λ ys. set ys (n + to) l) (sym (written (set (drop n xs) 0 first) 1 second))
       ∙ ap (λ ys. set (set ys (n + 1) second) (n + to) l) (sym (written (drop n xs) 0 first))
-      ∙ ap (λ ys. set (set (set ys (n + 0) first) (n + 1) second) (n + to) l) (take-append-drop n xs)
-      ∙ ap (λ k. set (set (set xs k first) (n + 1) second) (n + to) l) front_is
+      ∙ ap (λ ys. set (set (set ys (n + 0) first) (n + 1) second) (n + to) l)
+      (take-append-drop n xs) ∙ ap (λ k. set (set (set xs k first) (n + 1) second) (n + to) l)
+      front_is
 
 -- the same by exchanges: the other one of the first two comes first, and then the one behind them
 module _ (xs : List ℕ) (n from to l other next : ℕ) (low : from < 2) (past : 2 ≤ to) (inside : n + to < length xs)
@@ -70,7 +61,8 @@ module _ (xs : List ℕ) (n from to l other next : ℕ) (low : from < 2) (past :
   move : Swapped (λ i. get_or turned i 0) (λ i. get_or moved i 0) (n + 1) (n + to)
   move =
       let len = length-swap xs (n + 0) (n + (1 - from)) in
-      swapped_from_swap turned moved (n + 1) (n + to) 0 (omega (arith, len, inside, past)) (omega (arith, len, inside)) refl
+      swapped_from_swap turned moved (n + 1) (n + to) 0 (omega (arith, len, inside, past))
+      (omega (arith, len, inside)) refl
 
   turned_second : get_or turned (n + 1) 0 ≡ l
   turned_second = elim (cases_eq from 0) [
@@ -79,8 +71,7 @@ module _ (xs : List ℕ) (n from to l other next : ℕ) (low : from < 2) (past :
         let there : n + 0 ≡ n + from = omega (arith, e) in
         ap (λ i. get_or turned i 0) here ∙ turn.1 ∙ ap (λ i. get_or xs i 0) there ∙ is_l
     | inr ne ↦
-        let here : n + 1 ≡ n + from = omega (arith, ne, low) in
-        turn.2 (n + 1) (λ e. absurd (omega (arith, e))) (λ e. absurd (omega (arith, e, ne, low))) ∙ ap (λ i. get_or xs i 0) here ∙ is_l
+        grind (arith, turn.2 (n + 1) (λ e. absurd (omega (arith, e))) (λ e. absurd (omega (arith, e, ne, low))))
   ]
 
   pub named_is : named ≡ moved
@@ -107,7 +98,7 @@ module _ (xs : List ℕ) (n from to l other next : ℕ) (low : from < 2) (past :
                         ∙ sym (ap (λ i. get_or moved i 0) (e ∙ zero_more) ∙ move.2 (n + 0) (λ g. absurd (omega (arith, g))) (λ g. absurd (omega (arith, g, past))) ∙ turn.0 ∙ is_other)
                     | inr not_0 ↦
                         get_or-set_other xs n k other 0 not_0
-                        ∙ sym (move.2 k not_1 not_to ∙ turn.2 k (λ g. absurd (omega (arith, g, not_0))) (λ g. absurd (omega (arith, g, not_0, not_1, low))))
+                        ∙ sym (move.2 k not_1 not_to ∙ turn.2 k (λ g. absurd (omega (arith, g, not_0))) (omega arith))
                   ]
             ]
       ])

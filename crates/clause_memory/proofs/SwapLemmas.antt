@@ -1,9 +1,8 @@
 -- Two words behind a place, put in each other's place.
-use Rattle.std.proofs.Common.{◌≡◌, ℕ, ◌+◌, ◌-◌, ◌<◌, ◌++◌, List, length, take, drop, set, get_or}
-use Rattle.std.proofs.Common.{sym, ap, ◌∙◌, arith}
+use Rattle.std.proofs.Common.{◌≡◌, ℕ, ◌+◌, ◌<◌, ◌++◌, List, length, take, drop, set, get_or, arith}
 use Rattle.std.specs.List.{swap}
-use Rattle.std.proofs.lemmas.List.{get_or-append_right, length-drop, length-take-le, set-append_right}
-use Rattle.std.proofs.lemmas.List.{take-append-drop}
+use Rattle.std.proofs.lemmas.List.{get_or-append_right, length-drop, length-take-le}
+use Rattle.std.proofs.lemmas.List.{set-append_right, take-append-drop}
 use Rattle.std.proofs.lemmas.List.Edits.{swap_is}
 
 module _ (xs : List ℕ) (n a b : ℕ) (in_a : n + a < length xs) (in_b : n + b < length xs) where
@@ -18,21 +17,12 @@ module _ (xs : List ℕ) (n a b : ℕ) (in_a : n + a < length xs) (in_b : n + b 
 
   read : (i : ℕ) → get_or xs (n + i) 0 ≡ get_or rest i 0
   read i =
-      let none : n + i - n ≡ i = omega arith in
-      ap (λ ys. get_or ys (n + i) 0) (sym (take-append-drop n xs)) ∙ get_or-append_right front rest n (n + i) 0 len (omega arith) ∙ ap (λ k. get_or rest k 0) none
+      grind (arith, take-append-drop n xs, get_or-append_right front rest n (n + i) 0 len (omega arith))
 
   written : (ys : List ℕ) (i y : ℕ) → set (front ++ ys) (n + i) y ≡ front ++ set ys i y
-  written ys i y =
-      let none : n + i - n ≡ i = omega arith in
-      set-append_right front ys n (n + i) y len (omega arith) ∙ ap (λ k. front ++ set ys k y) none
+  written ys i y = grind (arith, set-append_right front ys n (n + i) y len (omega arith))
 
   pub swapped_behind : front ++ swap rest a b ≡ swap xs (n + a) (n + b)
   swapped_behind =
       let left = length-drop n xs in
-      ap (λ ys. front ++ ys) (sym (swap_is rest a b 0 (omega (arith, left, in_a)) (omega (arith, left, in_b))))
-      ∙ sym (written (set rest a (get_or rest b 0)) b (get_or rest a 0))
-      ∙ ap (λ ys. set ys (n + b) (get_or rest a 0)) (sym (written rest a (get_or rest b 0)))
-      ∙ ap (λ ys. set (set ys (n + a) (get_or rest b 0)) (n + b) (get_or rest a 0)) (take-append-drop n xs)
-      ∙ ap (λ y. set (set xs (n + a) y) (n + b) (get_or rest a 0)) (sym (read b))
-      ∙ ap (λ y. set (set xs (n + a) (get_or xs (n + b) 0)) (n + b) y) (sym (read a))
-      ∙ swap_is xs (n + a) (n + b) 0 in_a in_b
+      cc (swap_is rest a b 0 (omega (arith, left, in_a)) (omega (arith, left, in_b)), written (set rest a (get_or rest b 0)) b (get_or rest a 0), written rest a (get_or rest b 0), take-append-drop n xs, read b, read a, swap_is xs (n + a) (n + b) 0 in_a in_b)

@@ -1,9 +1,11 @@
-use Rattle.std.proofs.Common.{◌≡◌, ◌+◌, ◌*◌, ◌<◌, ◌≤◌, ◌++◌, Option, Some, None, length, arith, sym, ap, ◌∙◌, subst, refl, take, drop, get_or, unwrap_or, ℕ}
+use Rattle.std.proofs.Common.{◌≡◌, ◌+◌, ◌*◌, ◌<◌, ◌≤◌, ◌++◌, Option, Some, None, length, arith, sym}
+use Rattle.std.proofs.Common.{ap, ◌∙◌, subst, refl, take, drop, get_or, unwrap_or, ℕ}
 use Rattle.tables.specs.Table.{at}
 use Rattle.clause_memory.specs.Blocks.{cells_for}
 use Rattle.clause_memory.specs.Code.Free.{link_of}
 use Rattle.clause_memory.specs.Code.Cells.{blanks, size_at}
-use Rattle.clause_memory.proofs.MemoryLemmas.{IsTakenOut, taken_out_blocks, taken_out_clauses, taken_out_memory}
+use Rattle.clause_memory.proofs.MemoryLemmas.{IsTakenOut, taken_out_blocks, taken_out_clauses}
+use Rattle.clause_memory.proofs.MemoryLemmas.{taken_out_memory}
 use Rattle.clause_memory.proofs.CellLemmas.{wiped_before, wiped_behind, wiped_inside, wiped_len}
 use Rattle.clause_memory.proofs.reuse.take_out.Goals as goal
 use Rattle.clause_memory.proofs.reuse.take_out.Goals.{After-set}

@@ -1,4 +1,5 @@
-use Rattle.std.proofs.Common.{◌≡◌, ◌+◌, ◌-◌, ◌*◌, ◌++◌, ◌∷◌, length, arith, sym, ap, ◌∙◌, subst, replicate}
+use Rattle.std.proofs.Common.{◌≡◌, ◌+◌, ◌-◌, ◌*◌, ◌++◌, ◌∷◌, length, arith, sym, ap, ◌∙◌, subst}
+use Rattle.std.proofs.Common.{replicate}
 use Rattle.std.specs.FinMap as maps
 use Rattle.tables.specs.Table.{at}
 use Rattle.clause_memory.specs.Blocks.{AddsFewBlocks, cells_for}
@@ -8,8 +9,10 @@ use Rattle.clause_memory.specs.Code.Cells.{blanks, blocks_in, clauses_in}
 use Rattle.clause_memory.specs.declared.kind.Kind.TheVariants.{Live, Rest}
 use Rattle.clause_memory.proofs.BlockLemmas.{block_past}
 use Rattle.clause_memory.proofs.CountLemmas.{none_left, one_more_block}
-use Rattle.clause_memory.proofs.RoomLemmas.{IsAppended, appended_block, appended_clauses, appended_free, appended_memory}
-use Rattle.clause_memory.proofs.RoomLemmas.{appended_other_blocks, memory_reserved, none_free, none_reserved, now_kinds, now_words}
+use Rattle.clause_memory.proofs.RoomLemmas.{IsAppended, appended_block, appended_clauses}
+use Rattle.clause_memory.proofs.RoomLemmas.{appended_free, appended_memory, appended_other_blocks}
+use Rattle.clause_memory.proofs.RoomLemmas.{memory_reserved, none_free, none_reserved, now_kinds}
+use Rattle.clause_memory.proofs.RoomLemmas.{now_words}
 use Rattle.clause_memory.proofs.room.append.Goals as goal
 use Rattle.clause_memory.proofs.room.append.Goals.{After-append_clause}
 

@@ -1,10 +1,12 @@
-use Rattle.std.proofs.Common.{◌≡◌, ℕ, Option, Some, None, Result, Ok, Err, IfOk, arith, length, refl, sym, ap, ◌∙◌}
+use Rattle.std.proofs.Common.{◌≡◌, ℕ, Option, Some, None, Result, Ok, Err, IfOk, arith, length}
+use Rattle.std.proofs.Common.{refl, sym, ap, ◌∙◌}
 use Rattle.tables.specs.Table.{at}
 use Rattle.clause_memory.specs.Blocks.{cells_for}
 use Rattle.clause_memory.specs.Code.Free.{link_of}
 use Rattle.clause_memory.proofs.RoomLemmas.{none_free}
 use Rattle.clause_memory.proofs.room.place.Goals as goal
-use Rattle.clause_memory.proofs.room.place.Goals.{in_default-via-in-Some+else-link-gt0, in_default-via-in_default}
+use Rattle.clause_memory.proofs.room.place.Goals.{in_default-via-in-Some+else-link-gt0}
+use Rattle.clause_memory.proofs.room.place.Goals.{in_default-via-in_default}
 
 if_ok_from : {E : Type 0} (r : Result ℕ E) (P : ℕ → Type 0) → ((slot : ℕ) → P slot) → IfOk r P
 if_ok_from (Ok slot) P each = each slot

@@ -39,7 +39,9 @@ empty_memory heads none = record {
 
 pub invariant_of-result : goal.invariant_of-result
 invariant_of-result c =
-    subst (λ ks. IsMemory ks c.new-2.result.items (at c.new-3.result)) (sym c.new.ensures.items) (subst (λ ws. IsMemory [] ws (at c.new-3.result)) (sym c.new-2.ensures.items) (empty_memory (at c.new-3.result) c.new-3.ensures))
+    subst (λ ks. IsMemory ks c.new-2.result.items (at c.new-3.result)) (sym c.new.ensures.items)
+    (subst (λ ws. IsMemory [] ws (at c.new-3.result)) (sym c.new-2.ensures.items)
+    (empty_memory (at c.new-3.result) c.new-3.ensures))
 
 pub returns-clause-live : goal.returns-clause-live
 unfolding clauses_in
@@ -55,4 +57,5 @@ returns-clause-blocks c = ap blocks_in c.new.ensures.items
 
 pub returns-clause-slots : goal.returns-clause-slots
 unfolding blocks_in
-returns-clause-slots c = ap (λ ks. cells_in (blocks_in ks)) c.new.ensures.items ∙ sum_empty {X = ℕ} (λ n. n)
+returns-clause-slots c =
+    ap (λ ks. cells_in (blocks_in ks)) c.new.ensures.items ∙ sum_empty {X = ℕ} (λ n. n)

@@ -20,6 +20,8 @@ returns-clause-few c =
 pub returns-clause-low : goal.returns-clause-low
 returns-clause-low c s alive =
     let kinds = c.self.inside.kinds.items in
-    let inside = begins_inside kinds s (live_begins (kind_at kinds s) (alive_in c.self.inside.kinds.items c.self.inside.words.items c.args.self.now c.self.view_is s alive)) in
-    let most = c.self.invariant.few in
-    omega arith
+    let inside = begins_inside kinds s
+    (live_begins (kind_at kinds s)
+    (alive_in c.self.inside.kinds.items c.self.inside.words.items c.args.self.now
+    c.self.view_is s alive)) in
+    let most = c.self.invariant.few in omega arith

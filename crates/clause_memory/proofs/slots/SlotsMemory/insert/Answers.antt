@@ -2,7 +2,8 @@ use Rattle.std.proofs.Common.{◌≤◌, None, slice_index_or, sym, ap, ◌∙�
 use Rattle.std.specs.FinMap as maps
 use Rattle.clause_memory.specs.Memory.{MemoryState}
 use Rattle.clause_memory.specs.Code.Slots.{IsSlots, held_in}
-use Rattle.clause_memory.proofs.SlotLemmas.{few_held, few_seen, held_with, items_of, slots_stored, slots_with, some_held, stored_seen}
+use Rattle.clause_memory.proofs.SlotLemmas.{few_held, few_seen, held_with, items_of, slots_stored}
+use Rattle.clause_memory.proofs.SlotLemmas.{slots_with, some_held, stored_seen}
 use Rattle.clause_memory.proofs.slots.SlotsMemory.insert.Goals as goal
 
 pub returns-then-key-ge-MOST-clause-few : goal.returns-then-key-ge-MOST-clause-few
