@@ -1,12 +1,10 @@
 -- Slots in buckets, each at its place, through a change.
-use Rattle.std.proofs.Common.{◌≡◌, ◌≢◌, ℕ, zero, suc, ◌-◌, ◌<◌, if◌then◌else◌, eqb, eq-eqb, ne_eqb, Option}
+use Rattle.std.proofs.Common.{◌≡◌, ◌≢◌, ℕ, zero, suc, ◌-◌, ◌<◌, if◌then◌else◌, eqb, eq-eqb, Option}
 use Rattle.std.proofs.Common.{Some, None, unwrap_or, List, [], ◌∷◌, ◌++◌, length, get_or, set, take}
-use Rattle.std.proofs.Common.{slice_get, swap_remove, refl, sym, ap, ◌∙◌, subst, arith, inl, inr}
-use Rattle.std.proofs.Common.{◌⊎◌}
-use Rattle.std.proofs.lemmas.Option.{none-some, same_Some}
+use Rattle.std.proofs.Common.{slice_get, swap_remove, refl, sym, ap, ◌∙◌, arith, inl, inr, ◌⊎◌}
+use Rattle.std.proofs.Common.{rules}
+use Rattle.std.proofs.lemmas.Option.{none-some, same_Some, slice_get_within, slice_get_read}
 use Rattle.std.proofs.lemmas.Bool.{cases_eq}
-use Rattle.std.proofs.lemmas.Option.{slice_get_within, slice_get_read}
-use Rattle.std.proofs.lemmas.Grind.{common_steps}
 use Rattle.std.proofs.lemmas.List.{length_push}
 use Rattle.clause_index.specs.Code.Indexed.{IsIndexed}
 
@@ -25,25 +23,29 @@ pub push_end : (xs : List ℕ) (x : ℕ) → slice_get (xs ++ x ∷ []) (length 
 push_end [] x = refl
 push_end (y ∷ xs) x = push_end xs x
 
-pub push_cases : (xs : List ℕ) (x i y : ℕ) → slice_get (xs ++ x ∷ []) i ≡ Some y → ((i ≡ length xs) × (x ≡ y)) ⊎ (slice_get xs i ≡ Some y)
+pub push_cases : (xs : List ℕ) (x i y : ℕ) → slice_get (xs ++ x ∷ []) i ≡ Some y
+    → ((i ≡ length xs) × (x ≡ y)) ⊎ (slice_get xs i ≡ Some y)
 push_cases [] x zero y h = inl (refl, same_Some x y h)
 push_cases [] x (suc i) y h = absurd (none-some y h)
 push_cases (z ∷ xs) x zero y h = inr h
 push_cases (z ∷ xs) x (suc i) y h = elim (push_cases xs x i y h) [ inl w ↦ inl (ap suc w.0, w.1) | inr g ↦ inr g ]
 
-pub push_keeps : (xs : List ℕ) (x i y : ℕ) → slice_get xs i ≡ Some y → slice_get (xs ++ x ∷ []) i ≡ Some y
+pub push_keeps : (xs : List ℕ) (x i y : ℕ) → slice_get xs i ≡ Some y
+    → slice_get (xs ++ x ∷ []) i ≡ Some y
 push_keeps [] x i y h = absurd (none-some y h)
 push_keeps (z ∷ xs) x zero y h = h
 push_keeps (z ∷ xs) x (suc i) y h = push_keeps xs x i y h
 
-take_get : (xs : List ℕ) (n i y : ℕ) → slice_get (take n xs) i ≡ Some y → (i < n) × (slice_get xs i ≡ Some y)
+take_get : (xs : List ℕ) (n i y : ℕ) → slice_get (take n xs) i ≡ Some y → (i < n)
+    × (slice_get xs i ≡ Some y)
 take_get [] zero i y h = absurd (none-some y h)
 take_get [] (suc n) i y h = absurd (none-some y h)
 take_get (x ∷ xs) zero i y h = absurd (none-some y h)
 take_get (x ∷ xs) (suc n) zero y h = (omega arith, h)
-take_get (x ∷ xs) (suc n) (suc i) y h = let w = take_get xs n i y h in (let low = w.0 in omega arith, w.1)
+take_get (x ∷ xs) (suc n) (suc i) y h = let w = take_get xs n i y h in (omega arith, w.1)
 
-get_take : (xs : List ℕ) (n i y : ℕ) → i < n → slice_get xs i ≡ Some y → slice_get (take n xs) i ≡ Some y
+get_take : (xs : List ℕ) (n i y : ℕ) → i < n → slice_get xs i ≡ Some y
+    → slice_get (take n xs) i ≡ Some y
 get_take [] n i y low h = absurd (none-some y h)
 get_take (x ∷ xs) zero i y low h = absurd (let wrong : ⊥ = omega arith in wrong)
 get_take (x ∷ xs) (suc n) zero y low h = h
@@ -63,23 +65,18 @@ set_other (y ∷ xs) (suc k) x zero apart = refl
 set_other (y ∷ xs) (suc k) x (suc i) apart = set_other xs k x i (λ e. apart (ap suc e))
 
 module _ (xs : List ℕ) (k : ℕ) where
-  swap_cases : k < length xs → (i y : ℕ) → slice_get (swap_remove xs k 0) i ≡ Some y →
-      (i < length xs - 1) × (((i ≡ k) × (get_or xs (length xs - 1) 0 ≡ y)) ⊎ ((i ≢ k) × (slice_get xs i ≡ Some y)))
-  swap_cases low i y h =
-      let last = get_or xs (length xs - 1) 0 in
-      let w = take_get (set xs k last) (length xs - 1) i y h in (
-        w.0,
-        elim (cases_eq i k) [
-          | inl e ↦ inl (e, same_Some last y (sym (set_here xs k last low) ∙ ap (slice_get (set xs k last)) (sym e) ∙ w.1))
-          | inr apart ↦ inr (apart, sym (set_other xs k last i apart) ∙ w.1)
-        ],
-      )
+  swap_cases : k < length xs → (i y : ℕ) → slice_get (swap_remove xs k 0) i ≡ Some y
+      → (i < length xs - 1) × (((i ≡ k) × (get_or xs (length xs - 1) 0 ≡ y)) ⊎
+      ((i ≢ k) × (slice_get xs i ≡ Some y)))
+  swap_cases low i y h = grind (arith, take_get, set_here, set_other)
 
-  swap_here : k < length xs - 1 → slice_get (swap_remove xs k 0) k ≡ Some (get_or xs (length xs - 1) 0)
+  swap_here : k < length xs - 1 → slice_get (swap_remove xs k 0) k
+      ≡ Some (get_or xs (length xs - 1) 0)
   swap_here low = get_take (set xs k (get_or xs (length xs - 1) 0)) (length xs - 1) k _ low (set_here xs k _ (omega arith))
 
-  swap_other : (i y : ℕ) → i ≢ k → i < length xs - 1 → slice_get xs i ≡ Some y → slice_get (swap_remove xs k 0) i ≡ Some y
-  swap_other i y apart low h = get_take (set xs k (get_or xs (length xs - 1) 0)) (length xs - 1) i y low (set_other xs k _ i apart ∙ h)
+  swap_other : (i y : ℕ) → i ≢ k → i < length xs - 1 → slice_get xs i ≡ Some y
+      → slice_get (swap_remove xs k 0) i ≡ Some y
+  swap_other i y apart low h = grind (arith, get_take, set_other)
 
 -- what was put at the end and is taken out from there
 back_to : (xs : List ℕ) (x y : ℕ) → take (length xs) (set (xs ++ x ∷ []) (length xs) y) ≡ xs
@@ -89,20 +86,13 @@ back_to (z ∷ xs) x y = ap (λ ys. z ∷ ys) (back_to xs x y)
 pub push_taken : (xs : List ℕ) (x : ℕ) → swap_remove (xs ++ x ∷ []) (length xs) 0 ≡ xs
 push_taken xs x =
     let longer = length_push xs x in
-    let last : length (xs ++ x ∷ []) - 1 ≡ length xs = omega arith in
-    ap (λ n. take n (set (xs ++ x ∷ []) (length xs) (get_or (xs ++ x ∷ []) n 0))) last ∙ back_to xs x _
+    let last : length (xs ++ x ∷ []) - 1 ≡ length xs = omega arith in grind (arith, back_to)
 
-pub undone : (before pushed left : ℕ → List ℕ) (hash x place : ℕ) → ((h : ℕ) → pushed h ≡ (if eqb h hash then before h ++ x ∷ [] else before h)) →
-    ((h : ℕ) → left h ≡ (if eqb h hash then swap_remove (pushed h) place 0 else pushed h)) → place ≡ length (before hash) → (h : ℕ) → left h ≡ before h
-undone before pushed left hash x place pushes takes at_end h = elim (cases_eq h hash) [
-  | inl is ↦
-      takes h ∙ ap (λ b. if b then swap_remove (pushed h) place 0 else pushed h) (eq-eqb h hash is)
-      ∙ ap (λ xs. swap_remove xs place 0) (pushes h ∙ ap (λ b. if b then before h ++ x ∷ [] else before h) (eq-eqb h hash is))
-      ∙ ap (λ n. swap_remove (before h ++ x ∷ []) n 0) (at_end ∙ ap (λ g. length (before g)) (sym is)) ∙ push_taken (before h) x
-  | inr apart ↦
-      takes h ∙ ap (λ b. if b then swap_remove (pushed h) place 0 else pushed h) (ne_eqb h hash apart)
-      ∙ pushes h ∙ ap (λ b. if b then before h ++ x ∷ [] else before h) (ne_eqb h hash apart)
-]
+pub undone : (before pushed left : ℕ → List ℕ) (hash x place : ℕ)
+    → ((h : ℕ) → pushed h ≡ (if eqb h hash then before h ++ x ∷ [] else before h))
+    → ((h : ℕ) → left h ≡ (if eqb h hash then swap_remove (pushed h) place 0 else pushed h))
+    → place ≡ length (before hash) → (h : ℕ) → left h ≡ before h
+undone before pushed left hash x place pushes takes at_end h = grind (arith, push_taken)
 
 -- ---- Changes
 
@@ -116,10 +106,7 @@ module _ (spots : ℕ → Option (ℕ × ℕ)) (buckets : ℕ → List ℕ) (k h
   place_within = slice_get_within (buckets hash) place k at_place
 
   pub at_end : slice_get (buckets hash) (length (buckets hash) - 1) ≡ Some m
-  at_end = let low = place_within in slice_get_read (buckets hash) (length (buckets hash)) (length (buckets hash) - 1) m refl (omega arith) (m_is ∙ default_end)
-    where
-      default_end : get_or (buckets hash) (length (buckets hash) - 1) 0 ≡ get_or (buckets hash) (length (buckets hash) - 1) m
-      default_end = let low = place_within in grind (arith, common_steps)
+  at_end = search (rules, place_within, slice_get_read)
 
   pub spot_end : spots m ≡ spot hash (length (buckets hash) - 1)
   spot_end = placed.back m hash (length (buckets hash) - 1) at_end
@@ -129,74 +116,48 @@ module _ (spots after : ℕ → Option (ℕ × ℕ)) (buckets left : ℕ → Lis
       (spots_are : (s : ℕ) → after s ≡ (if eqb s k then Some (hash, length (buckets hash)) else spots s))
       (buckets_are : (h : ℕ) → left h ≡ (if eqb h hash then buckets h ++ k ∷ [] else buckets h)) where
     spot_here : after k ≡ Some (hash, length (buckets hash))
-    spot_here = spots_are k ∙ ap (λ b. if b then Some (hash, length (buckets hash)) else spots k) (eq-eqb k k refl)
+    spot_here = grind arith
 
     spot_other : (s : ℕ) → s ≢ k → after s ≡ spots s
-    spot_other s apart = spots_are s ∙ ap (λ b. if b then Some (hash, length (buckets hash)) else spots s) (ne_eqb s k apart)
-
-    bucket_here : left hash ≡ buckets hash ++ k ∷ []
-    bucket_here = buckets_are hash ∙ ap (λ b. if b then buckets hash ++ k ∷ [] else buckets hash) (eq-eqb hash hash refl)
+    spot_other s apart = grind arith
 
     bucket_other : (h : ℕ) → h ≢ hash → left h ≡ buckets h
-    bucket_other h apart = buckets_are h ∙ ap (λ b. if b then buckets h ++ k ∷ [] else buckets h) (ne_eqb h hash apart)
-
-    not_new : (s h i : ℕ) → spots s ≡ Some (h, i) → s ≢ k
-    not_new s h i is e = none-some (h, i) (sym new ∙ ap spots (sym e) ∙ is)
+    bucket_other h apart = grind arith
 
     pub placed_with : IsIndexed after left
     placed_with = record {
       there = λ s h i is. elim (cases_eq s k) [
         | inl e ↦
-            let pair = sym spot_here ∙ ap after (sym e) ∙ is in
-            let hash_is = same_hash hash (length (buckets hash)) h i pair in
-            let place_is = same_place hash (length (buckets hash)) h i pair in
-            ap (λ x. slice_get (left x) i) (sym hash_is) ∙ ap (λ xs. slice_get xs i) bucket_here ∙ ap (slice_get (buckets hash ++ k ∷ [])) (sym place_is) ∙ push_end (buckets hash) k ∙ ap Some (sym e)
+            grind (arith, push_end)
         | inr apart ↦
             let was = placed.there s h i (sym (spot_other s apart) ∙ is) in
-            elim (cases_eq h hash) [
-              | inl e ↦ ap (λ x. slice_get (left x) i) e ∙ ap (λ xs. slice_get xs i) bucket_here ∙ push_keeps (buckets hash) k i s (ap (λ x. slice_get (buckets x) i) (sym e) ∙ was)
-              | inr other ↦ ap (λ xs. slice_get xs i) (bucket_other h other) ∙ was
-            ]
+            grind (arith, push_keeps)
       ];
-      back = λ s h i is. elim (cases_eq h hash) [
-        | inl e ↦ elim (push_cases (buckets hash) k i s (ap (λ xs. slice_get xs i) (sym bucket_here) ∙ ap (λ x. slice_get (left x) i) (sym e) ∙ is)) [
-          | inl w ↦ ap after (sym w.1) ∙ spot_here ∙ ap (λ n. Some (hash, n)) (sym w.0) ∙ ap (λ x. Some (x, i)) (sym e)
-          | inr g ↦
-              let was = placed.back s hash i g in
-              spot_other s (not_new s hash i was) ∙ was ∙ ap (λ x. Some (x, i)) (sym e)
-        ]
-        | inr other ↦
-            let was = placed.back s h i (ap (λ xs. slice_get xs i) (sym (bucket_other h other)) ∙ is) in
-            spot_other s (not_new s h i was) ∙ was
-      ];
+      back = grind (arith, push_cases, spot_here, spot_other, bucket_other);
     }
 
   module _ (place m : ℕ) (old : spots k ≡ Some (hash, place)) (m_is : m ≡ get_or (buckets hash) (length (buckets hash) - 1) 0)
       (spots_are : (s : ℕ) → after s ≡ (if eqb s k then None else (if eqb s m then Some (hash, place) else spots s)))
       (buckets_are : (h : ℕ) → left h ≡ (if eqb h hash then swap_remove (buckets h) place 0 else buckets h)) where
     gone : (s : ℕ) → s ≡ k → after s ≡ None
-    gone s e = spots_are s ∙ ap (λ b. if b then None else (if eqb s m then Some (hash, place) else spots s)) (eq-eqb s k e)
+    gone s e = cc (spots_are s, eq-eqb s k e)
 
     moved : (s : ℕ) → s ≢ k → s ≡ m → after s ≡ Some (hash, place)
-    moved s apart e = spots_are s ∙ ap (λ b. if b then None else (if eqb s m then Some (hash, place) else spots s)) (ne_eqb s k apart) ∙ ap (λ b. if b then Some (hash, place) else spots s) (eq-eqb s m e)
+    moved s apart e = grind arith
 
     stays : (s : ℕ) → s ≢ k → s ≢ m → after s ≡ spots s
-    stays s apart other = spots_are s ∙ ap (λ b. if b then None else (if eqb s m then Some (hash, place) else spots s)) (ne_eqb s k apart) ∙ ap (λ b. if b then Some (hash, place) else spots s) (ne_eqb s m other)
-
-    rest_here : left hash ≡ swap_remove (buckets hash) place 0
-    rest_here = buckets_are hash ∙ ap (λ b. if b then swap_remove (buckets hash) place 0 else buckets hash) (eq-eqb hash hash refl)
+    stays s apart other = grind arith
 
     rest_other : (h : ℕ) → h ≢ hash → left h ≡ buckets h
-    rest_other h apart = buckets_are h ∙ ap (λ b. if b then swap_remove (buckets h) place 0 else buckets h) (ne_eqb h hash apart)
+    rest_other h apart = grind arith
 
     -- a slot that is neither taken out nor moved stands elsewhere
     elsewhere : (s i : ℕ) → slice_get (buckets hash) i ≡ Some s → i ≢ place → s ≢ k
-    elsewhere s i is apart e = apart (same_place hash i hash place (sym (placed.back s hash i is) ∙ ap spots e ∙ old))
+    elsewhere s i is apart e = grind arith
 
     not_last : (s i : ℕ) → slice_get (buckets hash) i ≡ Some s → i < length (buckets hash) - 1 → s ≢ m
     not_last s i is low e =
-        let same = same_place hash i hash (length (buckets hash) - 1) (sym (placed.back s hash i is) ∙ ap spots e ∙ (spot_end spots buckets k hash placed place m old m_is)) in
-        absurd (let wrong : ⊥ = omega arith in wrong)
+        grind (arith, same_place hash i hash (length (buckets hash) - 1) (sym (placed.back s hash i is) ∙ ap spots e ∙ (spot_end spots buckets k hash placed place m old m_is)))
 
     pub placed_without : IsIndexed after left
     placed_without = record {
@@ -205,42 +166,33 @@ module _ (spots after : ℕ → Option (ℕ × ℕ)) (buckets left : ℕ → Lis
         | inr apart ↦ elim (cases_eq s m) [
           | inl e ↦
               let pair = sym (moved s apart e) ∙ is in
-              let hash_is = same_hash hash place h i pair in
-              let place_is = same_place hash place h i pair in
               let inside = (place_within spots buckets k hash placed place m old m_is) in
-              let below : place ≢ length (buckets hash) - 1 = λ last. apart (e ∙ same_Some m k (sym (at_end spots buckets k hash placed place m old m_is) ∙ ap (slice_get (buckets hash)) (sym last) ∙ (at_place spots buckets k hash placed place m old m_is))) in
-              let low : place < length (buckets hash) - 1 = omega arith in
-              ap (λ x. slice_get (left x) i) (sym hash_is) ∙ ap (slice_get (left hash)) (sym place_is) ∙ ap (λ xs. slice_get xs place) rest_here
-              ∙ swap_here (buckets hash) place low ∙ ap Some (sym m_is ∙ sym e)
+              let below : place ≢ length (buckets hash) - 1 = λ last. apart (e ∙ same_Some m k (cc (at_end spots buckets k hash placed place m old m_is, at_place spots buckets k hash placed place m old m_is))) in
+              grind (arith, swap_here)
           | inr other ↦
               let was = placed.there s h i (sym (stays s apart other) ∙ is) in
               elim (cases_eq h hash) [
                 | inl e ↦
-                    let here : slice_get (buckets hash) i ≡ Some s = ap (λ x. slice_get (buckets x) i) (sym e) ∙ was in
-                    let ne_place : i ≢ place = λ same. apart (same_Some s k (sym here ∙ ap (slice_get (buckets hash)) same ∙ (at_place spots buckets k hash placed place m old m_is))) in
-                    let ne_end : i ≢ length (buckets hash) - 1 = λ same. other (same_Some s m (sym here ∙ ap (slice_get (buckets hash)) same ∙ (at_end spots buckets k hash placed place m old m_is))) in
-                    let inside = slice_get_within (buckets hash) i s here in
-                    ap (λ x. slice_get (left x) i) e ∙ ap (λ xs. slice_get xs i) rest_here ∙ swap_other (buckets hash) place i s ne_place (omega arith) here
-                | inr far ↦ ap (λ xs. slice_get xs i) (rest_other h far) ∙ was
+                    let ne_end : i ≢ length (buckets hash) - 1 = λ same. other (same_Some s m (cc (at_end spots buckets k hash placed place m old m_is))) in
+                    grind (arith, slice_get_within, swap_other)
+                | inr far ↦ cc (rest_other h far)
               ]
         ]
       ];
       back = λ s h i is. elim (cases_eq h hash) [
         | inl e ↦
-            let w = swap_cases (buckets hash) place (place_within spots buckets k hash placed place m old m_is) i s (ap (λ xs. slice_get xs i) (sym rest_here) ∙ ap (λ x. slice_get (left x) i) (sym e) ∙ is) in
-            let low : i < length (buckets hash) - 1 = w.0 in
+            let w = swap_cases (buckets hash) place (place_within spots buckets k hash placed place m old m_is) i s (grind arith) in
             elim w.1 [
               | inl v ↦
                   let s_is : s ≡ m = sym v.1 ∙ sym m_is in
-                  let place_is : i ≡ place = v.0 in
-                  let ne : s ≢ k = λ same. not_last k place (at_place spots buckets k hash placed place m old m_is) (subst (λ x. x < length (buckets hash) - 1) place_is low) (sym same ∙ s_is) in
-                  moved s ne s_is ∙ ap (λ n. Some (hash, n)) (sym v.0) ∙ ap (λ x. Some (x, i)) (sym e)
-              | inr v ↦ stays s (elsewhere s i v.1 v.0) (not_last s i v.1 low) ∙ placed.back s hash i v.1 ∙ ap (λ x. Some (x, i)) (sym e)
+                  let ne : s ≢ k = λ same. not_last k place (at_place spots buckets k hash placed place m old m_is) (grind arith) (sym same ∙ s_is) in
+                  cc (moved s ne s_is)
+              | inr v ↦ grind (arith, stays, not_last)
             ]
         | inr far ↦
-            let was = placed.back s h i (ap (λ xs. slice_get xs i) (sym (rest_other h far)) ∙ is) in
-            let ne_k : s ≢ k = λ e. far (same_hash h i hash place (sym was ∙ ap spots e ∙ old)) in
-            let ne_m : s ≢ m = λ e. far (same_hash h i hash (length (buckets hash) - 1) (sym was ∙ ap spots e ∙ (spot_end spots buckets k hash placed place m old m_is))) in
+            let was = placed.back s h i (cc (rest_other h far)) in
+            let ne_k : s ≢ k = grind arith in
+            let ne_m : s ≢ m = λ e. far (same_hash h i hash (length (buckets hash) - 1) (cc (spot_end spots buckets k hash placed place m old m_is))) in
             stays s ne_k ne_m ∙ was
       ];
     }

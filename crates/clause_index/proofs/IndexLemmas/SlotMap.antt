@@ -1,13 +1,20 @@
 -- Slots by hashes in entries, through a change.
-use Rattle.std.proofs.Common.{◌≡◌, ◌≢◌, ℕ, suc, zero, ◌+◌, ◌-◌, ◌<◌, ◌≤◌, Bool, true, false, if◌then◌else◌, eqb, eqb-true, eq-eqb, ne_eqb, ◌&&◌, not, nat_lt, nat_le, count_by, replicate}
-use Rattle.std.proofs.Common.{Option, Some, None, is_some, List, [], ◌∷◌, length, get_or, set, take, add-one, refl, sym, ap, ◌∙◌, subst, arith, inl, inr}
-use Rattle.std.proofs.lemmas.Bool.{true≢false, cases_eq, cases_order, and_parts, and_from, or_cases, or_left, or_right, false_from_ne_true, not-true}
+use Rattle.std.proofs.Common.{◌≡◌, ◌≢◌, ℕ, suc, zero, ◌+◌, ◌-◌, ◌<◌, ◌≤◌, Bool, true, false}
+use Rattle.std.proofs.Common.{if◌then◌else◌, eqb, eqb-true, eq-eqb, ne_eqb, not, nat_lt, nat_le}
+use Rattle.std.proofs.Common.{count_by, replicate, Some, None, is_some, List, [], ◌∷◌, length}
+use Rattle.std.proofs.Common.{get_or, set, take, add-one, refl, sym, ap, ◌∙◌, subst, arith, inl}
+use Rattle.std.proofs.Common.{inr}
+use Rattle.std.proofs.lemmas.Bool.{cases_eq, cases_order, and_parts, and_from, or_cases}
+use Rattle.std.proofs.lemmas.Bool.{false_from_ne_true}
 use Rattle.std.proofs.lemmas.Bool.Decides.{nat_tests}
-use Rattle.std.proofs.lemmas.List.{length-set, get_or-set_same, get_or-set_other, get_or-replicate, get_or-take, get_or_default, length-replicate, length-take}
+use Rattle.std.proofs.lemmas.List.{length-set, get_or-set_same, get_or-set_other, get_or-replicate}
+use Rattle.std.proofs.lemmas.List.{get_or-take, get_or_default, length-replicate, length-take}
 use Rattle.std.proofs.lemmas.List.Sums.{sum_by-cons, sum_by-set}
 use Rattle.std.proofs.lemmas.Nat.{and_le_r}
 use Rattle.clause_index.specs.declared.slot_map.Entry.{Entry}
-use Rattle.clause_index.specs.Code.Entries.{home, spot, steps_to, is_taken, is_free, is_used, is_of, is_end, entry_at, next_of, slot_among, IsEnd, AreReached, AreApart, HasAt}
+use Rattle.clause_index.specs.Code.Entries.{home, spot, steps_to, is_taken, is_free, is_used, is_of}
+use Rattle.clause_index.specs.Code.Entries.{is_end, entry_at, next_of, slot_among, IsEnd}
+use Rattle.clause_index.specs.Code.Entries.{AreReached, AreApart, HasAt}
 
 -- ---- Steps
 
@@ -29,17 +36,9 @@ module _ (len at : ℕ) (inside : at < len) where
   pub near_far : (p : ℕ) → p < len → near (far p) ≡ p
   near_far p low = grind (arith, nat_tests)
 
-  pub far_near : (i : ℕ) → i < len → far (near i) ≡ i
-  far_near i low = grind (arith, nat_tests)
-
-  pub near_below : (i : ℕ) → i < len → near i < len
-  near_below i low = grind (arith, nat_tests)
-
-  pub far_next : (p : ℕ) → p < len → far p + 1 < len → far (if nat_lt (p + 1) len then p + 1 else 0) ≡ far p + 1
+  pub far_next : (p : ℕ) → p < len → far p + 1 < len
+      → far (if nat_lt (p + 1) len then p + 1 else 0) ≡ far p + 1
   far_next p low more = grind (arith, nat_tests)
-
-  pub far_injective : (p q : ℕ) → p < len → q < len → far p ≡ far q → p ≡ q
-  far_injective p q low_p low_q same = sym (near_far p low_p) ∙ ap near same ∙ near_far q low_q
 
 next_below : (len p : ℕ) → p < len → next_of len p < len
 next_below len p low = grind (arith, nat_tests)
@@ -56,13 +55,13 @@ pub of_from : (h : ℕ) (e : Entry) → is_taken e ≡ true → e.hash ≡ h →
 of_from h e taken same = and_from (is_taken e) (eqb e.hash h) taken (eq-eqb e.hash h same)
 
 pub free_not_taken : (e : Entry) → is_free e ≡ true → is_taken e ≡ true → ⊥
-free_not_taken e free taken = true≢false (sym (and_parts (eqb e.slot 4294967295) (eqb e.hash 0) free).0 ∙ not-true (eqb e.slot 4294967295) taken)
+free_not_taken e free taken = grind arith
 
 pub taken_not_free : (e : Entry) → is_taken e ≡ true → is_free e ≡ false
 taken_not_free e taken = false_from_ne_true (is_free e) (λ free. free_not_taken e free taken)
 
 pub end_free : (h : ℕ) (e : Entry) → e.slot ≡ 4294967295 → e.hash ≡ 0 → is_end h e ≡ true
-end_free h e no_slot none = or_left (is_free e) (is_of h e) (and_from (eqb e.slot 4294967295) (eqb e.hash 0) (eq-eqb e.slot 4294967295 no_slot) (eq-eqb e.hash 0 none))
+end_free h e no_slot none = grind arith
 
 pub taken_from : (e : Entry) → e.slot ≢ 4294967295 → is_taken e ≡ true
 taken_from e slot = ap not (ne_eqb e.slot 4294967295 slot)
@@ -71,7 +70,7 @@ pub vacant_from : (e : Entry) → e.slot ≡ 4294967295 → is_taken e ≡ false
 vacant_from e none = ap not (eq-eqb e.slot 4294967295 none)
 
 pub end_of : (h : ℕ) (e : Entry) → e.slot ≢ 4294967295 → e.hash ≡ h → is_end h e ≡ true
-end_of h e slot same = or_right (is_free e) (is_of h e) (of_from h e (taken_from e slot) same)
+end_of h e slot same = grind arith
 
 pub end_not_of : (g h : ℕ) (e : Entry) → g ≢ h → is_end h e ≡ true → is_of g e ≡ false
 end_not_of g h e apart end = false_from_ne_true (is_of g e) (λ of. elim (or_cases (is_free e) (is_of h e) end) [
@@ -80,38 +79,39 @@ end_not_of g h e apart end = false_from_ne_true (is_of g e) (λ of. elim (or_cas
 ])
 
 pub not_end : (h : ℕ) (e : Entry) → is_end h e ≡ false → (is_free e ≡ false) × (is_of h e ≡ false)
-not_end h e past = (
-  false_from_ne_true (is_free e) (λ free. true≢false (sym (or_left (is_free e) (is_of h e) free) ∙ past)),
-  false_from_ne_true (is_of h e) (λ of. true≢false (sym (or_right (is_free e) (is_of h e) of) ∙ past)),
-)
+not_end h e past = (grind arith, false_from_ne_true (is_of h e) (λ of. grind arith))
 
 -- ---- The slot among entries
 
-pub slot_none : (es : List Entry) (h : ℕ) → ((p : ℕ) → p < length es → is_of h (entry_at es p) ≡ false) → slot_among es h ≡ None
+pub slot_none : (es : List Entry) (h : ℕ)
+    → ((p : ℕ) → p < length es → is_of h (entry_at es p) ≡ false) → slot_among es h ≡ None
 slot_none [] h none = refl
 slot_none (e ∷ es) h none =
-    ap (λ b. if b then Some e.slot else slot_among es h) (none 0 (omega arith))
-    ∙ slot_none es h (λ p low. none (suc p) (omega arith))
+    cc (none 0 (omega arith), slot_none es h (λ p low. none (suc p) (omega arith)))
 
-pub slot_there : (es : List Entry) (h p : ℕ) → AreApart es → p < length es → is_of h (entry_at es p) ≡ true → slot_among es h ≡ Some (entry_at es p).slot
+pub slot_there : (es : List Entry) (h p : ℕ) → AreApart es → p < length es
+    → is_of h (entry_at es p) ≡ true → slot_among es h ≡ Some (entry_at es p).slot
 slot_there [] h p apart low of = absurd (let wrong : ⊥ = omega arith in wrong)
-slot_there (e ∷ es) h zero apart low of = ap (λ b. if b then Some e.slot else slot_among es h) of
+slot_there (e ∷ es) h zero apart low of = cc
 slot_there (e ∷ es) h (suc p) apart low of =
     ap (λ b. if b then Some e.slot else slot_among es h) first
-    ∙ slot_there es h p (λ g x y in_x in_y of_x of_y. let e : suc x ≡ suc y = apart g (suc x) (suc y) (omega arith) (omega arith) of_x of_y in omega arith) (omega arith) of
+    ∙ slot_there es h p (λ g x y in_x in_y of_x of_y. let e : suc x ≡ suc y =
+    apart g (suc x) (suc y) (omega arith) (omega arith) of_x of_y in omega arith) (omega arith) of
   where
     first : is_of h e ≡ false
-    first = false_from_ne_true (is_of h e) (λ here. let wrong : 0 ≡ suc p = apart h 0 (suc p) (omega arith) low here of in absurd (let never : ⊥ = omega arith in never))
+    first = false_from_ne_true (is_of h e) (λ here. grind (arith, apart h 0 (suc p) (omega arith) low here of))
 
-pub slot_set_other : (es : List Entry) (h p : ℕ) (e : Entry) → p < length es → is_of h (entry_at es p) ≡ false → is_of h e ≡ false → slot_among (set es p e) h ≡ slot_among es h
+pub slot_set_other : (es : List Entry) (h p : ℕ) (e : Entry) → p < length es
+    → is_of h (entry_at es p) ≡ false → is_of h e ≡ false
+    → slot_among (set es p e) h ≡ slot_among es h
 slot_set_other [] h p e low was is = absurd (let wrong : ⊥ = omega arith in wrong)
-slot_set_other (f ∷ es) h zero e low was is =
-    ap (λ b. if b then Some e.slot else slot_among es h) is ∙ sym (ap (λ b. if b then Some f.slot else slot_among es h) was)
-slot_set_other (f ∷ es) h (suc p) e low was is = ap (λ o. if is_of h f then Some f.slot else o) (slot_set_other es h p e (omega arith) was is)
+slot_set_other (f ∷ es) h zero e low was is = cc
+slot_set_other (f ∷ es) h (suc p) e low was is = cc (slot_set_other es h p e (omega arith) was is)
 
 -- ---- What the code reads
 
-pub entry_read : (es : List Entry) (p : ℕ) (x : Entry) → p < length es → x ≡ get_or es p x → x ≡ entry_at es p
+pub entry_read : (es : List Entry) (p : ℕ) (x : Entry) → p < length es → x ≡ get_or es p x
+    → x ≡ entry_at es p
 entry_read es p x low is = is ∙ get_or_default es p x _ low
 
 -- ---- Where a search ends
@@ -124,28 +124,30 @@ abbrev ApartIn : ℕ → List Entry → Type 0
 ApartIn n es = (h p q : ℕ) → p < n → q < n → is_of h (entry_at es p) ≡ true → is_of h (entry_at es q) ≡ true → p ≡ q
 
 steps_injective : (len h p q : ℕ) → p < len → q < len → steps_to len h p ≡ steps_to len h q → p ≡ q
-steps_injective len h p q low_p low_q = far_injective len (home len h) (home_inside len h (omega arith)) p q low_p low_q
+steps_injective len h p q low_p low_q = grind arith
 
 -- the first place in the search at which it may end is where it does
-pub first_end : (es : List Entry) (h i : ℕ) → i < length es → ((k : ℕ) → k < i → is_end h (entry_at es (spot (length es) h k)) ≡ false) →
-    (p : ℕ) → p ≡ spot (length es) h i → is_end h (entry_at es p) ≡ true → IsEnd es h p
+pub first_end : (es : List Entry) (h i : ℕ) → i < length es
+    → ((k : ℕ) → k < i → is_end h (entry_at es (spot (length es) h k)) ≡ false) → (p : ℕ)
+    → p ≡ spot (length es) h i → is_end h (entry_at es p) ≡ true → IsEnd es h p
 first_end es h i low before p is end =
     let len = length es in
     let inside = home_inside len h (omega arith) in
-    let steps : steps_to len h p ≡ i = ap (steps_to len h) is ∙ far_near len (home len h) inside i low in record {
-      inside = subst (λ x. x < len) (sym is) (near_below len (home len h) inside i low);
+    let steps : steps_to len h p ≡ i = grind arith in record {
+      inside = grind arith;
       ends = end;
-      first = λ q low_q less. ap (λ x. is_end h (entry_at es x)) (sym (near_far len (home len h) inside q low_q)) ∙ before (steps_to len h q) (subst (λ x. steps_to len h q < x) steps less);
+      first = λ q low_q less. cc (near_far len (home len h) inside q low_q, before (steps_to len h q) (subst (λ x. steps_to len h q < x) steps less));
     }
 
 -- a search that has come to each place has met each entry
-pub no_end : (es : List Entry) (h i : ℕ) → length es ≤ i → ((k : ℕ) → k < i → is_end h (entry_at es (spot (length es) h k)) ≡ false) →
-    (p : ℕ) → p < length es → is_end h (entry_at es p) ≡ false
+pub no_end : (es : List Entry) (h i : ℕ) → length es ≤ i
+    → ((k : ℕ) → k < i → is_end h (entry_at es (spot (length es) h k)) ≡ false) → (p : ℕ)
+    → p < length es → is_end h (entry_at es p) ≡ false
 no_end es h i all before p low =
     let len = length es in
     let inside = home_inside len h (omega arith) in
     let less = far_below len (home len h) inside p low in
-    ap (λ x. is_end h (entry_at es x)) (sym (near_far len (home len h) inside p low)) ∙ before (steps_to len h p) (omega arith)
+    cc (near_far len (home len h) inside p low, before (steps_to len h p) (omega arith))
 
 module _ (es : List Entry) (reached : AreReached es) (apart : AreApart es) where
   module _ (h p : ℕ) (end : IsEnd es h p) where
@@ -154,17 +156,13 @@ module _ (es : List Entry) (reached : AreReached es) (apart : AreApart es) where
       | inr here ↦ apart h q p low end.inside of here
       | inl free ↦ elim (cases_order (steps_to (length es) h q) (steps_to (length es) h p)) [
         | inl same ↦ steps_injective (length es) h q p low end.inside same
-        | inr apart ↦ elim apart [
-          | inl before ↦ absurd (true≢false (sym of ∙ (not_end h (entry_at es q) (end.first q low before)).1))
-          | inr after ↦ absurd (true≢false (sym free ∙ reached q p low end.inside (of_taken h (entry_at es q) of)
-              (subst (λ g. steps_to (length es) g p < steps_to (length es) g q) (sym (of_hash h (entry_at es q) of)) after)))
-        ]
+        | inr apart ↦ grind (arith, of_hash)
       ]
     ]
 
     pub found_none : is_taken (entry_at es p) ≡ false → slot_among es h ≡ None
     found_none vacant = slot_none es h (λ q low. false_from_ne_true (is_of h (entry_at es q)) (λ of.
-        true≢false (sym (of_taken h (entry_at es q) of) ∙ ap (λ x. is_taken (entry_at es x)) (only_of q low of) ∙ vacant)))
+        grind (arith, only_of)))
 
     -- ---- A slot that is put in
 
@@ -182,53 +180,37 @@ module _ (es : List Entry) (reached : AreReached es) (apart : AreApart es) where
       same q ne = get_or-set_other es p q new _ ne
 
       here : (q : ℕ) → q ≡ p → entry_at after q ≡ new
-      here q is = ap (entry_at after) is ∙ get_or-set_same es p new _ end.inside
+      here q is = grind (arith, get_or-set_same)
 
       put_reached_in : ReachedIn (length es) after
       put_reached_in a q low_a low_q taken less = elim (cases_eq q p) [
         | inl at ↦ ap is_free (here q at) ∙ taken_not_free new new_taken
-        | inr off ↦ elim (cases_eq a p) [
-          | inl at ↦ ap is_free (same q off) ∙ (not_end h (entry_at es q) (end.first q low_q
-              (subst (λ x. steps_to (length es) h q < steps_to (length es) h x) at
-              (subst (λ (e : Entry). steps_to (length es) e.hash q < steps_to (length es) e.hash a) (here a at) less)))).0
-          | inr away ↦ ap is_free (same q off) ∙ reached a q low_a low_q (sym (ap is_taken (same a away)) ∙ taken)
-              (subst (λ (e : Entry). steps_to (length es) e.hash q < steps_to (length es) e.hash a) (same a away) less)
-        ]
+        | inr off ↦ grind (arith, same, here)
       ]
 
       pub put_reached : AreReached after
-      put_reached = subst (λ n. ReachedIn n after) (sym (length-set es p new)) put_reached_in
+      put_reached = grind (arith, length-set, put_reached_in)
 
       -- an entry that then has the slot of a hash is the new one, or had it before
       put_only : (g q : ℕ) → q < length es → is_of g (entry_at after q) ≡ true → g ≡ h → q ≡ p
-      put_only g q low_q of is = elim (cases_eq q p) [
-        | inl at ↦ at
-        | inr off ↦ only_of q low_q (ap (λ x. is_of x (entry_at es q)) (sym is) ∙ sym (ap (is_of g) (same q off)) ∙ of)
-      ]
+      put_only g q low_q of is = grind (arith, only_of, same)
 
       put_apart_in : ApartIn (length es) after
-      put_apart_in g a b low_a low_b of_a of_b = elim (cases_eq g h) [
-        | inl is ↦ put_only g a low_a of_a is ∙ sym (put_only g b low_b of_b is)
-        | inr ne ↦ apart g a b low_a low_b (was g a ne of_a) (was g b ne of_b)
-      ]
+      put_apart_in g a b low_a low_b of_a of_b = grind (arith, put_only, was)
         where
-          was : (g a : ℕ) → g ≢ h → is_of g (entry_at after a) ≡ true → is_of g (entry_at es a) ≡ true
-          was g a ne of = elim (cases_eq a p) [
-            | inl at ↦ absurd (ne (sym (of_hash g new (sym (ap (is_of g) (here a at)) ∙ of))))
-            | inr off ↦ sym (ap (is_of g) (same a off)) ∙ of
-          ]
+          was : (g a : ℕ) → g ≢ h → is_of g (entry_at after a) ≡ true
+              → is_of g (entry_at es a) ≡ true
+          was g a ne of = grind (arith, of_hash, here, same)
 
       pub put_apart : AreApart after
-      put_apart = subst (λ n. ApartIn n after) (sym (length-set es p new)) put_apart_in
+      put_apart = grind (arith, length-set, put_apart_in)
 
       pub put_slot : (g : ℕ) → slot_among after g ≡ (if eqb g h then Some s else slot_among es g)
       put_slot g = elim (cases_eq g h) [
         | inl is ↦
-            slot_there after g p put_apart (subst (λ n. p < n) (sym (length-set es p new)) end.inside) (ap (is_of g) (here p refl) ∙ of_from g new new_taken (sym is))
-            ∙ ap (λ (e : Entry). Some e.slot) (here p refl) ∙ sym (ap (λ b. if b then Some s else slot_among es g) (eq-eqb g h is))
+            cc (slot_there after g p put_apart (subst (λ n. p < n) (sym (length-set es p new)) end.inside) (ap (is_of g) (here p refl) ∙ of_from g new new_taken (sym is)), here p refl, eq-eqb g h is)
         | inr ne ↦
-            slot_set_other es g p new end.inside (end_not_of g h (entry_at es p) ne end.ends) (false_from_ne_true (is_of g new) (λ of. ne (sym (of_hash g new of))))
-            ∙ sym (ap (λ b. if b then Some s else slot_among es g) (ne_eqb g h ne))
+            cc (slot_set_other es g p new end.inside (end_not_of g h (entry_at es p) ne end.ends) (false_from_ne_true (is_of g new) (λ of. ne (sym (of_hash g new of)))), ne_eqb g h ne)
       ]
 
   -- the hash of an entry with a slot has that one
@@ -252,14 +234,14 @@ module _ (es : List Entry) (reached : AreReached es) (apart : AreApart es) where
     same_rest q ne = get_or-set_other es p q left _ ne
 
     here_rest : (q : ℕ) → q ≡ p → entry_at rest q ≡ left
-    here_rest q is = ap (entry_at rest) is ∙ get_or-set_same es p left _ inside
+    here_rest q is = grind (arith, get_or-set_same)
 
     -- an entry that then has a slot is another one, and had it before
     off_rest : (q : ℕ) → is_taken (entry_at rest q) ≡ true → q ≢ p
-    off_rest q taken at = true≢false (sym taken ∙ ap is_taken (here_rest q at) ∙ vacant)
+    off_rest q taken at = grind (arith, here_rest)
 
     was_of : (g q : ℕ) → is_of g (entry_at rest q) ≡ true → is_of g (entry_at es q) ≡ true
-    was_of g q now = sym (ap (is_of g) (same_rest q (off_rest q (of_taken g (entry_at rest q) now)))) ∙ now
+    was_of g q now = grind (arith, same_rest, off_rest)
 
     -- where the next entry is free, no search goes on past this one
     no_later : (a : ℕ) → a < length es → is_taken (entry_at es a) ≡ true → a ≢ p → is_free (entry_at es (next_of (length es) p)) ≡ true →
@@ -269,42 +251,22 @@ module _ (es : List Entry) (reached : AreReached es) (apart : AreApart es) where
         let g = (entry_at es a).hash in
         let within = home_inside len g (omega arith) in
         let bound = far_below len (home len g) within a low in
-        let step = far_next len (home len g) within p inside (omega arith) in
-        let low_next = next_below len p inside in
-        elim (cases_order (steps_to len g (next_of len p)) (steps_to len g a)) [
-          | inl same ↦ free_not_taken (entry_at es a) (ap (λ x. is_free (entry_at es x)) (sym (steps_injective len g (next_of len p) a low_next low same)) ∙ free) taken
-          | inr other ↦ elim other [
-            | inl before ↦ true≢false (sym free ∙ reached a (next_of len p) low low_next taken before)
-            | inr past ↦ let wrong : ⊥ = omega arith in wrong
-          ]
-        ]
+        grind (arith, far_next len (home len g) within p inside (omega arith), next_below len p inside)
 
     taken_reached_in : ReachedIn (length es) rest
-    taken_reached_in a q low_a low_q taken less =
-        let off = off_rest a taken in
-        let was = sym (ap is_taken (same_rest a off)) ∙ taken in
-        let shorter = subst (λ (e : Entry). steps_to (length es) e.hash q < steps_to (length es) e.hash a) (same_rest a off) less in
-        elim (cases_eq q p) [
-          | inl at ↦ false_from_ne_true (is_free (entry_at rest q)) (λ free. no_later a low_a was off
-              (next (sym (ap is_free (here_rest q at)) ∙ free)) (subst (λ x. steps_to (length es) (entry_at es a).hash x < steps_to (length es) (entry_at es a).hash a) at shorter))
-          | inr away ↦ ap is_free (same_rest q away) ∙ reached a q low_a low_q was shorter
-        ]
+    taken_reached_in a q low_a low_q taken less = grind (arith, same_rest, no_later, here_rest)
 
     pub taken_reached : AreReached rest
-    taken_reached = subst (λ n. ReachedIn n rest) (sym (length-set es p left)) taken_reached_in
+    taken_reached = grind (arith, length-set, taken_reached_in)
 
     pub taken_apart : AreApart rest
     taken_apart = subst (λ n. ApartIn n rest) (sym (length-set es p left)) (λ g a b low_a low_b of_a of_b. apart g a b low_a low_b (was_of g a of_a) (was_of g b of_b))
 
     pub taken_slot : (g : ℕ) → slot_among rest g ≡ (if eqb g h then None else slot_among es g)
     taken_slot g = elim (cases_eq g h) [
-      | inl is ↦ slot_none rest g (λ q low. false_from_ne_true (is_of g (entry_at rest q)) (λ now.
-          off_rest q (of_taken g (entry_at rest q) now) (apart g q p (subst (λ n. q < n) (length-set es p left) low) inside (was_of g q now) (ap (λ x. is_of x (entry_at es p)) is ∙ of))))
-          ∙ sym (ap (λ b. if b then None else slot_among es g) (eq-eqb g h is))
+      | inl is ↦ cc (slot_none rest g (λ q low. false_from_ne_true (is_of g (entry_at rest q)) (λ now. off_rest q (of_taken g (entry_at rest q) now) (apart g q p (subst (λ n. q < n) (length-set es p left) low) inside (was_of g q now) (ap (λ x. is_of x (entry_at es p)) is ∙ of)))), eq-eqb g h is)
       | inr ne ↦
-          slot_set_other es g p left inside (false_from_ne_true (is_of g (entry_at es p)) (λ now. ne (sym (of_hash g (entry_at es p) now) ∙ of_hash h (entry_at es p) of)))
-          (false_from_ne_true (is_of g left) (λ now. true≢false (sym (of_taken g left now) ∙ vacant)))
-          ∙ sym (ap (λ b. if b then None else slot_among es g) (ne_eqb g h ne))
+          grind (arith, slot_set_other, ne_eqb)
     ]
 
 -- ---- How many entries are used
@@ -315,55 +277,40 @@ one_if b = if b then 1 else 0
 pub all_used : (es : List Entry) → ((p : ℕ) → p < length es → is_free (entry_at es p) ≡ false) → count_by is_used es ≡ length es
 all_used [] each = refl
 all_used (e ∷ es) each =
-    let rest = all_used es (λ p low. each (suc p) (omega arith)) in
-    let step = sum_by-cons (λ (x : Entry). one_if (is_used x)) e es in
-    let one : one_if (is_used e) ≡ 1 = ap (λ b. one_if (not b)) (each 0 (omega arith)) in
-    omega arith
+    grind (arith, all_used es (λ p low. each (suc p) (omega arith)), sum_by-cons (λ (x : Entry). one_if (is_used x)) e es, each 0 (omega arith))
 
 -- where a search ends nowhere, nothing is free
-pub full : (es : List Entry) (h : ℕ) → ((p : ℕ) → p < length es → is_end h (entry_at es p) ≡ false) → count_by is_used es ≡ length es
+pub full : (es : List Entry) (h : ℕ) → ((p : ℕ) → p < length es → is_end h (entry_at es p) ≡ false)
+    → count_by is_used es ≡ length es
 full es h none = all_used es (λ p low. (not_end h (entry_at es p) (none p low)).0)
 
-pub none_at : (es : List Entry) (h : ℕ) → ((p : ℕ) → p < length es → is_end h (entry_at es p) ≡ false) → slot_among es h ≡ None
+pub none_at : (es : List Entry) (h : ℕ)
+    → ((p : ℕ) → p < length es → is_end h (entry_at es p) ≡ false) → slot_among es h ≡ None
 none_at es h none = slot_none es h (λ p low. (not_end h (entry_at es p) (none p low)).1)
 
 -- how many are used, or have a slot, after an entry is written
-pub counted : (passes : Entry → Bool) (es : List Entry) (p : ℕ) (e : Entry) → p < length es →
-    count_by passes (set es p e) + one_if (passes (entry_at es p)) ≡ count_by passes es + one_if (passes e)
+pub counted : (passes : Entry → Bool) (es : List Entry) (p : ℕ) (e : Entry) → p < length es
+    → count_by passes (set es p e) + one_if (passes (entry_at es p))
+    ≡ count_by passes es + one_if (passes e)
 counted passes es p e low = sum_by-set (λ (x : Entry). one_if (passes x)) es p e _ low
 
-pub counted_up : (passes : Entry → Bool) (es : List Entry) (p : ℕ) (e : Entry) → p < length es → passes (entry_at es p) ≡ false → passes e ≡ true → count_by passes es + 1 ≡ count_by passes (set es p e)
-counted_up passes es p e low was is =
-    let all = counted passes es p e low in
-    let none : one_if (passes (entry_at es p)) ≡ 0 = ap one_if was in
-    let one : one_if (passes e) ≡ 1 = ap one_if is in
-    omega arith
+pub counted_up : (passes : Entry → Bool) (es : List Entry) (p : ℕ) (e : Entry) → p < length es
+    → passes (entry_at es p) ≡ false → passes e ≡ true
+    → count_by passes es + 1 ≡ count_by passes (set es p e)
+counted_up passes es p e low was is = grind (arith, counted)
 
-pub counted_same : (passes : Entry → Bool) (es : List Entry) (p : ℕ) (e : Entry) → p < length es → passes (entry_at es p) ≡ passes e → count_by passes es ≡ count_by passes (set es p e)
-counted_same passes es p e low same =
-    let all = counted passes es p e low in
-    let alike : one_if (passes (entry_at es p)) ≡ one_if (passes e) = ap one_if same in
-    omega arith
+pub counted_same : (passes : Entry → Bool) (es : List Entry) (p : ℕ) (e : Entry) → p < length es
+    → passes (entry_at es p) ≡ passes e → count_by passes es ≡ count_by passes (set es p e)
+counted_same passes es p e low same = grind (arith, counted)
 
-pub counted_down : (passes : Entry → Bool) (es : List Entry) (p : ℕ) (e : Entry) → p < length es → passes (entry_at es p) ≡ true → passes e ≡ false → count_by passes es ≡ count_by passes (set es p e) + 1
-counted_down passes es p e low was is =
-    let all = counted passes es p e low in
-    let one : one_if (passes (entry_at es p)) ≡ 1 = ap one_if was in
-    let none : one_if (passes e) ≡ 0 = ap one_if is in
-    omega arith
+pub counted_down : (passes : Entry → Bool) (es : List Entry) (p : ℕ) (e : Entry) → p < length es
+    → passes (entry_at es p) ≡ true → passes e ≡ false
+    → count_by passes es ≡ count_by passes (set es p e) + 1
+counted_down passes es p e low was is = grind (arith, counted)
 
 -- the entry at which a search ends has a slot, or is free
 pub free_end : (h : ℕ) (e : Entry) → is_end h e ≡ true → is_taken e ≡ false → is_free e ≡ true
-free_end h e end vacant = elim (or_cases (is_free e) (is_of h e) end) [
-  | inl free ↦ free
-  | inr of ↦ absurd (true≢false (sym (of_taken h e of) ∙ vacant))
-]
-
-pub of_end : (h : ℕ) (e : Entry) → is_end h e ≡ true → is_taken e ≡ true → is_of h e ≡ true
-of_end h e end taken = elim (or_cases (is_free e) (is_of h e) end) [
-  | inl free ↦ absurd (free_not_taken e free taken)
-  | inr of ↦ of
-]
+free_end h e end vacant = grind arith
 
 pub used_taken : (e : Entry) → is_taken e ≡ true → is_used e ≡ true
 used_taken e taken = ap not (taken_not_free e taken)
@@ -371,47 +318,41 @@ used_taken e taken = ap not (taken_not_free e taken)
 -- ---- Entries that are all free
 
 pub slot_blank : (n h : ℕ) (e : Entry) → is_taken e ≡ false → slot_among (replicate n e) h ≡ None
-slot_blank n h e vacant = slot_none (replicate n e) h (λ p low.
-    ap (is_of h) (get_or-replicate n p e _ (subst (λ x. p < x) (length-replicate n e) low)) ∙ ap (λ b. b && eqb e.hash h) vacant)
+slot_blank n h e vacant = grind (arith, slot_none, get_or-replicate, length-replicate)
 
 -- ---- Entries that are moved
 
 -- one entry more
-pub slot_more : (es : List Entry) (i : ℕ) → i < length es → (h : ℕ) →
-    slot_among (take (suc i) es) h ≡ (if is_some (slot_among (take i es) h) then slot_among (take i es) h else (if is_of h (entry_at es i) then Some (entry_at es i).slot else None))
+pub slot_more : (es : List Entry) (i : ℕ) → i < length es → (h : ℕ)
+    → slot_among (take (suc i) es) h
+    ≡ (if is_some (slot_among (take i es) h) then slot_among (take i es) h else
+    (if is_of h (entry_at es i) then Some (entry_at es i).slot else None))
 slot_more [] i low h = absurd (let wrong : ⊥ = omega arith in wrong)
 slot_more (e ∷ es) zero low h = refl
 slot_more (e ∷ es) (suc i) low h = by_first (is_of h e) (slot_more es i (omega arith) h)
   where
-    by_first : (b : Bool) → slot_among (take (suc i) es) h ≡ (if is_some (slot_among (take i es) h) then slot_among (take i es) h else (if is_of h (entry_at es i) then Some (entry_at es i).slot else None)) →
-        (if b then Some e.slot else slot_among (take (suc i) es) h) ≡
-        (if is_some (if b then Some e.slot else slot_among (take i es) h) then (if b then Some e.slot else slot_among (take i es) h) else (if is_of h (entry_at es i) then Some (entry_at es i).slot else None))
+    by_first : (b : Bool) → slot_among (take (suc i) es) h
+        ≡ (if is_some (slot_among (take i es) h) then slot_among (take i es) h else
+        (if is_of h (entry_at es i) then Some (entry_at es i).slot else None))
+        → (if b then Some e.slot else slot_among (take (suc i) es) h)
+        ≡ (if is_some (if b then Some e.slot else slot_among (take i es) h) then
+        (if b then Some e.slot else slot_among (take i es) h) else
+        (if is_of h (entry_at es i) then Some (entry_at es i).slot else None))
     by_first true more = refl
     by_first false more = more
 
-itself : (o : Option ℕ) → (if is_some o then o else None) ≡ o
-itself (Some x) = refl
-itself None = refl
-
 -- no entry is moved again that has the slot of another's hash
-pub moved : (es : List Entry) (i : ℕ) → AreApart es → i < length es → is_taken (entry_at es i) ≡ true → (h : ℕ) →
-    slot_among (take (i + 1) es) h ≡ (if eqb h (entry_at es i).hash then Some (entry_at es i).slot else slot_among (take i es) h)
+pub moved : (es : List Entry) (i : ℕ) → AreApart es → i < length es
+    → is_taken (entry_at es i) ≡ true → (h : ℕ)
+    → slot_among (take (i + 1) es) h
+    ≡ (if eqb h (entry_at es i).hash then Some (entry_at es i).slot else slot_among (take i es) h)
 moved es i apart low taken h = ap (λ n. slot_among (take n es) h) (add-one i) ∙ slot_more es i low h ∙ elim (cases_eq h (entry_at es i).hash) [
   | inl is ↦
-      ap (λ b. if is_some (slot_among (take i es) h) then slot_among (take i es) h else (if b then Some (entry_at es i).slot else None)) (of_from h (entry_at es i) taken (sym is))
-      ∙ ap (λ o. if is_some o then o else Some (entry_at es i).slot) (slot_none (take i es) h (λ p low_p.
-      let before : p < i = omega (arith, length-take i es) in
-      false_from_ne_true (is_of h (entry_at (take i es) p)) (λ of.
-      let same = apart h p i (omega arith) low (sym (ap (is_of h) (get_or-take i es p _ before)) ∙ of) (of_from h (entry_at es i) taken (sym is)) in
-      let wrong : ⊥ = omega arith in wrong)))
-      ∙ sym (ap (λ b. if b then Some (entry_at es i).slot else slot_among (take i es) h) (eq-eqb h (entry_at es i).hash is))
+      grind (arith, slot_none, length-take, get_or-take)
   | inr ne ↦
-      ap (λ b. if is_some (slot_among (take i es) h) then slot_among (take i es) h else (if b then Some (entry_at es i).slot else None)) (false_from_ne_true (is_of h (entry_at es i)) (λ of. ne (sym (of_hash h (entry_at es i) of))))
-      ∙ itself (slot_among (take i es) h)
-      ∙ sym (ap (λ b. if b then Some (entry_at es i).slot else slot_among (take i es) h) (ne_eqb h (entry_at es i).hash ne))
+      grind arith
 ]
 
-pub not_moved : (es : List Entry) (i : ℕ) → i < length es → is_taken (entry_at es i) ≡ false → (h : ℕ) → slot_among (take (i + 1) es) h ≡ slot_among (take i es) h
-not_moved es i low vacant h = ap (λ n. slot_among (take n es) h) (add-one i) ∙ slot_more es i low h
-    ∙ ap (λ b. if is_some (slot_among (take i es) h) then slot_among (take i es) h else (if b then Some (entry_at es i).slot else None)) (ap (λ b. b && eqb (entry_at es i).hash h) vacant)
-    ∙ itself (slot_among (take i es) h)
+pub not_moved : (es : List Entry) (i : ℕ) → i < length es → is_taken (entry_at es i) ≡ false
+    → (h : ℕ) → slot_among (take (i + 1) es) h ≡ slot_among (take i es) h
+not_moved es i low vacant h = grind (arith, slot_more)

@@ -1,16 +1,17 @@
 -- A map of slots of which one entry is read and written.
-use Rattle.std.proofs.Common.{◌≡◌, ℕ, ◌+◌, ◌-◌, ◌<◌, Bool, true, false, if◌then◌else◌, not, count_by}
-use Rattle.std.proofs.Common.{Some, None, List, length, get_or, set, eqb, refl, sym, ap, ◌∙◌, subst, arith}
-use Rattle.std.proofs.lemmas.Bool.{false≢true}
+use Rattle.std.proofs.Common.{◌≡◌, ℕ, ◌+◌, ◌-◌, ◌<◌, Bool, true, false, if◌then◌else◌, not}
+use Rattle.std.proofs.Common.{count_by, Some, None, List, length, get_or, set, eqb, ap, subst}
+use Rattle.std.proofs.Common.{arith}
 use Rattle.clause_index.specs.Code.Entries.{entry_at, is_free, is_taken, is_used, next_of}
 use Rattle.clause_index.specs.Code.Entries.{slot_among, AreApart, AreReached, HasAt, IsEnd}
 use Rattle.clause_index.specs.Code.SlotMap.{slot_at}
 use Rattle.clause_index.specs.declared.slot_map.Entry.{Entry}
 use Rattle.clause_index.specs.declared.slot_map.SlotMap.{SlotMap}
-use Rattle.clause_index.proofs.IndexLemmas.SlotMap.{counted_down, counted_same, counted_up, entry_read}
-use Rattle.clause_index.proofs.IndexLemmas.SlotMap.{found_none, free_end, new_taken, of_end, of_taken}
-use Rattle.clause_index.proofs.IndexLemmas.SlotMap.{put_apart, put_reached, put_slot, slot_of}
-use Rattle.clause_index.proofs.IndexLemmas.SlotMap.{taken_apart, taken_reached, taken_slot, used_taken}
+use Rattle.clause_index.proofs.IndexLemmas.SlotMap.{counted_down, counted_same, counted_up}
+use Rattle.clause_index.proofs.IndexLemmas.SlotMap.{entry_read, found_none, free_end, new_taken}
+use Rattle.clause_index.proofs.IndexLemmas.SlotMap.{of_taken, put_apart, put_reached, put_slot}
+use Rattle.clause_index.proofs.IndexLemmas.SlotMap.{slot_of, taken_apart, taken_reached, taken_slot}
+use Rattle.clause_index.proofs.IndexLemmas.SlotMap.{used_taken}
 
 -- entries that a map may have, of which so many are used and so many have a slot
 pub record AreMap (es : List Entry) (used live : ℕ) : Type 0 where
@@ -20,15 +21,16 @@ pub record AreMap (es : List Entry) (used live : ℕ) : Type 0 where
   pub live_is : live ≡ count_by is_taken es
 
 -- where the entry has the slot of a hash, this is what the code reads there
-pub slot_read : (m : SlotMap) (h p : ℕ) → HasAt m.entries.items h p → (x : Entry) → x ≡ get_or m.entries.items p x → Some x.slot ≡ slot_at m h
-slot_read m h p has x is = ap (λ (e : Entry). Some e.slot) (entry_read m.entries.items p x has.inside is) ∙ sym (slot_of m.entries.items m.reached m.apart h p has)
+pub slot_read : (m : SlotMap) (h p : ℕ) → HasAt m.entries.items h p → (x : Entry)
+    → x ≡ get_or m.entries.items p x → Some x.slot ≡ slot_at m h
+slot_read m h p has x is = grind (arith, entry_read, slot_of)
 
 -- ---- A slot that is put in
 
-counted_put : (passes : Entry → Bool) (es : List Entry) (p : ℕ) (e : Entry) (n : ℕ) (passed : Bool) → p < length es →
-    n ≡ count_by passes es → passes (entry_at es p) ≡ passed → passes e ≡ true → (if passed then n else n + 1) ≡ count_by passes (set es p e)
-counted_put passes es p e n true low is was now = is ∙ counted_same passes es p e low (was ∙ sym now)
-counted_put passes es p e n false low is was now = ap (λ k. k + 1) is ∙ counted_up passes es p e low was now
+counted_put : (passes : Entry → Bool) (es : List Entry) (p : ℕ) (e : Entry) (n : ℕ) (passed : Bool)
+    → p < length es → n ≡ count_by passes es → passes (entry_at es p) ≡ passed → passes e ≡ true
+    → (if passed then n else n + 1) ≡ count_by passes (set es p e)
+counted_put passes es p e n passed low is was now = grind (arith, counted_same, counted_up)
 
 -- a search that ends at a place
 module _ (m : SlotMap) (h p : ℕ) (xs : List Entry) (same : xs ≡ m.entries.items) (found : IsEnd xs h p) where
@@ -44,7 +46,7 @@ module _ (m : SlotMap) (h p : ℕ) (xs : List Entry) (same : xs ≡ m.entries.it
   -- whether the entry that is read there has a slot
   module _ (x : Entry) (read : x ≡ get_or es p x) (had : Bool) (is : is_taken x ≡ had) where
     taken_is : is_taken (entry_at es p) ≡ had
-    taken_is = sym (ap is_taken (entry_read es p x end.inside read)) ∙ is
+    taken_is = grind (arith, entry_read)
 
     used_is : is_used (entry_at es p) ≡ had
     used_is = by_slot had taken_is
@@ -56,28 +58,25 @@ module _ (m : SlotMap) (h p : ℕ) (xs : List Entry) (same : xs ≡ m.entries.it
     pub was_read : (if had then Some x.slot else None) ≡ slot_at m h
     was_read = by_slot had taken_is
       where
-        by_slot : (b : Bool) → is_taken (entry_at es p) ≡ b → (if b then Some x.slot else None) ≡ slot_at m h
-        by_slot true taken = slot_read m h p (record { inside = end.inside; of = of_end h (entry_at es p) end.ends taken }) x read
-        by_slot false vacant = sym (found_none es m.reached m.apart h p end vacant)
+        by_slot : (b : Bool) → is_taken (entry_at es p) ≡ b
+            → (if b then Some x.slot else None) ≡ slot_at m h
+        by_slot true taken = grind (arith, slot_read)
+        by_slot false vacant = grind (arith, found_none)
 
     module _ (s : ℕ) (low : s < 4294967295) where
       abbrev new : Entry
       new = record { hash = h; slot = s }
 
-      pub put_map : AreMap (set es p new) (if had then m.used else m.used + 1) (if had then m.live else m.live + 1)
-      put_map = let taken = new_taken es m.reached m.apart h p end s low in record {
-        reached = put_reached es m.reached m.apart h p end s low;
-        apart = put_apart es m.reached m.apart h p end s low;
-        used_is = counted_put is_used es p new m.used had end.inside m.used_is used_is (used_taken new taken);
-        live_is = counted_put is_taken es p new m.live had end.inside m.live_is taken_is taken;
-      }
+      pub put_map : AreMap (set es p new) (if had then m.used else m.used + 1)
+          (if had then m.live else m.live + 1)
+      put_map = grind (arith, new_taken, put_reached, put_apart, counted_put, taken_is)
 
 -- ---- A slot that is taken out
 
-counted_taken : (passes : Entry → Bool) (es : List Entry) (p : ℕ) (e : Entry) (n : ℕ) (passed : Bool) → p < length es →
-    n ≡ count_by passes es → passes (entry_at es p) ≡ true → passes e ≡ passed → (if passed then n else n - 1) ≡ count_by passes (set es p e)
-counted_taken passes es p e n true low is was now = is ∙ counted_same passes es p e low (was ∙ sym now)
-counted_taken passes es p e n false low is was now = let fewer = counted_down passes es p e low was now in omega arith
+counted_taken : (passes : Entry → Bool) (es : List Entry) (p : ℕ) (e : Entry) (n : ℕ)
+    (passed : Bool) → p < length es → n ≡ count_by passes es → passes (entry_at es p) ≡ true
+    → passes e ≡ passed → (if passed then n else n - 1) ≡ count_by passes (set es p e)
+counted_taken passes es p e n passed low is was now = grind (arith, counted_same, counted_down)
 
 -- what an entry becomes whose slot is taken out: free where the next one is, or else gone
 abbrev pub left_at : Bool → Entry
@@ -89,26 +88,21 @@ module _ (m : SlotMap) (h p : ℕ) (has : HasAt m.entries.items h p) (xs : List 
   before = m.entries.items
 
   vacant : is_taken (left_at next_free) ≡ false
-  vacant = by_next next_free
-    where
-      by_next : (b : Bool) → is_taken (left_at b) ≡ false
-      by_next true = refl
-      by_next false = refl
+  vacant = grind arith
 
-  next : is_free (left_at next_free) ≡ true → is_free (entry_at before (next_of (length before) p)) ≡ true
-  next = by_next next_free (subst (λ ys. is_free (entry_at ys (next_of (length ys) p)) ≡ next_free) same is)
-    where
-      by_next : (b : Bool) → is_free (entry_at before (next_of (length before) p)) ≡ b → is_free (left_at b) ≡ true → is_free (entry_at before (next_of (length before) p)) ≡ true
-      by_next true free _ = free
-      by_next false _ left = absurd (false≢true left)
+  next : is_free (left_at next_free) ≡ true
+      → is_free (entry_at before (next_of (length before) p)) ≡ true
+  next = grind arith
 
-  pub taken_map : AreMap (set before p (left_at next_free)) (if is_used (left_at next_free) then m.used else m.used - 1) (m.live - 1)
+  pub taken_map : AreMap (set before p (left_at next_free))
+      (if is_used (left_at next_free) then m.used else m.used - 1) (m.live - 1)
   taken_map = let taken = of_taken h (entry_at before p) has.of in record {
-    reached = taken_reached before m.reached m.apart h p has (left_at next_free) vacant next;
-    apart = taken_apart before m.reached m.apart h p has (left_at next_free) vacant next;
-    used_is = counted_taken is_used before p (left_at next_free) m.used (is_used (left_at next_free)) has.inside m.used_is (used_taken (entry_at before p) taken) refl;
+    reached = grind (arith, taken_reached);
+    apart = grind (arith, taken_apart, vacant);
+    used_is = grind (arith, counted_taken);
     live_is = counted_taken is_taken before p (left_at next_free) m.live false has.inside m.live_is taken vacant;
   }
 
-  pub taken_slots : (g : ℕ) → slot_among (set before p (left_at next_free)) g ≡ (if eqb g h then None else slot_at m g)
-  taken_slots = taken_slot before m.reached m.apart h p has (left_at next_free) vacant next
+  pub taken_slots : (g : ℕ) → slot_among (set before p (left_at next_free)) g
+      ≡ (if eqb g h then None else slot_at m g)
+  taken_slots = grind (arith, taken_slot)

@@ -13,7 +13,8 @@ loop-l-preserved c =
     let x = c.l-item.result in
     ap (λ n. (c.loop-l.sum + n) % 2 ^ 64) c.mixed-sum.ensures
     ∙ ap (λ n. (n + mix c.args.seed x) % 2 ^ 64) c.loop-l.invariant
-    ∙ sym (mixed_more lits c.loop-l.l-index (omega arith) x c.l-item.is c.args.seed (distinct_before lits c.loop-l.l-index x c.requires (omega arith) c.l-item.is))
+    ∙ sym (mixed_more lits c.loop-l.l-index (omega arith) x c.l-item.is c.args.seed
+    (distinct_before lits c.loop-l.l-index x c.requires (omega arith) c.l-item.is))
 
 pub returns : goal.returns
 returns c = hash_whole c.args.seed c.args.lits.now c.loop-l.l-index c.loop-l.sum c.upper_half.result c.loop-l.invariant (omega arith) c.upper_half.ensures

@@ -8,4 +8,5 @@ pub returns-then-entry-hash-clause-some : goal.returns-then-entry-hash-clause-so
 returns-then-entry-hash-clause-some c = first_end c.args.entries.now c.args.hash c.loop-i.i c.loop-i-test.true c.loop-i.invariant c.spot_at-p.result c.spot_at-p.ensures.spot (end_of c.args.hash _ c.if-entry.false c.if-entry-hash.true)
 
 pub returns-clause-none : goal.returns-clause-none
-returns-clause-none c = no_end c.args.entries.now c.args.hash c.loop-i.i c.loop-i-test.false c.loop-i.invariant
+returns-clause-none c =
+    no_end c.args.entries.now c.args.hash c.loop-i.i c.loop-i-test.false c.loop-i.invariant

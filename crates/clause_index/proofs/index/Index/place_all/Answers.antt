@@ -4,4 +4,5 @@ pub loop-self-preserved : goal.loop-self-preserved
 loop-self-preserved c live old = c.place_last.ensures.same live (c.loop-self.invariant live old)
 
 pub returns-in_err-place_last-clause-same : goal.returns-in_err-place_last-clause-same
-returns-in_err-place_last-clause-same c live old = c.place_last.ensures.same live (c.loop-self.invariant live old)
+returns-in_err-place_last-clause-same c live old =
+    c.place_last.ensures.same live (c.loop-self.invariant live old)

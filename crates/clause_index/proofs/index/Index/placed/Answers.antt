@@ -11,4 +11,5 @@ returns-clause-all c live s d sound is hash_is none =
 
 pub returns-clause-each : goal.returns-clause-each
 returns-clause-each c live i s sound stands =
-    placed_has c.args.self.now live sound c.args.key i s (ap (λ xs. slice_get xs i) (sym c.slots.ensures) ∙ stands)
+    placed_has c.args.self.now live sound c.args.key i s
+    (ap (λ xs. slice_get xs i) (sym c.slots.ensures) ∙ stands)

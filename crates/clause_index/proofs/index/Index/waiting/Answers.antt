@@ -8,5 +8,6 @@ returns-clause-waiting c = c.deref.ensures.value
 
 pub returns-clause-each : goal.returns-clause-each
 returns-clause-each c live i sound inside =
-    let w = subst (λ ws. i < length ws → IsWaiting c.args.self.now.seed live (waiting_at ws i)) (sym c.deref.ensures.value) (sound.waiting.waiting i) inside in
+    let w = subst (λ ws. i < length ws → IsWaiting c.args.self.now.seed live (waiting_at ws i))
+    (sym c.deref.ensures.value) (sound.waiting.waiting i) inside in
     (w.clause, w.there, w.hash_is)

@@ -53,9 +53,12 @@ returns-clause-ok c live old free =
     let at = c.in_ok-push.ensures.by_index in
     let len_is : length ws ≡ vec_len m.waiting = omega arith in
     let long : length more ≡ length ws + 1 = let len = c.in_ok-push.ensures.len in omega arith in
-    let same : (i : ℕ) → i < length ws → waiting_at more i ≡ waiting_at ws i = λ i low. at.0 i _ (omega arith) in
-    let last : waiting_at more (length ws) ≡ w = ap (waiting_at more) len_is ∙ at.1 _ refl in record {
+    let same : (i : ℕ) → i < length ws
+    → waiting_at more i ≡ waiting_at ws i = λ i low. at.0 i _ (omega arith) in
+    let last : waiting_at more (length ws) ≡ w = ap (waiting_at more) len_is ∙ at.1 _ refl in
+    record {
       rest = now.rest;
       placed = now.placed;
-      waiting = waiting_more m.seed ws now.rest live now.waiting more long same w last c.args.lits.now free c.hash_of-hash.ensures;
+      waiting = waiting_more m.seed ws now.rest live now.waiting more long same w last
+          c.args.lits.now free c.hash_of-hash.ensures;
     }

@@ -1,7 +1,6 @@
-use Rattle.std.proofs.Common.{refl, ◌∙◌}
+use Rattle.std.proofs.Common.{◌∙◌}
 use Rattle.clause_index.specs.Code.Buckets.{bucket_at}
 use Rattle.clause_index.specs.Code.Placed.{noted_place, place_in, under}
-use Rattle.clause_index.proofs.IndexLemmas.Results.{on_err_from}
 use Rattle.clause_index.proofs.IndexLemmas.Indexed.{undone}
 use Rattle.clause_index.proofs.IndexLemmas.Index.{index_same, index_with, other_place, wrote_place}
 use Rattle.clause_index.proofs.placed.Placed.add.Goals as goal

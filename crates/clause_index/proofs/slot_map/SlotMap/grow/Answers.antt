@@ -1,10 +1,12 @@
-use Rattle.std.proofs.Common.{arith, ap, sym, ◌∙◌, ◌<◌, ◌+◌, length, take, if◌then◌else◌, ◌==◌, Some}
+use Rattle.std.proofs.Common.{arith, ap, sym, ◌∙◌, ◌<◌, ◌+◌, length, take, if◌then◌else◌, ◌==◌}
+use Rattle.std.proofs.Common.{Some}
 use Rattle.std.proofs.lemmas.List.Sums.{count_by_more_yes, count_by_more_no, sum_by-take-le}
 use Rattle.clause_index.specs.Code.Entries.{is_taken, slot_among}
 use Rattle.clause_index.specs.Code.SlotMap.{slot_at}
 use Rattle.clause_index.specs.declared.slot_map.Entry.{Entry}
 use Rattle.clause_index.specs.declared.slot_map.SlotMap.{SlotMap}
-use Rattle.clause_index.proofs.IndexLemmas.SlotMap.{entry_read, moved, not_moved, taken_from, vacant_from}
+use Rattle.clause_index.proofs.IndexLemmas.SlotMap.{entry_read, moved, not_moved, taken_from}
+use Rattle.clause_index.proofs.IndexLemmas.SlotMap.{vacant_from}
 use Rattle.clause_index.proofs.slot_map.SlotMap.grow.Goals.{then-entry, else-entry}
 use Rattle.clause_index.proofs.slot_map.SlotMap.grow.Goals as goal
 
@@ -20,8 +22,7 @@ put-requires-clause-room c none =
     let few = sum_by-take-le (λ (e : Entry). if is_taken e then 1 else 0) es (i + 1) in
     let live = m.live_is in
     let used = c.loop-i.invariant.used in
-    let room = c.loop-i.invariant.room in
-    omega arith
+    let room = c.loop-i.invariant.room in omega arith
 
 pub loop-i-preserved : goal.loop-i-preserved
 loop-i-preserved c =

@@ -5,4 +5,5 @@ use Rattle.clause_index.proofs.slot_map.SlotMap.with_len.Goals as goal
 
 pub returns-clause-none : goal.returns-clause-none
 returns-clause-none c h =
-    ap (λ es. slot_among es h) (c.in_ok-entries.ensures.items_if_clones_equal (λ e same. same)) ∙ slot_blank c.args.len h _ refl
+    ap (λ es. slot_among es h) (c.in_ok-entries.ensures.items_if_clones_equal (λ e same. same))
+    ∙ slot_blank c.args.len h _ refl
