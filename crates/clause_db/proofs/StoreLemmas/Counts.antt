@@ -1,8 +1,8 @@
 -- How many of the clauses have a literal: through a change of the clauses, and so far in a walk.
-use Rattle.std.proofs.Common.{◌≡◌, ℕ, ◌+◌, ◌<◌, ◌≤◌, Bool, true, false, cond, eqb, eqb-true}
-use Rattle.std.proofs.Common.{Option, Some, None, is_some, ◌||◌, length, take, get_or, refl, sym, ap}
-use Rattle.std.proofs.Common.{◌∙◌, arith, inl, inr}
-use Rattle.std.proofs.lemmas.Bool.{true≢false, cases_lt}
+use Rattle.std.proofs.Common.{◌≡◌, ℕ, ◌+◌, ◌<◌, ◌≤◌, Bool, true, false, cond, eqb, eqb-true, Option}
+use Rattle.std.proofs.Common.{Some, None, is_some, ◌||◌, length, take, get_or, refl, sym, ap, ◌∙◌}
+use Rattle.std.proofs.Common.{arith}
+use Rattle.std.proofs.lemmas.Bool.{true≢false}
 use Rattle.std.specs.Ordering.{nat_cmp}
 use Rattle.std.specs.FinMap as maps
 use Rattle.std.specs.FinMap.{FinMap}
@@ -22,8 +22,7 @@ with_literal l c = cond (has c l) 1 0
 
 pub copies_few : (live : FinMap nat_cmp Clause) (l : Literal) → copies_with live l ≤ maps.len live
 copies_few live l =
-    let bound = sum_bound (with_literal l) 1 live (λ s c is. at_most_one (has c l)) in
-    omega arith
+    grind (arith, sum_bound (with_literal l) 1 live (λ s c is. at_most_one (has c l)))
   where
     at_most_one : (b : Bool) → cond b 1 0 ≤ 1
     at_most_one true = omega arith
@@ -32,48 +31,43 @@ copies_few live l =
 -- ---- Through a change of the clauses
 
 module _ (old new : Filled ℕ) (live : FinMap nat_cmp Clause) (k : ℕ) (c : Clause) (are : AreCounted (Some old) live) where
-  pub counted_with : maps.get live k ≡ None → ((l : ℕ) → count_of (at new l) ≡ count_of (at old l) + cond (has c l) 1 0) → AreCounted (Some new) (maps.insert live k c)
-  counted_with free counts l =
-      let more = sum_insert (with_literal l) live k c free in
-      let was = are l in
-      let now = counts l in
-      omega arith
+  pub counted_with : maps.get live k ≡ None
+      → ((l : ℕ) → count_of (at new l) ≡ count_of (at old l) + cond (has c l) 1 0)
+      → AreCounted (Some new) (maps.insert live k c)
+  counted_with free counts l = grind (arith, sum_insert)
 
-  pub counted_without : maps.get live k ≡ Some c → ((l : ℕ) → count_of (at new l) + cond (has c l) 1 0 ≡ count_of (at old l)) → AreCounted (Some new) (maps.remove live k)
-  counted_without here counts l =
-      let split = sum_remove (with_literal l) live k c here in
-      let was = are l in
-      let now = counts l in
-      omega arith
+  pub counted_without : maps.get live k ≡ Some c
+      → ((l : ℕ) → count_of (at new l) + cond (has c l) 1 0 ≡ count_of (at old l))
+      → AreCounted (Some new) (maps.remove live k)
+  counted_without here counts l = grind (arith, sum_remove)
 
 -- a literal of a clause is counted
-pub counted_here : (counts : Filled ℕ) (live : FinMap nat_cmp Clause) (k : ℕ) (c : Clause) → AreCounted (Some counts) live → maps.get live k ≡ Some c → (l : ℕ) → has c l ≡ true → 0 < count_of (at counts l)
+pub counted_here : (counts : Filled ℕ) (live : FinMap nat_cmp Clause) (k : ℕ) (c : Clause)
+    → AreCounted (Some counts) live → maps.get live k ≡ Some c → (l : ℕ) → has c l ≡ true
+    → 0 < count_of (at counts l)
 counted_here counts live k c are here l member =
-    let split = sum_remove (with_literal l) live k c here in
-    let one : cond {A = ℕ} (has c l) 1 0 ≡ 1 = ap (λ b. cond {A = ℕ} b 1 0) member in
-    let is = are l in
-    omega arith
+    grind (arith, sum_remove (with_literal l) live k c here)
 
 -- a clause in the place of one with the same literals
-pub counted_replaced : (counts : Option (Filled ℕ)) (live : FinMap nat_cmp Clause) (k : ℕ) (c d : Clause) → maps.get live k ≡ Some c → ((l : ℕ) → has d l ≡ has c l) →
-    AreCounted counts live → AreCounted counts (maps.insert live k d)
-counted_replaced None live k c d here alike are = tt
-counted_replaced (Some counts) live k c d here alike are = λ l. are l ∙ sym (sum_replace (with_literal l) live k c d here (ap (λ b. cond b 1 0) (alike l)))
+pub counted_replaced : (counts : Option (Filled ℕ)) (live : FinMap nat_cmp Clause) (k : ℕ)
+    (c d : Clause) → maps.get live k ≡ Some c → ((l : ℕ) → has d l ≡ has c l)
+    → AreCounted counts live → AreCounted counts (maps.insert live k d)
+counted_replaced counts live k c d here alike are = grind (arith, sum_replace)
 
 -- ---- One turn of a walk over a clause that repeats nothing: x is the literal at i
 
 module _ (c : Clause) (i : ℕ) (inside : i < length c) (x : Literal) (is : x ≡ get_or c i x) (different : size c ≡ length c) where
   -- x is met for the first time
   pub first_met : cond {A = ℕ} (has (take i c) x) 1 0 ≡ 0
-  first_met = ap (λ b. cond {A = ℕ} b 1 0) (new_here c i inside x is different)
+  first_met = grind (arith, new_here)
 
-  pub met_more : (k : Literal) → cond {A = ℕ} (has (take (i + 1) c) k) 1 0 ≡ cond (has (take i c) k) 1 0 + cond (eqb k x) 1 0
+  pub met_more : (k : Literal) → cond {A = ℕ} (has (take (i + 1) c) k) 1 0
+      ≡ cond (has (take i c) k) 1 0 + cond (eqb k x) 1 0
   met_more k =
-      ap (λ b. cond b 1 0) (has_more c i inside x is k)
-      ∙ by_tests (eqb x k) (has (take i c) k) (λ e. sym (ap (has (take i c)) (eqb-true x k e)) ∙ new_here c i inside x is different)
-      ∙ ap (λ b. cond (has (take i c) k) 1 0 + cond b 1 0) (eqb_turn x k)
+      cc (has_more c i inside x is k, by_tests (eqb x k) (has (take i c) k) (λ e. sym (ap (has (take i c)) (eqb-true x k e)) ∙ new_here c i inside x is different), eqb_turn x k)
     where
-      by_tests : (e h : Bool) → (e ≡ true → h ≡ false) → cond {A = ℕ} (h || e) 1 0 ≡ cond h 1 0 + cond e 1 0
+      by_tests : (e h : Bool) → (e ≡ true → h ≡ false)
+          → cond {A = ℕ} (h || e) 1 0 ≡ cond h 1 0 + cond e 1 0
       by_tests true true new = absurd (true≢false (new refl))
       by_tests true false new = omega arith
       by_tests false true new = omega arith
@@ -89,41 +83,35 @@ pub record IsCountBelow (live : FinMap nat_cmp Clause) (slot : ℕ) (l : Literal
   pub count_is : count ≡ copies_with part l
   pub few : count ≤ slot
 
-pub count_none : (live : FinMap nat_cmp Clause) (l : Literal) (count : ℕ) → count ≡ 0 → IsCountBelow live 0 l count
+pub count_none : (live : FinMap nat_cmp Clause) (l : Literal) (count : ℕ) → count ≡ 0
+    → IsCountBelow live 0 l count
 count_none live l count none = record {
   part = maps.empty;
-  below = λ s low. absurd (let wrong : ⊥ = omega arith in wrong);
+  below = grind arith;
   above = λ s high. maps.get-empty nat_cmp s;
   count_is = none ∙ sym (sum_empty (with_literal l));
   few = omega arith;
 }
 
-pub count_next : (live : FinMap nat_cmp Clause) (slot : ℕ) (l : Literal) (before after : ℕ) → IsCountBelow live slot l before → after ≡ before + cond (has_in (maps.get live slot) l) 1 0 →
-    IsCountBelow live (slot + 1) l after
+pub count_next : (live : FinMap nat_cmp Clause) (slot : ℕ) (l : Literal) (before after : ℕ)
+    → IsCountBelow live slot l before → after ≡ before + cond (has_in (maps.get live slot) l) 1 0
+    → IsCountBelow live (slot + 1) l after
 count_next live slot l before after so_far step = by_clause (maps.get live slot) refl step
   where
-    by_clause : (o : Option Clause) → maps.get live slot ≡ o → after ≡ before + cond (has_in o l) 1 0 → IsCountBelow live (slot + 1) l after
+    by_clause : (o : Option Clause) → maps.get live slot ≡ o
+        → after ≡ before + cond (has_in o l) 1 0 → IsCountBelow live (slot + 1) l after
     by_clause None is step = record {
       part = so_far.part;
-      below = λ s low. elim (cases_lt s slot) [
-        | inl lower ↦ so_far.below s lower
-        | inr high ↦ let e : slot ≡ s = omega arith in so_far.above s high ∙ sym is ∙ ap (maps.get live) e
-      ];
+      below = grind arith;
       above = λ s high. so_far.above s (omega arith);
-      count_is = let was = so_far.count_is in omega arith;
-      few = let few = so_far.few in omega arith;
+      count_is = omega arith;
+      few = omega arith;
     }
     by_clause (Some c) is step = record {
       part = maps.insert so_far.part slot c;
-      below = λ s low. elim (cases_lt s slot) [
-        | inl lower ↦ insert_other so_far.part slot s c (λ e. let wrong : ⊥ = omega arith in wrong) ∙ so_far.below s lower
-        | inr high ↦ let e : s ≡ slot = omega arith in insert_here so_far.part slot s c e ∙ sym is ∙ ap (maps.get live) (sym e)
-      ];
-      above = λ s high. insert_other so_far.part slot s c (λ e. let wrong : ⊥ = omega arith in wrong) ∙ so_far.above s (omega arith);
-      count_is =
-          let more = sum_insert (with_literal l) so_far.part slot c (so_far.above slot (omega arith)) in
-          let was = so_far.count_is in
-          omega arith;
+      below = grind (arith, insert_other, insert_here);
+      above = grind (arith, insert_other);
+      count_is = grind (arith, sum_insert);
       few = let few = so_far.few in at_most (has c l) few step;
     }
       where
@@ -132,12 +120,7 @@ count_next live slot l before after so_far step = by_clause (maps.get live slot)
         at_most false few step = omega arith
 
 -- a count below a slot from which on there is no clause is that of all
-pub count_whole : (live : FinMap nat_cmp Clause) (slot : ℕ) (l : Literal) (count : ℕ) → ((s : ℕ) → is_some (maps.get live s) ≡ true → s < slot) → IsCountBelow live slot l count → count ≡ copies_with live l
-count_whole live slot l count all so_far = so_far.count_is ∙ ap (λ m. copies_with m l) (same_maps so_far.part live (λ s. elim (cases_lt s slot) [
-  | inl low ↦ so_far.below s low
-  | inr high ↦ so_far.above s high ∙ sym (by_clause s high (maps.get live s) refl)
-]))
-  where
-    by_clause : (s : ℕ) → slot ≤ s → (o : Option Clause) → maps.get live s ≡ o → o ≡ None
-    by_clause s high None is = refl
-    by_clause s high (Some c) is = absurd (let low = all s (ap is_some is) in let wrong : ⊥ = omega arith in wrong)
+pub count_whole : (live : FinMap nat_cmp Clause) (slot : ℕ) (l : Literal) (count : ℕ)
+    → ((s : ℕ) → is_some (maps.get live s) ≡ true → s < slot) → IsCountBelow live slot l count
+    → count ≡ copies_with live l
+count_whole live slot l count all so_far = grind (arith, same_maps)

@@ -1,14 +1,12 @@
 -- What is said of a result that is there or not.
-use Rattle.std.proofs.Common.{◌≡◌, ℕ, Option, Some, None, IfSome, IfNone}
-use Rattle.std.proofs.Common.{sym, subst}
+use Rattle.std.proofs.Common.{◌≡◌, ℕ, Option, Some, None, IfSome, IfNone, sym, subst, arith}
 
 pub if_none_then : {T : Type 0} (o : Option T) {P Q : Type 0} → IfNone o P → (P → Q) → IfNone o Q
-if_none_then None h f = f h
-if_none_then (Some x) h f = tt
+if_none_then o h f = grind arith
 
-pub if_some_then : (o : Option ℕ) {P Q : ℕ → Type 0} → ((x : ℕ) → P x → Q x) → IfSome o P → IfSome o Q
-if_some_then None f h = tt
-if_some_then (Some x) f h = f x h
+pub if_some_then : (o : Option ℕ) {P Q : ℕ → Type 0} → ((x : ℕ) → P x → Q x) → IfSome o P
+    → IfSome o Q
+if_some_then o f h = grind arith
 
 pub if_some_from : (o : Option ℕ) (x : ℕ) (P : ℕ → Type 0) → o ≡ Some x → P x → IfSome o P
 if_some_from o x P e h = subst (λ q. IfSome q P) (sym e) h
@@ -21,7 +19,3 @@ if_none_from o P e h = subst (λ q. IfNone q P) (sym e) h
 
 pub if_none_from_some : (o : Option ℕ) (x : ℕ) (P : Type 0) → o ≡ Some x → IfNone o P
 if_none_from_some o x P e = subst (λ q. IfNone q P) (sym e) tt
-
-pub if_none_always : {X : Type 0} (r : Option X) (P : Type 0) → P → IfNone r P
-if_none_always None P p = p
-if_none_always (Some x) P p = tt

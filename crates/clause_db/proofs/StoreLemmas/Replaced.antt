@@ -1,5 +1,5 @@
 -- A clause in the place of one with the same literals, in all fields of a store.
-use Rattle.std.proofs.Common.{◌≡◌, ℕ, Bool, Option, Some, length, sym, subst, ap, ◌∙◌}
+use Rattle.std.proofs.Common.{◌≡◌, ℕ, Bool, Option, Some, length, sym, ap, ◌∙◌, arith}
 use Rattle.std.specs.Ordering.{nat_cmp}
 use Rattle.std.specs.FinMap as maps
 use Rattle.std.specs.FinMap.{FinMap}
@@ -33,9 +33,4 @@ module _ (index : Index) (occurrences : Option Occurrences) (counts : Option (Fi
   all_replaced live now stored kept k x y are here alike as_long is alone =
       let hashes = hash_same index.seed y x (λ l h. sym (alike l) ∙ h) (λ l h. alike l ∙ h) in
       let kept_is = alone ∙ ap memory.literals_in is in
-      subst (λ l. AreFields l kept) (sym is) (
-        sound_replaced live stored marks sum are.0 k x here y alike as_long kept kept_is,
-        index_swapped index live are.1 k x y here hashes,
-        kept_replaced occurrences live k x y here alike are.2,
-        counted_replaced counts live k x y here alike are.3,
-      )
+      grind (arith, sound_replaced live stored marks sum are.0 k x here y alike as_long kept kept_is, index_swapped index live are.1 k x y here hashes, kept_replaced occurrences live k x y here alike are.2, counted_replaced counts live k x y here alike are.3)

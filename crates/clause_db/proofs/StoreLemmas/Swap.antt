@@ -1,20 +1,24 @@
 -- Two literals of a clause in each other's place.
-use Rattle.std.proofs.Common.{◌≡◌, ℕ, ◌-◌, ◌<◌, ◌≤◌, eqb, length, refl, sym, ◌∙◌, arith}
+use Rattle.std.proofs.Common.{◌≡◌, ℕ, ◌-◌, ◌<◌, ◌≤◌, length, refl, ◌∙◌, arith}
 use Rattle.std.specs.List.{swap}
 use Rattle.std.proofs.lemmas.List.Edits.{length-swap}
 use Rattle.std.proofs.lemmas.List.Sorted.{list_any-IsPermutation, IsPermutation-swap}
 use Rattle.cnf_base.specs.Literals.{Clause, has}
 
-pub has_swapped : (c d : Clause) (a b : ℕ) → a < length c → b < length c → d ≡ swap c a b → (l : ℕ) → has d l ≡ has c l
-has_swapped c d a b first second is l = sym (list_any-IsPermutation (λ k. eqb k l) c d (IsPermutation-swap c d a b first second is))
+pub has_swapped : (c d : Clause) (a b : ℕ) → a < length c → b < length c → d ≡ swap c a b → (l : ℕ)
+    → has d l ≡ has c l
+has_swapped c d a b first second is l = grind (arith, list_any-IsPermutation, IsPermutation-swap)
 
 -- twice, so that the first two are others
-pub has_rewatched : (c : Clause) (from to : ℕ) → from < 2 → 2 ≤ to → to < length c → (l : ℕ) → has (swap (swap c 0 (1 - from)) 1 to) l ≡ has c l
+pub has_rewatched : (c : Clause) (from to : ℕ) → from < 2 → 2 ≤ to → to < length c → (l : ℕ)
+    → has (swap (swap c 0 (1 - from)) 1 to) l ≡ has c l
 has_rewatched c from to low past inside l =
     let d = swap c 0 (1 - from) in
     let len = length-swap c 0 (1 - from) in
-    has_swapped d (swap d 1 to) 1 to (omega (arith, len, past, inside)) (omega (arith, len, inside)) refl l
-    ∙ has_swapped c d 0 (1 - from) (omega (arith, past, inside)) (omega (arith, past, inside)) refl l
+    has_swapped d (swap d 1 to) 1 to (omega (arith, len, past, inside)) (omega (arith, len, inside))
+    refl l ∙ has_swapped c d 0 (1 - from) (omega (arith, past, inside))
+    (omega (arith, past, inside)) refl l
 
-pub length_rewatched : (c : Clause) (from to : ℕ) → length (swap (swap c 0 (1 - from)) 1 to) ≡ length c
-length_rewatched c from to = length-swap (swap c 0 (1 - from)) 1 to ∙ length-swap c 0 (1 - from)
+pub length_rewatched : (c : Clause) (from to : ℕ)
+    → length (swap (swap c 0 (1 - from)) 1 to) ≡ length c
+length_rewatched c from to = grind (arith, length-swap)

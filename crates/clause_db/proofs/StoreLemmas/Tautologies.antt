@@ -1,8 +1,8 @@
 -- Literals and their complements among the first of a clause.
-use Rattle.std.proofs.Common.{◌≡◌, ℕ, ◌+◌, ◌<◌, ◌||◌, Bool, true, false, eqb, eqb-true, length, take}
-use Rattle.std.proofs.Common.{get_or, refl, sym, ap, ◌∙◌, inl, inr}
+use Rattle.std.proofs.Common.{◌≡◌, ℕ, ◌+◌, ◌<◌, ◌||◌, Bool, true, false, eqb, eqb-true, length}
+use Rattle.std.proofs.Common.{take, get_or, refl, sym, ◌∙◌, inl, inr, arith}
 use Rattle.std.specs.Prelude.{◌⊎◌}
-use Rattle.std.proofs.lemmas.Bool.{false_from_ne_true, false≢true, true≢false}
+use Rattle.std.proofs.lemmas.Bool.{false_from_ne_true, false≢true}
 use Rattle.cnf_base.specs.Literals.{Literal, Clause, complement, has}
 use Rattle.cnf_base.proofs.LiteralLemmas.{complement-complement, complement-other}
 use Rattle.cnf_base.proofs.SetLemmas.{any_from, any_some}
@@ -13,21 +13,17 @@ module _ (c : Clause) (i : ℕ) (inside : i < length c) (x : Literal) (is : x �
   among : (k : Literal) → has (take (i + 1) c) k ≡ true → (has (take i c) k ≡ true) ⊎ (x ≡ k)
   among k h = by_tests (has (take i c) k) (eqb x k) refl refl (sym (has_more c i inside x is k) ∙ h)
     where
-      by_tests : (a b : Bool) → has (take i c) k ≡ a → eqb x k ≡ b → (a || b) ≡ true → (has (take i c) k ≡ true) ⊎ (x ≡ k)
+      by_tests : (a b : Bool) → has (take i c) k ≡ a → eqb x k ≡ b → (a || b) ≡ true
+          → (has (take i c) k ≡ true) ⊎ (x ≡ k)
       by_tests true b old new either = inl old
       by_tests false true old new either = inr (eqb-true x k new)
       by_tests false false old new either = absurd (false≢true either)
 
-  pub none_so_far : is_tautology (take i c) ≡ false → has (take i c) (complement x) ≡ false → is_tautology (take (i + 1) c) ≡ false
+  pub none_so_far : is_tautology (take i c) ≡ false → has (take i c) (complement x) ≡ false
+      → is_tautology (take (i + 1) c) ≡ false
   none_so_far none new = false_from_ne_true (is_tautology (take (i + 1) c)) (λ both.
       let w = any_some (λ l. has (take (i + 1) c) (complement l)) (take (i + 1) c) both in
       elim (among w.0 w.1) [
-        | inl a ↦ elim (among (complement w.0) w.2) [
-          | inl b ↦ true≢false (sym (any_from (λ l. has (take i c) (complement l)) (take i c) w.0 a b) ∙ none)
-          | inr e ↦ true≢false (sym (ap (has (take i c)) (ap complement e ∙ complement-complement w.0) ∙ a) ∙ new)
-        ]
-        | inr e ↦ elim (among (complement w.0) w.2) [
-          | inl b ↦ true≢false (sym (ap (λ k. has (take i c) (complement k)) e ∙ b) ∙ new)
-          | inr f ↦ complement-other w.0 (sym f ∙ e)
-        ]
+        | inl a ↦ grind (arith, among, any_from, complement-complement)
+        | inr e ↦ grind (arith, among, complement-other)
       ])

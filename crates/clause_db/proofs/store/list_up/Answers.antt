@@ -24,8 +24,10 @@ module _ (slot : ℕ) (lits : Clause) (old with : Option (Filled ℕ))
       (m : FinMap nat_cmp Clause) × (s : ℕ) × AreCounted with m × (maps.get m s ≡ Some lits)
   counted_there live are free = (maps.insert live slot lits, slot, counted live slot are free, insert_here live slot slot lits refl)
 
-  taken_back : (after : Option (Filled ℕ)) → ((live : FinMap nat_cmp Clause) (s : ℕ) → AreCounted with live → maps.get live s ≡ Some lits → AreCounted after (maps.remove live s)) →
-      (live : FinMap nat_cmp Clause) → AreCounted old live → maps.get live slot ≡ None → AreCounted after live
+  taken_back : (after : Option (Filled ℕ))
+      → ((live : FinMap nat_cmp Clause) (s : ℕ) → AreCounted with live → maps.get live s ≡ Some lits
+      → AreCounted after (maps.remove live s)) → (live : FinMap nat_cmp Clause)
+      → AreCounted old live → maps.get live slot ≡ None → AreCounted after live
   unfolding counted_there
   taken_back after removed live are free =
       let w = counted_there live are free in
@@ -34,20 +36,24 @@ module _ (slot : ℕ) (lits : Clause) (old with : Option (Filled ℕ))
 pub count_out-requires-clause-there : goal.count_out-requires-clause-there
 count_out-requires-clause-there g c =
     let w = c.requires.free in
-    counted_there c.args.slot c.args.lits.now c.args.counts.now c.count_in.new.counts c.in_ok-count_in.ensures.ok w.0 w.2 w.3
+    counted_there c.args.slot c.args.lits.now c.args.counts.now c.count_in.new.counts
+    c.in_ok-count_in.ensures.ok w.0 w.2 w.3
 
 pub returns-in-Err-clause-same_counts : goal.returns-in-Err-clause-same_counts
 returns-in-Err-clause-same_counts g c =
-    taken_back c.args.slot c.args.lits.now c.args.counts.now c.count_in.new.counts c.in_ok-count_in.ensures.ok c.count_out.new.counts c.count_out.ensures
+    taken_back c.args.slot c.args.lits.now c.args.counts.now c.count_in.new.counts
+    c.in_ok-count_in.ensures.ok c.count_out.new.counts c.count_out.ensures
 
 pub count_out-requires-in-Err-add-clause-there : goal.count_out-requires-in-Err-add-clause-there
 count_out-requires-in-Err-add-clause-there g c =
     let w = c.requires.free in
-    counted_there c.args.slot c.args.lits.now c.args.counts.now c.count_in.new.counts c.in_ok-count_in.ensures.ok w.0 w.2 w.3
+    counted_there c.args.slot c.args.lits.now c.args.counts.now c.count_in.new.counts
+    c.in_ok-count_in.ensures.ok w.0 w.2 w.3
 
 pub returns-in-Err-add-clause-same_counts : goal.returns-in-Err-add-clause-same_counts
 returns-in-Err-add-clause-same_counts g c =
-    taken_back c.args.slot c.args.lits.now c.args.counts.now c.count_in.new.counts c.in_ok-count_in.ensures.ok c.count_out-in-Err-add.new.counts c.count_out-in-Err-add.ensures
+    taken_back c.args.slot c.args.lits.now c.args.counts.now c.count_in.new.counts
+    c.in_ok-count_in.ensures.ok c.count_out-in-Err-add.new.counts c.count_out-in-Err-add.ensures
 
 -- ---- Occurrences that are taken back
 
@@ -60,4 +66,5 @@ forget-requires g c =
 pub returns-in-Err-add-clause-same_kept : goal.returns-in-Err-add-clause-same_kept
 returns-in-Err-add-clause-same_kept g c live kept free =
     let lits = c.args.lits.now in
-    subst (AreKept c.forget.new.kept) (insert_undone live c.args.slot lits free) (c.forget.ensures (maps.insert live c.args.slot lits) (c.in_default.ensures.ok live kept free))
+    subst (AreKept c.forget.new.kept) (insert_undone live c.args.slot lits free)
+    (c.forget.ensures (maps.insert live c.args.slot lits) (c.in_default.ensures.ok live kept free))

@@ -1,5 +1,4 @@
-use Rattle.std.proofs.Common.{◌≡◌, ◌+◌, ◌≤◌, true, length, sym, ◌∙◌}
-use Rattle.std.proofs.Common.{subst, arith}
+use Rattle.std.proofs.Common.{◌≡◌, ◌+◌, ◌≤◌, true, length, sym, ◌∙◌, subst, arith}
 use Rattle.cnf_base.specs.Literals.{same_clause, size}
 use Rattle.cnf_base.proofs.SetLemmas.{same_back, same_from, same_there}
 use Rattle.cnf_base.proofs.SizeLemmas.{size_same}

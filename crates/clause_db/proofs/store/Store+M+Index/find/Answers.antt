@@ -19,12 +19,14 @@ returns-then-not-all_known-clause-none g c s d is same =
     let marks = c.self.inside.marks in
     let lits = c.args.lits.now in
     let at_slot = ap (λ v. maps.get v.live s) c.self.view_is ∙ is in
-    let known = each_all (λ l. is_some (at marks l)) lits (λ l h. c.self.invariant.0.known s d at_slot l (same_back d lits same l h)) in
+    let known = each_all (λ l. is_some (at marks l)) lits
+    (λ l h. c.self.invariant.0.known s d at_slot l (same_back d lits same l h)) in
     true≢false (sym known ∙ sym c.all_known.ensures ∙ c.if-not-all_known.true)
 
 pub mark_all-digest-requires-clause-known : goal.mark_all-digest-requires-clause-known
 mark_all-digest-requires-clause-known g c l h =
-    all_each (λ l. is_some (at c.self.inside.marks l)) c.args.lits.now l (sym c.all_known.ensures ∙ c.if-not-all_known.false) h
+    all_each (λ l. is_some (at c.self.inside.marks l)) c.args.lits.now l
+    (sym c.all_known.ensures ∙ c.if-not-all_known.false) h
 
 pub find_marked-found-requires : goal.find_marked-found-requires
 find_marked-found-requires g c = c.self.invariant.1

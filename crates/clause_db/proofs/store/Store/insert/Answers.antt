@@ -1,5 +1,5 @@
-use Rattle.std.proofs.Common.{◌≡◌, ℕ, ◌+◌, true, Some, is_some, length, refl, sym, ap, ◌∙◌}
-use Rattle.std.proofs.Common.{subst, arith}
+use Rattle.std.proofs.Common.{◌≡◌, ℕ, ◌+◌, true, Some, is_some, length, refl, sym, ap, ◌∙◌, subst}
+use Rattle.std.proofs.Common.{arith}
 use Rattle.std.specs.FinMap as maps
 use Rattle.std.specs.FinMap.{FinMap}
 use Rattle.std.specs.Ordering.{nat_cmp}
@@ -12,8 +12,7 @@ use Rattle.clause_db.specs.Code.Counts.{AreCounted}
 use Rattle.clause_db.specs.Code.Fields.{IsStore, IsTakenIn}
 use Rattle.clause_db.specs.Code.Kept.{AreKept}
 use Rattle.clause_index.proofs.IndexLemmas.Results.{on_err_from}
-use Rattle.clause_db.proofs.StoreLemmas.Fields.{live_alone, sound_same, sound_with}
-use Rattle.clause_db.proofs.StoreLemmas.Fields.{sum_fits}
+use Rattle.clause_db.proofs.StoreLemmas.Fields.{live_alone, sound_same, sound_with, sum_fits}
 use Rattle.clause_db.proofs.StoreLemmas.Kept.{insert_undone}
 use Rattle.cnf_base.proofs.MapLemmas.{insert_here, insert_other}
 use Rattle.clause_db.proofs.store.Store.insert.Goals as goal

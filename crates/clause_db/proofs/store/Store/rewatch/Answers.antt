@@ -16,23 +16,23 @@ invariant_of-self c =
     let i = c.self.inside in
     let w = c.requires in
     let x = w.0 in
-    let here =
-    ap (maps.get i.memory.live) c.number.ensures
-    ∙ ap (λ v. maps.get v.live c.args.slot) c.self.view_is ∙ w.2
-    in
+    let here = ap (maps.get i.memory.live) c.number.ensures
+    ∙ ap (λ v. maps.get v.live c.args.slot) c.self.view_is ∙ w.2 in
     let live = c.rewatch.ensures.live x w.1 here w.3 w.4 w.5 in
     let alike = has_rewatched x w.1 c.args.to w.3 w.6 w.7 in
     let as_long = length_rewatched x w.1 c.args.to in
-    all_replaced i.index i.occurrences i.counts i.marks i.sum i.memory.live
-    c.rewatch.new.self.live i.memory.stored c.rewatch.new.self.stored c.number.result x _
-    c.self.invariant here alike as_long live c.rewatch.ensures.live_alone
+    all_replaced i.index i.occurrences i.counts i.marks i.sum i.memory.live c.rewatch.new.self.live
+    i.memory.stored c.rewatch.new.self.stored c.number.result x _ c.self.invariant here alike
+    as_long live c.rewatch.ensures.live_alone
 
 pub returns-clause-live : goal.returns-clause-live
 returns-clause-live c x from here low is_l is_other =
     let i = c.self.inside in
-    let there = ap (maps.get i.memory.live) c.number.ensures ∙ ap (λ v. maps.get v.live c.args.slot) c.self.view_is ∙ here in
+    let there = ap (maps.get i.memory.live) c.number.ensures
+    ∙ ap (λ v. maps.get v.live c.args.slot) c.self.view_is ∙ here in
     let y = swap (swap x 0 (1 - from)) 1 c.args.to in
-    c.rewatch.ensures.live x from there low is_l is_other ∙ ap (λ s. maps.insert i.memory.live s y) c.number.ensures
+    c.rewatch.ensures.live x from there low is_l is_other
+    ∙ ap (λ s. maps.insert i.memory.live s y) c.number.ensures
     ∙ ap (λ v. maps.insert v.live c.args.slot y) c.self.view_is
 
 pub returns-clause-live_alone : goal.returns-clause-live_alone

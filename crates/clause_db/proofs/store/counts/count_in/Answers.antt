@@ -9,8 +9,7 @@ count_all-requires-clause-few c l =
     let w = c.requires.few in
     let is = subst (λ o. AreCounted o w.0) c.in-Some.is w.1 l in
     let bound = copies_few w.0 l in
-    let few = w.2 in
-    omega arith
+    let few = w.2 in omega arith
 
 pub returns-in-Some-clause-ok : goal.returns-in-Some-clause-ok
 returns-in-Some-clause-ok c = on_ok_weaker c.count_all.result (λ more live slot are free.

@@ -6,8 +6,10 @@ use Rattle.clause_db.proofs.store.counts.count_out.Goals as goal
 pub release-requires-clause-counted : goal.release-requires-clause-counted
 release-requires-clause-counted c =
     let w = c.requires.there in
-    counted_here c.in-Some.counts w.0 w.1 c.args.lits.now (subst (λ o. AreCounted o w.0) c.in-Some.is w.2) w.3
+    counted_here c.in-Some.counts w.0 w.1 c.args.lits.now
+    (subst (λ o. AreCounted o w.0) c.in-Some.is w.2) w.3
 
 pub returns-in-Some : goal.returns-in-Some
 returns-in-Some c live slot are here =
-    counted_without c.in-Some.counts c.release.new.counts live slot c.args.lits.now (subst (λ o. AreCounted o live) c.in-Some.is are) here c.release.ensures
+    counted_without c.in-Some.counts c.release.new.counts live slot c.args.lits.now
+    (subst (λ o. AreCounted o live) c.in-Some.is are) here c.release.ensures

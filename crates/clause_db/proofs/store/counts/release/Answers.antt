@@ -15,5 +15,6 @@ count_down-requires c =
 
 pub loop-l-preserved : goal.loop-l-preserved
 loop-l-preserved c k =
-    let more = met_more c.args.lits.now c.loop-l.l-index c.loop-l-test.true c.l-item.result c.l-item.is c.requires.different k in
+    let more = met_more c.args.lits.now c.loop-l.l-index c.loop-l-test.true c.l-item.result
+    c.l-item.is c.requires.different k in
     omega (arith, c.count_down.ensures k, c.loop-l.invariant k)

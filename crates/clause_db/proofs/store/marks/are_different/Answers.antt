@@ -11,5 +11,4 @@ loop-i-preserved c =
     let x = c.index-lits-i.result in
     let new : has (take i lits) x ≡ false = sym c.is_among.ensures ∙ c.if-is_among.false in
     let more = size_more lits i c.loop-i-test.true x c.index-lits-i.is new in
-    let so_far = c.loop-i.invariant in
-    omega (arith, more, so_far)
+    let so_far = c.loop-i.invariant in omega (arith, more, so_far)

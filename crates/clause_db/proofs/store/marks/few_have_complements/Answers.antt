@@ -22,5 +22,6 @@ returns-then-is_among c =
     let x = c.index-lits-i.result in
     let before : has (take i lits) (complement x) ≡ true =
     ap (has (take i lits)) (sym c.neg.ensures) ∙ sym c.is_among.ensures ∙ c.if-is_among.true in
-    sym
-    (any_from (λ l. has lits (complement l)) lits x (has_at lits i x c.loop-i-test.true c.index-lits-i.is) (has_take lits i (complement x) before))
+    sym (any_from (λ l. has lits (complement l)) lits x
+    (has_at lits i x c.loop-i-test.true c.index-lits-i.is)
+    (has_take lits i (complement x) before))

@@ -4,9 +4,8 @@ use Rattle.std.proofs.lemmas.List.{take_all}
 use Rattle.cnf_base.specs.Literals.{has, size}
 use Rattle.cnf_base.proofs.SetLemmas.{same_from}
 use Rattle.cnf_base.proofs.WalkLemmas.{is_in}
-use Rattle.clause_db.proofs.StoreLemmas.Marks.{marked_new, marked_old, gather_more}
-use Rattle.clause_db.proofs.StoreLemmas.Marks.{has_kept, push_same, push_fits}
-use Rattle.clause_db.proofs.StoreLemmas.Marks.{push_different}
+use Rattle.clause_db.proofs.StoreLemmas.Marks.{marked_new, marked_old, gather_more, has_kept}
+use Rattle.clause_db.proofs.StoreLemmas.Marks.{push_same, push_fits, push_different}
 use Rattle.clause_db.proofs.store.marks.gather.Goals as goal
 use Rattle.clause_db.proofs.store.marks.gather.Goals.{then-clear_mark, else-clear_mark}
 
@@ -16,13 +15,15 @@ push_reserved-requires c =
     let i = c.loop-l.l-index in
     let x = c.l-item.result in
     let inside : i < length lits = omega arith in
-    let new : has (take i lits) x ≡ false = marked_new (has lits x) (has (take i lits) x) (sym (c.loop-l.invariant.marked x) ∙ sym c.clear_mark.ensures.was ∙ c.if-clear_mark.true) in
-    let fits = push_fits lits i inside x c.l-item.is c.loop-l.kept.items c.loop-l.invariant.items new in
+    let new : has (take i lits) x ≡ false =
+    marked_new (has lits x) (has (take i lits) x)
+    (sym (c.loop-l.invariant.marked x) ∙ sym c.clear_mark.ensures.was ∙ c.if-clear_mark.true) in
+    let fits = push_fits lits i inside x c.l-item.is c.loop-l.kept.items c.loop-l.invariant.items
+    new in
     let different = c.loop-l.invariant.different in
     let room = c.loop-l.invariant.room in
     let enough = c.requires.room in
-    let whole = c.loop-l.kept.ok.0 in
-    omega arith
+    let whole = c.loop-l.kept.ok.0 in omega arith
 
 pub loop-l-preserved : goal.loop-l-preserved
 loop-l-preserved c =

@@ -1,5 +1,5 @@
-use Rattle.std.proofs.Common.{◌≡◌, ℕ, ◌+◌, not, true, is_some, eqb, eqb-true, subst, take, sym, ap, ◌∙◌, arith, inl}
-use Rattle.std.proofs.Common.{inr}
+use Rattle.std.proofs.Common.{◌≡◌, ℕ, ◌+◌, not, true, is_some, eqb, eqb-true, subst, take, sym, ap}
+use Rattle.std.proofs.Common.{◌∙◌, arith, inl, inr}
 use Rattle.std.proofs.lemmas.Bool.{not-true, not-false, or_cases}
 use Rattle.cnf_base.specs.Literals.{has}
 use Rattle.tables.specs.Filled.{at}
@@ -10,7 +10,8 @@ use Rattle.clause_db.proofs.store.marks.mark_new.Goals.{then-branch, else-branch
 
 pub returns-in_err-add_mark-clause-some : goal.returns-in_err-add_mark-clause-some
 returns-in_err-add_mark-clause-some c l marked =
-    has_take c.args.lits.now c.loop-l.l-index l (sym (c.in_err-add_mark.ensures.err l ∙ c.loop-l.invariant.marked l) ∙ marked)
+    has_take c.args.lits.now c.loop-l.l-index l
+    (sym (c.in_err-add_mark.ensures.err l ∙ c.loop-l.invariant.marked l) ∙ marked)
 
 pub loop-l-preserved : goal.loop-l-preserved
 loop-l-preserved c =

@@ -12,7 +12,8 @@ pub first_waiting-requires : goal.first_waiting-requires
 first_waiting-requires g c i inside = ap is_some (c.waiting.ensures.each (g.M.Memory.seen c.args.memory.now).live i c.requires inside).1
 
 pub first_match-requires : goal.first_match-requires
-first_match-requires g c i s stands = c.placed.ensures.each (g.M.Memory.seen c.args.memory.now).live i s c.requires stands
+first_match-requires g c i s stands =
+    c.placed.ensures.each (g.M.Memory.seen c.args.memory.now).live i s c.requires stands
 
 pub returns-in-None-clause-none : goal.returns-in-None-clause-none
 returns-in-None-clause-none g c =

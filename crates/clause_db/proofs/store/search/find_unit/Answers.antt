@@ -1,4 +1,5 @@
-use Rattle.std.proofs.Common.{◌≡◌, ℕ, ◌+◌, ◌/◌, ◌%◌, ◌^◌, ◌<◌, ◌∷◌, [], refl, sym, ap, ◌∙◌, subst, arith, inl, inr}
+use Rattle.std.proofs.Common.{◌≡◌, ℕ, ◌+◌, ◌/◌, ◌%◌, ◌^◌, ◌<◌, ◌∷◌, [], refl, sym, ap, ◌∙◌, subst}
+use Rattle.std.proofs.Common.{arith, inl, inr}
 use Rattle.std.specs.FinMap as maps
 use Rattle.std.proofs.lemmas.Option.{same_Some}
 use Rattle.cnf_base.specs.Literals.{Literal}
@@ -11,11 +12,13 @@ use Rattle.clause_db.proofs.StoreLemmas.Options.{if_none_then}
 use Rattle.clause_db.proofs.store.search.find_unit.Goals as goal
 
 -- the hash of a clause of one literal
-hash_alone : (seed : ℕ) (l : Literal) → mix seed l < 2 ^ 64 → hash seed (l ∷ []) ≡ mix seed l / 2 ^ 32
+hash_alone : (seed : ℕ) (l : Literal) → mix seed l < 2 ^ 64
+    → hash seed (l ∷ []) ≡ mix seed l / 2 ^ 32
 unfolding hash
 hash_alone seed l low =
     let first = mixed_none seed in
-    let sum : mixed_sum seed (l ∷ []) ≡ mix seed l = mixed_push seed [] l refl ∙ ap (λ n. (n + mix seed l) % 2 ^ 64) first ∙ omega (arith, low) in
+    let sum : mixed_sum seed (l ∷ []) ≡ mix seed l = mixed_push seed [] l refl
+    ∙ ap (λ n. (n + mix seed l) % 2 ^ 64) first ∙ omega (arith, low) in
     ap (λ n. n / 2 ^ 32) sum
 
 pub returns-in-None-clause-none : goal.returns-in-None-clause-none

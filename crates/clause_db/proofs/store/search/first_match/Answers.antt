@@ -1,14 +1,16 @@
 use Rattle.std.proofs.Common.{◌≡◌, ℕ, sym, ap, ◌∙◌, arith, inl, inr, get_or}
 use Rattle.std.specs.FinMap as maps
 use Rattle.std.proofs.lemmas.Bool.{cases_lt}
-use Rattle.std.proofs.lemmas.Option.{slice_get_within, get_or_from_slice_get, same_Some, slice_get-get_or}
+use Rattle.std.proofs.lemmas.Option.{slice_get_within, get_or_from_slice_get, same_Some}
+use Rattle.std.proofs.lemmas.Option.{slice_get-get_or}
 use Rattle.clause_db.specs.Code.LiteralMarks.{is_marked}
 use Rattle.clause_db.specs.Code.Matches.{is_match}
 use Rattle.tables.specs.Filled.{at}
 use Rattle.clause_db.proofs.store.search.first_match.Goals as goal
 
 pub clause-requires : goal.clause-requires
-clause-requires g c = c.requires c.loop-i.i _ (slice_get-get_or c.args.bucket.now c.loop-i.i 0 (omega arith))
+clause-requires g c =
+    c.requires c.loop-i.i _ (slice_get-get_or c.args.bucket.now c.loop-i.i 0 (omega arith))
 
 pub loop-i-preserved : goal.loop-i-preserved
 loop-i-preserved g c k s d low at_k live = elim (cases_lt k c.loop-i.i) [
