@@ -1,21 +1,19 @@
 -- Lists that begin with another, as a trail does after more literals were set.
 use Rattle.std.proofs.Common.{◌≡◌, ℕ, ◌≤◌, true, List, [], ◌∷◌, ◌++◌, length, take, drop, ap, ◌∙◌}
-use Rattle.std.proofs.Common.{subst, inl, inr}
-use Rattle.std.proofs.lemmas.Bool.{false≢true}
+use Rattle.std.proofs.Common.{arith}
 use Rattle.std.proofs.lemmas.List.{take-append-le, take-append-drop}
 use Rattle.cnf_base.specs.Literals.{has}
-use Rattle.cnf_base.proofs.SetLemmas.{has_cases, has_append_left, has_append_cases}
+use Rattle.cnf_base.proofs.SetLemmas.{has_append_left, has_append_cases}
 
-pub begins_push : (first ls : List ℕ) (m : ℕ) → take (length first) ls ≡ first → length first ≤ length ls → take (length first) (ls ++ m ∷ []) ≡ first
-begins_push first ls m begins longer = take-append-le (length first) ls (m ∷ []) longer ∙ begins
+pub begins_push : (first ls : List ℕ) (m : ℕ) → take (length first) ls ≡ first
+    → length first ≤ length ls → take (length first) (ls ++ m ∷ []) ≡ first
+begins_push first ls m begins longer = grind (arith, take-append-le)
 
-pub has_begun : (first ls : List ℕ) (l : ℕ) → take (length first) ls ≡ first → has first l ≡ true → has ls l ≡ true
+pub has_begun : (first ls : List ℕ) (l : ℕ) → take (length first) ls ≡ first → has first l ≡ true
+    → has ls l ≡ true
 has_begun first ls l begins h =
-    subst (λ xs. has xs l ≡ true) (take-append-drop (length first) ls) (has_append_left (take (length first) ls) (drop (length first) ls) l (ap (λ xs. has xs l) begins ∙ h))
+    cc (take-append-drop (length first) ls, has_append_left (take (length first) ls) (drop (length first) ls) l (ap (λ xs. has xs l) begins ∙ h))
 
-pub pushed_each : (P : ℕ → Type 0) (ls : List ℕ) (m : ℕ) → ((l : ℕ) → has ls l ≡ true → P l) → P m → (l : ℕ) → has (ls ++ m ∷ []) l ≡ true → P l
-pushed_each P ls m each here l h =
-    elim (has_append_cases ls (m ∷ []) l h) [
-      | inl g ↦ each l g
-      | inr g ↦ elim (has_cases m [] l g) [ inl e ↦ subst P e here | inr none ↦ absurd (false≢true none) ]
-    ]
+pub pushed_each : (P : ℕ → Type 0) (ls : List ℕ) (m : ℕ) → ((l : ℕ) → has ls l ≡ true → P l) → P m
+    → (l : ℕ) → has (ls ++ m ∷ []) l ≡ true → P l
+pushed_each P ls m each here l h = grind (arith, has_append_cases)

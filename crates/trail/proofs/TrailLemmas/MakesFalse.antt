@@ -1,9 +1,7 @@
 -- The literals that are true once those of a part of a clause are false.
-use Rattle.std.proofs.Common.{◌≡◌, ℕ, ◌+◌, ◌<◌, ◌≤◌, Bool, true, false, not}
-use Rattle.std.proofs.Common.{◌||◌, cond, arith, length-append, eqb, eqb-true, List, []}
-use Rattle.std.proofs.Common.{◌∷◌, ◌++◌, filter, length, get_or, take, refl, sym, ap}
-use Rattle.std.proofs.Common.{◌∙◌, subst, inl, inr, append-nil}
-use Rattle.std.proofs.lemmas.Bool.{true≢false, false_from_ne_true, not-true, not-false}
+use Rattle.std.proofs.Common.{◌≡◌, ℕ, ◌+◌, ◌<◌, ◌≤◌, Bool, true, false, not, cond, arith}
+use Rattle.std.proofs.Common.{length-append, List, [], ◌∷◌, ◌++◌, filter, length, get_or, take}
+use Rattle.std.proofs.Common.{refl, sym, ap, ◌∙◌, inl, inr, append-nil}
 use Rattle.std.proofs.lemmas.List.{append_assoc, map-append, take_at, take_all}
 use Rattle.std.proofs.lemmas.List.Elements.{filter_more}
 use Rattle.cnf_base.specs.Literals.{Literal, complement, Clause, has, complements}
@@ -13,60 +11,46 @@ use Rattle.cnf_base.proofs.LiteralLemmas.{complement-complement}
 use Rattle.theory.specs.Sets.{conflicts, SameSet}
 use Rattle.trail.specs.Trail.{value_under, HasNoVariableTwice}
 use Rattle.trail.specs.declared.value.Value.{Value}
-use Rattle.trail.specs.declared.value.Value.TheVariants.{True, False, Open}
+use Rattle.trail.specs.declared.value.Value.TheVariants.{False}
 use Rattle.cnf_base.proofs.WalkLemmas.{has_push, has_take, is_in}
 use Rattle.trail.proofs.TrailLemmas.Truth.{consistent}
 use Rattle.theory.proofs.PropagationLemmas.Conflicts.{conflict_from, conflicts_some}
 
 pub no_conflict : (ls : List Literal) → HasNoVariableTwice ls → conflicts ls ≡ false
-no_conflict ls apart =
-    false_from_ne_true (conflicts ls) (λ h. let w = conflicts_some ls h in true≢false (sym w.2 ∙ consistent ls apart w.0 w.1))
+no_conflict ls apart = grind (arith, conflicts_some, consistent)
 
 -- ---- The value of a literal
 
-pub value_not_false : (ls : List Literal) (l : Literal) → HasNoVariableTwice ls → (v : Value) → v ≡ value_under ls l → (v ≡ False → ⊥) → false ≡ has ls (complement l)
-value_not_false ls l apart v is other = by_tests (has ls l) (has ls (complement l)) refl refl
-  where
-    by_tests : (a b : Bool) → has ls l ≡ a → has ls (complement l) ≡ b → false ≡ has ls (complement l)
-    by_tests true b e f = sym (consistent ls apart l e)
-    by_tests false true e f = absurd (other (is ∙ ap (λ t. cond t True (cond (has ls (complement l)) False Open)) e ∙ ap (λ t. cond t False Open) f))
-    by_tests false false e f = sym f
+pub value_not_false : (ls : List Literal) (l : Literal) → HasNoVariableTwice ls → (v : Value)
+    → v ≡ value_under ls l → (v ≡ False → ⊥) → false ≡ has ls (complement l)
+value_not_false ls l apart v is other = grind (arith, consistent)
 
 -- ---- Sets
 
-pub same_pushed : (first second : List Literal) (m : Literal) → SameSet first second → SameSet (first ++ m ∷ []) (second ++ m ∷ [])
-same_pushed first second m same l = has_push first m l ∙ ap (λ b. b || eqb m l) (same l) ∙ sym (has_push second m l)
+pub same_pushed : (first second : List Literal) (m : Literal) → SameSet first second
+    → SameSet (first ++ m ∷ []) (second ++ m ∷ [])
+same_pushed first second m same l = grind (arith, has_push)
 
 -- a literal that is there already
-pub same_old : (first second : List Literal) (m : Literal) → SameSet first second → has first m ≡ true → SameSet first (second ++ m ∷ [])
-same_old first second m same here l = by_test (eqb m l) refl ∙ ap (λ b. b || eqb m l) (same l) ∙ sym (has_push second m l)
-  where
-    old : (b : Bool) → b ≡ (b || false)
-    old true = refl
-    old false = refl
-
-    by_test : (b : Bool) → eqb m l ≡ b → has first l ≡ (has first l || eqb m l)
-    by_test true e = subst (λ k. has first k ≡ (has first k || eqb m k)) (eqb-true m l e) (here ∙ sym (ap (λ b. b || eqb m m) here))
-    by_test false e = old (has first l) ∙ sym (ap (λ b. has first l || b) e)
+pub same_old : (first second : List Literal) (m : Literal) → SameSet first second
+    → has first m ≡ true → SameSet first (second ++ m ∷ [])
+same_old first second m same here l = grind (arith, has_push)
 
 -- ---- One more true literal
 
 module _ (first after : List Literal) (m : Literal) (is_open : Bool) (was : is_open ≡ not (has first m)) (is : after ≡ cond is_open (first ++ m ∷ []) first) where
-  pub by_open : (P : List Literal → Type 0) → (has first m ≡ false → P (first ++ m ∷ [])) → (has first m ≡ true → P first) → P after
-  by_open P new old = subst P (sym is) (by_test is_open was)
-    where
-      by_test : (b : Bool) → b ≡ not (has first m) → P (cond b (first ++ m ∷ []) first)
-      by_test true e = new (not-true (has first m) (sym e))
-      by_test false e = old (not-false (has first m) (sym e))
+  pub by_open : (P : List Literal → Type 0) → (has first m ≡ false → P (first ++ m ∷ []))
+      → (has first m ≡ true → P first) → P after
+  by_open P new old = grind arith
 
   pub made_true : SameSet after (first ++ m ∷ [])
-  made_true = by_open (λ ls. SameSet ls (first ++ m ∷ [])) (λ absent l. refl) (λ here. same_old first first m (λ l. refl) here)
+  made_true = grind (arith, same_old)
 
   pub begins_made : take (length first) after ≡ first
-  begins_made = by_open (λ ls. take (length first) ls ≡ first) (λ absent. take_at first (m ∷ []) (length first) refl) (λ here. take_all (length first) first (omega arith))
+  begins_made = grind (arith, take_at, take_all)
 
   pub longer_made : length first ≤ length after
-  longer_made = by_open (λ ls. length first ≤ length ls) (λ absent. let e = length-append first (m ∷ []) in omega arith) (λ here. omega arith)
+  longer_made = grind (arith, length-append)
 
 -- ---- One more literal of the clause
 
@@ -74,36 +58,38 @@ abbrev pub falsified : List Literal → (Literal → Bool) → Clause → List L
 falsified ls keeps c = ls ++ complements (filter keeps c)
 
 module _ (ls : List Literal) (keeps : Literal → Bool) (c : Clause) (i : ℕ) (inside : i < length c) (x : Literal) (is : x ≡ get_or c i x) where
-  next_kept : (b : Bool) → keeps x ≡ b → filter keeps (take (i + 1) c) ≡ filter keeps (take i c) ++ cond b (x ∷ []) []
-  next_kept b e =
-      filter_more keeps c i x inside
-      ∙ ap (λ y. filter keeps (take i c) ++ cond (keeps y) (y ∷ []) []) (sym is)
-      ∙ ap (λ t. filter keeps (take i c) ++ cond t (x ∷ []) []) e
+  next_kept : (b : Bool) → keeps x ≡ b
+      → filter keeps (take (i + 1) c) ≡ filter keeps (take i c) ++ cond b (x ∷ []) []
+  next_kept b e = grind (arith, filter_more)
 
-  pub falsified_next : keeps x ≡ true → falsified ls keeps (take (i + 1) c) ≡ falsified ls keeps (take i c) ++ complement x ∷ []
+  pub falsified_next : keeps x ≡ true
+      → falsified ls keeps (take (i + 1) c) ≡ falsified ls keeps (take i c) ++ complement x ∷ []
   falsified_next k =
       ap (λ d. ls ++ complements d) (next_kept true k)
       ∙ ap (λ d. ls ++ d) (map-append complement (filter keeps (take i c)) (x ∷ []))
       ∙ sym (append_assoc ls (complements (filter keeps (take i c))) (complement x ∷ []))
 
-  pub falsified_same : keeps x ≡ false → falsified ls keeps (take (i + 1) c) ≡ falsified ls keeps (take i c)
-  falsified_same k = ap (λ d. ls ++ complements d) (next_kept false k ∙ append-nil _)
+  pub falsified_same : keeps x ≡ false
+      → falsified ls keeps (take (i + 1) c) ≡ falsified ls keeps (take i c)
+  falsified_same k = cc (next_kept false k, append-nil _)
 
   -- x is true already
-  pub falsified_conflict : keeps x ≡ true → (trues : List Literal) → SameSet trues (falsified ls keeps (take i c)) → has trues x ≡ true → true ≡ conflicts (falsified ls keeps c)
+  pub falsified_conflict : keeps x ≡ true → (trues : List Literal)
+      → SameSet trues (falsified ls keeps (take i c)) → has trues x ≡ true
+      → true ≡ conflicts (falsified ls keeps c)
   falsified_conflict k trues same h =
-      sym (conflict_from (falsified ls keeps c) x
-      (within x (sym (same x) ∙ h))
-      (has_append_right ls (complements (filter keeps c)) (complement x) (has-complements (filter keeps c) x (has-filter keeps c x (is_in c i inside x is) k))))
+      sym (conflict_from (falsified ls keeps c) x (within x (sym (same x) ∙ h))
+      (grind (arith, has_append_right, has-complements, has-filter, is_in)))
     where
       part : (l : Literal) → has (filter keeps (take i c)) l ≡ true → has (filter keeps c) l ≡ true
-      part l g = let w = filter_has keeps (take i c) l g in has-filter keeps c l (has_take c i l w.0) w.1
+      part l g = grind (arith, filter_has, has-filter, has_take)
 
-      within : (l : Literal) → has (falsified ls keeps (take i c)) l ≡ true → has (falsified ls keeps c) l ≡ true
+      within : (l : Literal) → has (falsified ls keeps (take i c)) l ≡ true
+          → has (falsified ls keeps c) l ≡ true
       within l g = elim (has_append_cases ls (complements (filter keeps (take i c))) l g) [
         | inl f ↦ has_append_left ls (complements (filter keeps c)) l f
         | inr f ↦ has_append_right ls (complements (filter keeps c)) l
-            (subst (λ m. has (complements (filter keeps c)) m ≡ true) (complement-complement l) (has-complements (filter keeps c) (complement l) (part (complement l) (complements_has (filter keeps (take i c)) l f))))
+            (cc (complement-complement l, has-complements (filter keeps c) (complement l) (part (complement l) (complements_has (filter keeps (take i c)) l f))))
       ]
 
 -- the whole of a clause
@@ -111,12 +97,15 @@ pub whole_is : (c : Clause) → filter (λ l. true) c ≡ c
 whole_is [] = refl
 whole_is (l ∷ c) = ap (λ d. l ∷ d) (whole_is c)
 
-pub whole_conflict : (ls : List Literal) (c : Clause) → conflicts (falsified ls (λ l. true) c) ≡ true → conflicts (ls ++ complements c) ≡ true
-whole_conflict ls c h = ap (λ d. conflicts (ls ++ complements d)) (sym (whole_is c)) ∙ h
+pub whole_conflict : (ls : List Literal) (c : Clause)
+    → conflicts (falsified ls (λ l. true) c) ≡ true → conflicts (ls ++ complements c) ≡ true
+whole_conflict ls c h = cc (whole_is c)
 
-pub whole_added : (after ls : List Literal) (c : Clause) → SameSet after (falsified ls (λ l. true) c) → SameSet after (ls ++ complements c)
-whole_added after ls c same l = same l ∙ ap (λ d. has (ls ++ complements d) l) (whole_is c)
+pub whole_added : (after ls : List Literal) (c : Clause)
+    → SameSet after (falsified ls (λ l. true) c) → SameSet after (ls ++ complements c)
+whole_added after ls c same l = cc (same l, whole_is c)
 
 -- at the start nothing is added
-pub falsified_none : (ls : List Literal) (keeps : Literal → Bool) (c : Clause) → falsified ls keeps (take 0 c) ≡ ls
+pub falsified_none : (ls : List Literal) (keeps : Literal → Bool) (c : Clause)
+    → falsified ls keeps (take 0 c) ≡ ls
 falsified_none ls keeps c = append-nil ls

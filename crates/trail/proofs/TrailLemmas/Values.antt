@@ -34,7 +34,8 @@ or_nothing : (b : Bool) → (b || false) ≡ b
 or_nothing true = refl
 or_nothing false = refl
 
-pub value_by_tests : (lits : List ℕ) (l : ℕ) (a b : Bool) → has lits l ≡ a → has lits (complement l) ≡ b → value_under lits l ≡ cond a True (cond b False Open)
+pub value_by_tests : (lits : List ℕ) (l : ℕ) (a b : Bool) → has lits l ≡ a
+    → has lits (complement l) ≡ b → value_under lits l ≡ cond a True (cond b False Open)
 value_by_tests lits l a b p q = rw (p, q) refl
 
 -- ---- One more literal at the end
@@ -43,7 +44,8 @@ module _ (lits : List ℕ) (l : ℕ) (is_open : value_under lits l ≡ Open) whe
   tests : (has lits l ≡ false) × (has lits (complement l) ≡ false)
   tests = open_from_value lits l (sym is_open)
 
-  pub value_pushed : (k : ℕ) → value_under (lits ++ l ∷ []) k ≡ cond (eqb k (complement l)) False (cond (eqb k l) True (value_under lits k))
+  pub value_pushed : (k : ℕ) → value_under (lits ++ l ∷ []) k
+      ≡ cond (eqb k (complement l)) False (cond (eqb k l) True (value_under lits k))
   value_pushed k = elim (cases_eq k (complement l)) [
     | inl same ↦
         value_by_tests (lits ++ l ∷ []) k false true
@@ -65,34 +67,33 @@ module _ (lits : List ℕ) (l : ℕ) (is_open : value_under lits l ≡ Open) whe
   pub different_pushed : HasNoVariableTwice lits → HasNoVariableTwice (lits ++ l ∷ [])
   different_pushed different =
       subst (IsDistinct nat_eq) (sym (map-append variable lits (l ∷ [])))
-      (IsDistinct-push nat_eq_equiv (map variable lits) (variable l) different (sym (has_any (map variable lits) (variable l)) ∙ variable_open lits l tests.0 tests.1))
+      (IsDistinct-push nat_eq_equiv (map variable lits) (variable l) different
+      (sym (has_any (map variable lits) (variable l)) ∙ variable_open lits l tests.0 tests.1))
 
 -- ---- The last literals taken off
 
 -- all but the first ones follow them
 front_and_rest : (ls : List ℕ) (n : ℕ) → ls ≡ take n ls ++ take (length ls - n) (drop n ls)
-front_and_rest ls n = sym (ap (λ rest. take n ls ++ rest) (take_all (length ls - n) (drop n ls) (omega (arith, length-drop n ls))) ∙ take-append-drop n ls)
+front_and_rest ls n = grind (arith, take_all, length-drop, take-append-drop)
 
 module _ (front rest : List ℕ) (different : HasNoVariableTwice (front ++ rest)) where
   pub different_front : HasNoVariableTwice front
-  different_front = HasNoVariableTwice-from_places front (λ i j low high same.
-      let e = length-append front rest in
-      let first : i < length front = omega arith in
-      places_apart (front ++ rest) different i j low (omega (arith, e))
-      (ap variable (get_or_append_left front rest 0 i first) ∙ same ∙ sym (ap variable (get_or_append_left front rest 0 j high))))
+  different_front =
+      grind (arith, HasNoVariableTwice-from_places, length-append, places_apart, get_or_append_left)
 
   -- what one of the last ones says, none before says
   lacks : (l k : ℕ) → has rest l ≡ true → variable k ≡ variable l → has front k ≡ false
-  lacks l k last same = false_from_ne_true (has front k) (λ h.
-      let w = place_of front k h in
-      let u = place_of rest l last in
-      let low = w.1 in
-      let high = u.1 in
+  lacks l k last same =
+      false_from_ne_true (has front k) (λ h. let w = place_of front k h in
+      let u = place_of rest l last in let low = w.1 in let high = u.1 in
       let e = length-append front rest in
-      places_apart (front ++ rest) different w.0 (length front + u.0) (omega arith) (omega (arith, e))
-      (ap variable (get_or_append_left front rest 0 w.0 low ∙ w.2) ∙ same ∙ sym (ap variable (get_or-append_right front rest (length front) (length front + u.0) 0 refl (omega arith) ∙ ap (λ i. get_or rest i 0) (omega arith) ∙ u.2))))
+      places_apart (front ++ rest) different w.0 (length front + u.0) (omega arith)
+      (omega (arith, e)) (ap variable (get_or_append_left front rest 0 w.0 low ∙ w.2) ∙ same
+      ∙ sym (ap variable (get_or-append_right front rest (length front) (length front + u.0)
+      0 refl (omega arith) ∙ ap (λ i. get_or rest i 0) (omega arith) ∙ u.2))))
 
-  pub value_front : (k : ℕ) → value_under front k ≡ cond (has rest k || has rest (complement k)) Open (value_under (front ++ rest) k)
+  pub value_front : (k : ℕ) → value_under front k
+      ≡ cond (has rest k || has rest (complement k)) Open (value_under (front ++ rest) k)
   value_front k = by_tests (has rest k) (has rest (complement k)) refl refl
     where
       same_has : (l : ℕ) → has rest l ≡ false → has (front ++ rest) l ≡ has front l
@@ -100,17 +101,25 @@ module _ (front rest : List ℕ) (different : HasNoVariableTwice (front ++ rest)
           (λ h. elim (has_append_cases front rest l h) [ inl g ↦ g | inr g ↦ absurd (false≢true (sym none ∙ g)) ])
           (λ h. has_append_left front rest l h)
 
-      by_tests : (a b : Bool) → has rest k ≡ a → has rest (complement k) ≡ b → value_under front k ≡ cond (has rest k || has rest (complement k)) Open (value_under (front ++ rest) k)
+      by_tests : (a b : Bool) → has rest k ≡ a → has rest (complement k) ≡ b
+          → value_under front k ≡ cond (has rest k || has rest (complement k)) Open
+          (value_under (front ++ rest) k)
       by_tests true b e f =
-          value_by_tests front k false false (lacks k k e refl) (lacks k (complement k) e (variable-complement k))
-          ∙ sym (ap (λ t. cond (t || has rest (complement k)) Open (value_under (front ++ rest) k)) e)
+          value_by_tests front k false false (lacks k k e refl)
+          (lacks k (complement k) e (variable-complement k))
+          ∙ sym (ap (λ t. cond (t || has rest (complement k)) Open (value_under (front ++ rest) k))
+          e)
       by_tests false true e f =
-          value_by_tests front k false false (lacks (complement k) k f (sym (variable-complement k))) (lacks (complement k) (complement k) f refl)
-          ∙ sym (ap (λ t. cond (t || has rest (complement k)) Open (value_under (front ++ rest) k)) e ∙ ap (λ t. cond t Open (value_under (front ++ rest) k)) f)
+          value_by_tests front k false false
+          (lacks (complement k) k f (sym (variable-complement k)))
+          (lacks (complement k) (complement k) f refl)
+          ∙ sym (ap (λ t. cond (t || has rest (complement k)) Open (value_under (front ++ rest) k))
+          e ∙ ap (λ t. cond t Open (value_under (front ++ rest) k)) f)
       by_tests false false e f =
           value_by_tests front k _ _ refl refl
           ∙ sym (value_by_tests (front ++ rest) k _ _ (same_has k e) (same_has (complement k) f))
-          ∙ sym (ap (λ t. cond (t || has rest (complement k)) Open (value_under (front ++ rest) k)) e ∙ ap (λ t. cond t Open (value_under (front ++ rest) k)) f)
+          ∙ sym (ap (λ t. cond (t || has rest (complement k)) Open (value_under (front ++ rest) k))
+          e ∙ ap (λ t. cond t Open (value_under (front ++ rest) k)) f)
 
 -- ---- The invariant
 
@@ -130,30 +139,34 @@ distinct_size (v ∷ vs) apart =
     ])
 
 -- there are at most as many literals as different variables
-pub fits_different : (lits reserved : List ℕ) → HasNoVariableTwice lits → ((v : ℕ) → has (map variable lits) v ≡ true → has reserved v ≡ true) → length lits ≤ size reserved
+pub fits_different : (lits reserved : List ℕ) → HasNoVariableTwice lits
+    → ((v : ℕ) → has (map variable lits) v ≡ true → has reserved v ≡ true)
+    → length lits ≤ size reserved
 fits_different lits reserved different within =
-    let covered = size_covered (map variable lits) reserved within in
-    let each = distinct_size (map variable lits) different in
-    let long = length-map lits variable in
-    omega (arith, covered, each, long)
+    grind (arith, size_covered, distinct_size, length-map)
 
 -- where no variable is there twice, there are at most as many literals as variables
-pub fits_within : (lits reserved : List ℕ) → HasNoVariableTwice lits → ((v : ℕ) → has (map variable lits) v ≡ true → has reserved v ≡ true) → length lits ≤ length reserved
+pub fits_within : (lits reserved : List ℕ) → HasNoVariableTwice lits
+    → ((v : ℕ) → has (map variable lits) v ≡ true → has reserved v ≡ true)
+    → length lits ≤ length reserved
 fits_within lits reserved different within =
-    let most = length-le_from_is_member nat_eq_equiv (map variable lits) reserved different (λ v h. sym (has_any reserved v) ∙ within v (has_any (map variable lits) v ∙ h)) in
-    let long = length-map lits variable in
-    omega (arith, most, long)
+    let most = length-le_from_is_member nat_eq_equiv (map variable lits) reserved different
+    (λ v h. sym (has_any reserved v) ∙ within v (has_any (map variable lits) v ∙ h)) in
+    let long = length-map lits variable in omega (arith, most, long)
 
-pub trail_empty : {T : Type 0} (lits reserved : List ℕ) (capacity : ℕ) (seen : ℕ → Option T) (value_of : Values) → lits ≡ [] → reserved ≡ [] → ((v : ℕ) → seen v ≡ None) → ((k : ℕ) → value_of k ≡ None) → IsTrail lits reserved capacity seen value_of
+pub trail_empty : {T : Type 0} (lits reserved : List ℕ) (capacity : ℕ) (seen : ℕ → Option T)
+    (value_of : Values) → lits ≡ [] → reserved ≡ [] → ((v : ℕ) → seen v ≡ None)
+    → ((k : ℕ) → value_of k ≡ None) → IsTrail lits reserved capacity seen value_of
 unfolding IsDistinct
-trail_empty lits reserved capacity seen value_of no_lits none_met none_seen none = rw (no_lits, none_met) (record {
-  different = tt;
-  within = λ v h. h;
-  fits = omega arith;
-  noted = λ v. ap is_some (none_seen v);
-  known = λ l h. absurd (false≢true h);
-  values = λ l. ap known_value (none l);
-})
+trail_empty lits reserved capacity seen value_of no_lits none_met none_seen none =
+    rw (no_lits, none_met) (record {
+      different = tt;
+      within = λ v h. h;
+      fits = omega arith;
+      noted = λ v. ap is_some (none_seen v);
+      known = λ l h. absurd (false≢true h);
+      values = λ l. ap known_value (none l);
+    })
 
 -- the positive literal's complement
 pub negative_key : (v l : ℕ) → l ≡ 2 * v → complement l ≡ 2 * v + 1
@@ -164,18 +177,16 @@ negative_key v l e = grind (arith, nat_tests, e)
 module _ (l : ℕ) (a b : Value) (value_of first after : Values)
     (writes_one : (k : ℕ) → first k ≡ cond (eqb k l) (Some a) (value_of k))
     (writes_other : (k : ℕ) → after k ≡ cond (eqb k (complement l)) (Some b) (first k)) where
-  written : (k : ℕ) → after k ≡ cond (eqb k (complement l)) (Some b) (cond (eqb k l) (Some a) (value_of k))
-  written k = writes_other k ∙ ap (cond (eqb k (complement l)) (Some b)) (writes_one k)
+  written : (k : ℕ) → after k ≡ cond (eqb k (complement l)) (Some b)
+      (cond (eqb k l) (Some a) (value_of k))
+  written k = grind arith
 
-  pub written_value : (k : ℕ) → known_value (after k) ≡ cond (eqb k (complement l)) b (cond (eqb k l) a (known_value (value_of k)))
-  written_value k = ap known_value (written k) ∙ inside (eqb k (complement l)) (eqb k l) (value_of k)
-    where
-      inside : (p q : Bool) (o : Option Value) → known_value (cond p (Some b) (cond q (Some a) o)) ≡ cond p b (cond q a (known_value o))
-      inside true q o = refl
-      inside false true o = refl
-      inside false false o = refl
+  pub written_value : (k : ℕ) → known_value (after k)
+      ≡ cond (eqb k (complement l)) b (cond (eqb k l) a (known_value (value_of k)))
+  written_value k = grind arith
 
-  pub written_some : is_some (value_of l) ≡ true → is_some (value_of (complement l)) ≡ true → (k : ℕ) → is_some (after k) ≡ is_some (value_of k)
+  pub written_some : is_some (value_of l) ≡ true → is_some (value_of (complement l)) ≡ true
+      → (k : ℕ) → is_some (after k) ≡ is_some (value_of k)
   written_some one other k = elim (cases_eq k (complement l)) [
     | inl same ↦ ap is_some (written k ∙ ap (λ t. cond t (Some b) (cond (eqb k l) (Some a) (value_of k))) (eq-eqb k (complement l) same)) ∙ sym (ap (λ m. is_some (value_of m)) same ∙ other)
     | inr apart ↦ elim (cases_eq k l) [
@@ -195,8 +206,11 @@ within_pushed lits reserved l within here v h =
 
 module _ {T : Type 0} (lits reserved : List ℕ) (capacity : ℕ) (seen : ℕ → Option T) (value_of : Values) (trail : IsTrail lits reserved capacity seen value_of) where
   -- there is more room, for literals and for values
-  pub trail_wider : (more : ℕ) (seen_too : ℕ → Option T) (after : Values) → capacity ≤ more → ((v : ℕ) → is_some (seen_too v) ≡ is_some (seen v)) →
-      ((k : ℕ) → known_value (after k) ≡ known_value (value_of k)) → ((k : ℕ) → is_some (value_of k) ≡ true → is_some (after k) ≡ true) → IsTrail lits reserved more seen_too after
+  pub trail_wider : (more : ℕ) (seen_too : ℕ → Option T) (after : Values) → capacity ≤ more
+      → ((v : ℕ) → is_some (seen_too v) ≡ is_some (seen v))
+      → ((k : ℕ) → known_value (after k) ≡ known_value (value_of k))
+      → ((k : ℕ) → is_some (value_of k) ≡ true → is_some (after k) ≡ true)
+      → IsTrail lits reserved more seen_too after
   trail_wider more seen_too after wide same_seen same kept = record {
     different = trail.different;
     within = trail.within;
@@ -233,68 +247,68 @@ module _ {T : Type 0} (lits reserved : List ℕ) (capacity : ℕ) (seen : ℕ �
     }
 
   -- each literal's variable was reserved, and no variable is there twice, so that there is room for one more where it is open
-  pub room_for : (l : ℕ) → value_under lits l ≡ Open → has reserved (variable l) ≡ true → length lits < capacity
+  pub room_for : (l : ℕ) → value_under lits l ≡ Open → has reserved (variable l) ≡ true
+      → length lits < capacity
   room_for l is_open here =
-      let most = fits_within (lits ++ l ∷ []) reserved (different_pushed lits l is_open trail.different) (within_pushed lits reserved l trail.within here) in
+      let most = fits_within (lits ++ l ∷ []) reserved
+      (different_pushed lits l is_open trail.different)
+      (within_pushed lits reserved l trail.within here) in
       let fits = trail.fits in
-      let more = length-append lits (l ∷ []) in
-      omega (arith, most, fits, more)
+      let more = length-append lits (l ∷ []) in omega (arith, most, fits, more)
 
   -- both literals of a variable that was reserved have a value
-  pub both_known : (l : ℕ) → has reserved (variable l) ≡ true → (is_some (value_of l) ≡ true) × (is_some (value_of (complement l)) ≡ true)
-  both_known l here = (trail.known l here, trail.known (complement l) (ap (has reserved) (variable-complement l) ∙ here))
+  pub both_known : (l : ℕ) → has reserved (variable l) ≡ true → (is_some (value_of l) ≡ true)
+      × (is_some (value_of (complement l)) ≡ true)
+  both_known l here = grind (arith, variable-complement)
 
   module _ (l : ℕ) (is_open : value_under lits l ≡ Open) (here : has reserved (variable l) ≡ true) (first after : Values)
       (makes_true : (k : ℕ) → first k ≡ cond (eqb k l) (Some True) (value_of k))
       (makes_false : (k : ℕ) → after k ≡ cond (eqb k (complement l)) (Some False) (first k)) where
     pub trail_set : IsTrail (lits ++ l ∷ []) reserved capacity seen after
     trail_set =
-        let known = both_known l here in
-        let some = written_some l True False value_of first after makes_true makes_false known.0 known.1 in
-        record {
-          different = different_pushed lits l is_open trail.different;
-          within = within_pushed lits reserved l trail.within here;
-          fits = trail.fits;
-          noted = trail.noted;
-          known = λ k h. some k ∙ trail.known k h;
-          values = λ k.
-              written_value l True False value_of first after makes_true makes_false k
-              ∙ ap (λ u. cond (eqb k (complement l)) False (cond (eqb k l) True u)) (trail.values k)
-              ∙ sym (value_pushed lits l is_open k);
-        }
+        grind (arith, both_known, written_some, different_pushed, within_pushed, written_value, value_pushed)
 
 module _ {T : Type 0} (front rest reserved : List ℕ) (capacity : ℕ) (seen : ℕ → Option T) (value_of : Values) (trail : IsTrail (front ++ rest) reserved capacity seen value_of) where
   -- both literals of each variable that was set have a value
-  pub last_known : (l : ℕ) → has rest l ≡ true → (is_some (value_of l) ≡ true) × (is_some (value_of (complement l)) ≡ true)
-  last_known l h = both_known (front ++ rest) reserved capacity seen value_of trail l (trail.within (variable l) (has_mapped (front ++ rest) l (has_append_right front rest l h)))
+  pub last_known : (l : ℕ) → has rest l ≡ true → (is_some (value_of l) ≡ true)
+      × (is_some (value_of (complement l)) ≡ true)
+  last_known l h =
+      both_known (front ++ rest) reserved capacity seen value_of trail l
+      (trail.within (variable l) (has_mapped (front ++ rest) l (has_append_right front rest l h)))
 
   module _ (after : Values) (known : (k : ℕ) → is_some (after k) ≡ is_some (value_of k))
       (opened : (k : ℕ) → known_value (after k) ≡ cond (has rest k || has rest (complement k)) Open (known_value (value_of k))) where
     pub trail_taken : IsTrail front reserved capacity seen after
     trail_taken = record {
       different = different_front front rest trail.different;
-      within = λ v h. trail.within v (ap (λ vs. has vs v) (map-append variable front rest) ∙ has_append_left (map variable front) (map variable rest) v h);
+      within = λ v h. trail.within v
+          (ap (λ vs. has vs v) (map-append variable front rest)
+          ∙ has_append_left (map variable front) (map variable rest) v h);
       fits = trail.fits;
       noted = trail.noted;
       known = λ k h. known k ∙ trail.known k h;
-      values = λ k. opened k ∙ ap (cond (has rest k || has rest (complement k)) Open) (trail.values k) ∙ sym (value_front front rest trail.different k);
+      values = λ k. opened k ∙ ap (cond (has rest k || has rest (complement k)) Open)
+          (trail.values k) ∙ sym (value_front front rest trail.different k);
     }
 
 -- the trail as what stays and what is taken back
-pub trail_cut : {T : Type 0} (lits shown reserved : List ℕ) (capacity : ℕ) (seen : ℕ → Option T) (value_of : Values) → shown ≡ lits → IsTrail lits reserved capacity seen value_of → (n : ℕ) →
-    IsTrail (take n shown ++ take (length shown - n) (drop n shown)) reserved capacity seen value_of
+pub trail_cut : {T : Type 0} (lits shown reserved : List ℕ) (capacity : ℕ) (seen : ℕ → Option T)
+    (value_of : Values) → shown ≡ lits → IsTrail lits reserved capacity seen value_of → (n : ℕ)
+    → IsTrail (take n shown ++ take (length shown - n) (drop n shown))
+    reserved capacity seen value_of
 trail_cut lits shown reserved capacity seen value_of same trail n = subst (λ ls. IsTrail ls reserved capacity seen value_of) (sym same ∙ front_and_rest shown n) trail
 
 -- ---- Literals made open
 
-pub opens : (lits : List ℕ) (before after : Values) → HaveRoom before lits →
-    ((k : ℕ) → after k ≡ cond (is_of lits k) (Some Open) (before k)) → Opens before after lits
+pub opens : (lits : List ℕ) (before after : Values) → HaveRoom before lits
+    → ((k : ℕ) → after k ≡ cond (is_of lits k) (Some Open) (before k)) → Opens before after lits
 opens lits before after room written = record {
   known = λ k. known k (is_of lits k) refl;
   opened = λ k. ap known_value (written k) ∙ opened (is_of lits k) (before k);
 }
   where
-    opened : (b : Bool) (o : Option Value) → known_value (cond b (Some Open) o) ≡ cond b Open (known_value o)
+    opened : (b : Bool) (o : Option Value)
+        → known_value (cond b (Some Open) o) ≡ cond b Open (known_value o)
     opened true o = refl
     opened false o = refl
 
@@ -305,5 +319,6 @@ opens lits before after room written = record {
     ]
 
     known : (k : ℕ) (b : Bool) → is_of lits k ≡ b → is_some (after k) ≡ is_some (before k)
-    known k true e = ap is_some (written k ∙ ap (λ b. cond b (Some Open) (before k)) e) ∙ sym (had k e)
+    known k true e =
+        ap is_some (written k ∙ ap (λ b. cond b (Some Open) (before k)) e) ∙ sym (had k e)
     known k false e = ap is_some (written k ∙ ap (λ b. cond b (Some Open) (before k)) e)

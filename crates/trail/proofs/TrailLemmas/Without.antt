@@ -1,7 +1,7 @@
 -- A trail from which one literal was taken out.
 use Rattle.std.proofs.Common.{◌≡◌, ◌≢◌, ℕ, ◌+◌, ◌-◌, ◌<◌, ◌≤◌, true, false, cond, eqb, eq-eqb}
-use Rattle.std.proofs.Common.{Option, Some, is_some, List, map, take, length, get_or, refl, sym, ap, ◌∙◌}
-use Rattle.std.proofs.Common.{subst, arith, inl, inr, ◌⊎◌}
+use Rattle.std.proofs.Common.{Option, Some, is_some, List, map, take, length, get_or, refl, sym, ap}
+use Rattle.std.proofs.Common.{◌∙◌, subst, arith, inl, inr, ◌⊎◌}
 use Rattle.std.specs.List.{remove}
 use Rattle.std.proofs.lemmas.Bool.{cases_eq, cases_lt, false_from_ne_true, ne_eqb}
 use Rattle.std.proofs.lemmas.List.Edits.{get_or-remove_above, get_or-remove_below, length-remove}
@@ -35,16 +35,7 @@ front_before place now = elim (cases_lt now place) [
 
 module _ (place i a j b : ℕ) (first : IsMoved place i a) (second : IsMoved place j b) (low : i < j) where
   in_order : a < b
-  in_order = elim first [
-    | inl f ↦ elim second [
-      | inl s ↦ let e = f.0 in let g = s.0 in omega (arith, e, g, low)
-      | inr s ↦ let e = f.0 in let g = s.0 in omega (arith, e, g, low)
-    ]
-    | inr f ↦ elim second [
-      | inl s ↦ let e = f.1 in let g = s.1 in absurd (let wrong : ⊥ = omega (arith, e, g, low) in wrong)
-      | inr s ↦ let e = f.0 in let g = s.0 in omega (arith, e, g, low)
-    ]
-  ]
+  in_order = omega arith
 
 module _ (lits : List ℕ) (place : ℕ) (inside : place < length lits) where
   abbrev out : List ℕ
@@ -57,25 +48,23 @@ module _ (lits : List ℕ) (place : ℕ) (inside : place < length lits) where
   ]
 
   within_before : (i j : ℕ) → IsMoved place i j → i < length out → j < length lits
-  within_before i j is low = let n = length-remove lits place inside in elim is [
-    | inl m ↦ let e = m.0 in omega (arith, e, n, low)
-    | inr m ↦ let e = m.0 in omega (arith, e, n, low)
-  ]
+  within_before i j is low = grind (arith, length-remove)
 
   pub different_out : HasNoVariableTwice lits → HasNoVariableTwice out
-  different_out different = HasNoVariableTwice-from_places out (λ i j low high same.
-      let a = moved i in
-      let b = moved j in
-      places_apart lits different a.0 b.0 (in_order place i a.0 j b.0 a.2 b.2 low) (within_before j b.0 b.2 high)
-      (ap variable (sym a.1) ∙ same ∙ ap variable b.1))
+  different_out different =
+      HasNoVariableTwice-from_places out (λ i j low high same. let a = moved i in let b = moved j in
+      places_apart lits different a.0 b.0 (in_order place i a.0 j b.0 a.2 b.2 low)
+      (within_before j b.0 b.2 high) (ap variable (sym a.1) ∙ same ∙ ap variable b.1))
 
   -- what stands in front now stood there before
-  pub front_was : (now before : ℕ) → IsFront place now before → (k : ℕ) → has (take now out) k ≡ true → has (take before lits) k ≡ true
+  pub front_was : (now before : ℕ) → IsFront place now before → (k : ℕ)
+      → has (take now out) k ≡ true → has (take before lits) k ≡ true
   front_was now before front k h =
       let w = place_in_front out now k h in
       let m = moved w.0 in
       let low = w.1 in
-      subst (λ x. has (take before lits) x ≡ true) (sym m.1 ∙ w.3) (has_front lits before m.0 (closer w.0 m.0 low m.2) (within_before w.0 m.0 m.2 w.2))
+      subst (λ x. has (take before lits) x ≡ true) (sym m.1 ∙ w.3)
+      (has_front lits before m.0 (closer w.0 m.0 low m.2) (within_before w.0 m.0 m.2 w.2))
     where
       closer : (i j : ℕ) → i < now → IsMoved place i j → j < before
       closer i j low is = elim front [
@@ -93,11 +82,13 @@ module _ (lits : List ℕ) (place : ℕ) (inside : place < length lits) where
   was_there k h =
       let w = place_of out k h in
       let m = moved w.0 in
-      subst (λ x. has lits x ≡ true) (sym m.1 ∙ w.2) (has_place lits m.0 (within_before w.0 m.0 m.2 w.1))
+      subst (λ x. has lits x ≡ true) (sym m.1 ∙ w.2)
+      (has_place lits m.0 (within_before w.0 m.0 m.2 w.1))
 
   module _ (l : ℕ) (stands : get_or lits place 0 ≡ l) where
     -- where one stands now that stood elsewhere
-    moved_down : (i : ℕ) → i < length lits → get_or lits i 0 ≢ l → (j : ℕ) × (get_or out j 0 ≡ get_or lits i 0) × IsMoved place j i × (j < length out)
+    moved_down : (i : ℕ) → i < length lits → get_or lits i 0 ≢ l → (j : ℕ)
+        × (get_or out j 0 ≡ get_or lits i 0) × IsMoved place j i × (j < length out)
     moved_down i low other = let n = length-remove lits place inside in elim (cases_lt i place) [
       | inl before ↦ (i, get_or-remove_below lits place 0 i before inside, inl (refl, before), omega (arith, n, before, inside))
       | inr past ↦ elim (cases_eq i place) [
@@ -108,12 +99,14 @@ module _ (lits : List ℕ) (place : ℕ) (inside : place < length lits) where
       ]
     ]
 
-    pub front_still : (now before : ℕ) → IsFront place now before → (k : ℕ) → has (take before lits) k ≡ true → k ≢ l → has (take now out) k ≡ true
+    pub front_still : (now before : ℕ) → IsFront place now before → (k : ℕ)
+        → has (take before lits) k ≡ true → k ≢ l → has (take now out) k ≡ true
     front_still now before front k h ne =
         let w = place_in_front lits before k h in
         let low = w.1 in
         let m = moved_down w.0 w.2 (λ e. ne (sym w.3 ∙ e)) in
-        subst (λ x. has (take now out) x ≡ true) (m.1 ∙ w.3) (has_front out now m.0 (closer m.0 w.0 low m.2) m.3)
+        subst (λ x. has (take now out) x ≡ true) (m.1 ∙ w.3)
+        (has_front out now m.0 (closer m.0 w.0 low m.2) m.3)
       where
         closer : (j i : ℕ) → i < before → IsMoved place j i → j < now
         closer j i low is = elim front [
@@ -128,10 +121,7 @@ module _ (lits : List ℕ) (place : ℕ) (inside : place < length lits) where
         ]
 
     pub still_there : (k : ℕ) → has lits k ≡ true → k ≢ l → has out k ≡ true
-    still_there k h ne =
-        let w = place_of lits k h in
-        let m = moved_down w.0 w.1 (λ e. ne (sym w.2 ∙ e)) in
-        subst (λ x. has out x ≡ true) (m.1 ∙ w.2) (has_place out m.0 m.3)
+    still_there k h ne = grind (arith, place_of, moved_down, has_place)
 
     module _ (different : HasNoVariableTwice lits) where
       -- no literal of its variable is left
@@ -146,9 +136,10 @@ module _ (lits : List ℕ) (place : ℕ) (inside : place < length lits) where
           ])
 
       same_else : (k : ℕ) → k ≢ l → has out k ≡ has lits k
-      same_else k ne = both_pass (has out k) (has lits k) (was_there k) (λ h. still_there k h ne)
+      same_else k ne = grind (arith, both_pass, was_there, still_there)
 
-      value_out : (k : ℕ) → value_under out k ≡ cond (eqb k (complement l)) Open (cond (eqb k l) Open (value_under lits k))
+      value_out : (k : ℕ) → value_under out k
+          ≡ cond (eqb k (complement l)) Open (cond (eqb k l) Open (value_under lits k))
       value_out k = elim (cases_eq k (complement l)) [
         | inl same ↦
             value_is_open out k (none_left k (ap variable same ∙ variable-complement l)) (none_left (complement k) (variable-complement k ∙ ap variable same ∙ variable-complement l))
@@ -171,15 +162,15 @@ module _ (lits : List ℕ) (place : ℕ) (inside : place < length lits) where
         pub trail_out : IsTrail out reserved capacity seen after
         trail_out = record {
           different = different_out trail.different;
-          within = λ v h.
-              let w = place_of_variable out v h in
-              let m = moved w.0 in
-              trail.within v (subst (λ x. has (map variable lits) x ≡ true) (ap variable (sym m.1) ∙ w.2) (has_variable lits m.0 (within_before w.0 m.0 m.2 w.1)));
+          within = λ v h. let w = place_of_variable out v h in let m = moved w.0 in
+              trail.within v (subst (λ x. has (map variable lits) x ≡ true)
+              (ap variable (sym m.1) ∙ w.2)
+              (has_variable lits m.0 (within_before w.0 m.0 m.2 w.1)));
           fits = trail.fits;
           noted = trail.noted;
-          known = λ k h. written_some l Open Open value_of first after opens_one opens_other out_known.0 out_known.1 k ∙ trail.known k h;
-          values = λ k.
-              written_value l Open Open value_of first after opens_one opens_other k
+          known = λ k h. written_some l Open Open value_of first after opens_one opens_other
+              out_known.0 out_known.1 k ∙ trail.known k h;
+          values = λ k. written_value l Open Open value_of first after opens_one opens_other k
               ∙ ap (λ u. cond (eqb k (complement l)) Open (cond (eqb k l) Open u)) (trail.values k)
               ∙ sym (value_out trail.different k);
         }

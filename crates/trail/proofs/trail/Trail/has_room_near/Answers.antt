@@ -1,6 +1,6 @@
 -- One more variable.
-use Rattle.std.proofs.Common.{◌≡◌, ◌<◌, true, Some, eqb-true, is_some, length, ap, sym, ◌∙◌}
-use Rattle.std.proofs.Common.{inl, inr, subst, arith}
+use Rattle.std.proofs.Common.{◌≡◌, ◌<◌, true, Some, eqb-true, is_some, length, ap, sym, ◌∙◌, inl}
+use Rattle.std.proofs.Common.{inr, subst, arith}
 use Rattle.std.proofs.lemmas.Bool.{or_cases}
 use Rattle.std.proofs.lemmas.Bool.Decides.{nat_tests}
 use Rattle.std.proofs.lemmas.Option.{same_Some, slice_get-get_or}

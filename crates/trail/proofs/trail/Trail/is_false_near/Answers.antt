@@ -9,5 +9,6 @@ returns-in_default c =
     let lits = c.args.self.now.lits in
     let read = c.in_ok-value.ensures.lookup in
     let v = c.in_ok-value.value.now in
-    let is = near_value lits c.args.near.now c.requires c.args.l c.index.result v c.index.ensures.value (ltb-true _ _ (sym read.0)) read.1 in
+    let is = near_value lits c.args.near.now c.requires c.args.l c.index.result v
+    c.index.ensures.value (ltb-true _ _ (sym read.0)) read.1 in
     value_not_false lits c.args.l c.requires.different v is c.in_default.not-False

@@ -1,5 +1,5 @@
-use Rattle.std.proofs.Common.{◌≡◌, ℕ, ◌<◌, ◌≤◌, ◌∙◌, Bool, true, false, cond, eqb, Option, is_some, inl, inr}
-use Rattle.std.proofs.Common.{length, refl, sym, ap, subst, arith}
+use Rattle.std.proofs.Common.{◌≡◌, ℕ, ◌<◌, ◌≤◌, ◌∙◌, Bool, true, false, cond, eqb, Option, is_some}
+use Rattle.std.proofs.Common.{inl, inr, length, refl, sym, ap, subst, arith}
 use Rattle.std.proofs.lemmas.Bool.{cases_eq}
 use Rattle.std.proofs.lemmas.Bool.Decides.{nat_tests}
 use Rattle.std.specs.Vec.{vec_capacity}
@@ -15,7 +15,8 @@ use Rattle.trail.proofs.trail.Trail.reserve_anew.Goals as goal
 in_range : (v : ℕ) → is_variable v ≡ true → (1 ≤ v) × (v ≤ 268435455)
 in_range v h = grind (arith, nat_tests)
 
-seen_or : {A : Type 0} (b : Bool) (x y : Option A) → is_some x ≡ true → (b ≡ false → is_some y ≡ true) → is_some (cond b x y) ≡ true
+seen_or : {A : Type 0} (b : Bool) (x y : Option A) → is_some x ≡ true
+    → (b ≡ false → is_some y ≡ true) → is_some (cond b x y) ≡ true
 seen_or true x y here there = here
 seen_or false x y here there = there refl
 
@@ -28,12 +29,17 @@ invariant_of-self-in_err-reserve-2 c =
     let t = c.self.inside in
     let made = c.reserve_both.ensures in
     let kept = c.in_err-reserve-2.ensures.err in
-    let same = seen_same (at t.seen) (at c.reserve-2.new.self) (λ k. ap is_some (kept k)) 268435455 in
+    let same = seen_same (at t.seen) (at c.reserve-2.new.self) (λ k. ap is_some (kept k))
+    268435455 in
     let wide = trail_wider t.lits.items (reserved_in (at t.seen)) (vec_capacity t.lits) (at t.seen)
-    (filled.at t.values) c.self.invariant.0 (vec_capacity c.reserve.new.self) (at c.reserve-2.new.self)
-    (filled.at c.reserve_both.new.values) c.reserve.ensures.capacity (λ k. ap is_some (kept k)) made.same made.kept in (
-      subst (λ ls. IsTrail ls (reserved_in (at c.reserve-2.new.self)) (vec_capacity c.reserve.new.self) (at c.reserve-2.new.self) (filled.at c.reserve_both.new.values)) (sym c.reserve.ensures.items)
-          (subst (λ vs. IsTrail t.lits.items vs (vec_capacity c.reserve.new.self) (at c.reserve-2.new.self) (filled.at c.reserve_both.new.values)) (sym same) wide),
+    (filled.at t.values) c.self.invariant.0 (vec_capacity c.reserve.new.self)
+    (at c.reserve-2.new.self) (filled.at c.reserve_both.new.values) c.reserve.ensures.capacity
+    (λ k. ap is_some (kept k)) made.same made.kept in (
+      subst (λ ls. IsTrail ls (reserved_in (at c.reserve-2.new.self))
+          (vec_capacity c.reserve.new.self) (at c.reserve-2.new.self)
+          (filled.at c.reserve_both.new.values)) (sym c.reserve.ensures.items)
+          (subst (λ vs. IsTrail t.lits.items vs (vec_capacity c.reserve.new.self)
+          (at c.reserve-2.new.self) (filled.at c.reserve_both.new.values)) (sym same) wide),
       c.self.invariant.1 ∙ ap length (sym same),
       (λ w some most. ap is_some (kept w) ∙ c.self.invariant.2 w some most),
     )
@@ -50,20 +56,30 @@ invariant_of-self-2 c =
     let capacity = vec_capacity c.reserve.new.self in
     let made = c.in_ok-reserve_both.ensures in
     let puts = c.in_ok-reserve-2.ensures.ok in
-    let wide = trail_wider t.lits.items before (vec_capacity t.lits) (at t.seen) (filled.at t.values)
-    c.self.invariant.0 capacity (at t.seen) (filled.at values) c.reserve.ensures.capacity (λ k. refl) made.same made.kept in
-    let none = c.self.invariant.0.noted v ∙ ap (λ s. has s.reserved v) c.self.view_is ∙ c.requires in
-    let more = seen_more (at t.seen) (at c.reserve-2.new.self) v _ none range.0 puts 268435455 range.1 in
-    let room : length after ≤ capacity = omega (arith, more, c.in_ok-reserve.ensures.ok, c.self.invariant.1) in
+    let wide = trail_wider t.lits.items before (vec_capacity t.lits) (at t.seen)
+    (filled.at t.values) c.self.invariant.0 capacity (at t.seen) (filled.at values)
+    c.reserve.ensures.capacity (λ k. refl) made.same made.kept in
+    let none = c.self.invariant.0.noted v ∙ ap (λ s. has s.reserved v) c.self.view_is
+    ∙ c.requires in
+    let more = seen_more (at t.seen) (at c.reserve-2.new.self)
+    v _ none range.0 puts 268435455 range.1 in
+    let room : length after ≤ capacity =
+    omega (arith, more, c.in_ok-reserve.ensures.ok, c.self.invariant.1) in
     let positive = ap (λ k. is_some (filled.at values k)) (sym lit_is) ∙ made.room in
-    let negative = ap (λ k. is_some (filled.at values k)) (sym (negative_key v c.in-Some.lit lit_is)) ∙ made.other in
-    let reserved = trail_reserved t.lits.items before capacity (at t.seen) (filled.at values) wide v _ after
-    (at c.reserve-2.new.self) (seen_adds (at t.seen) (at c.reserve-2.new.self) 268435455 v _ range.0 range.1 puts)
-    (seen_noted (at t.seen) (at c.reserve-2.new.self) 268435455 v _ range.0 range.1 puts c.self.invariant.0.noted)
-    room positive negative in (
-      subst (λ ls. IsTrail ls after capacity (at c.reserve-2.new.self) (filled.at values)) (sym c.reserve.ensures.items) reserved,
+    let negative = ap (λ k. is_some (filled.at values k))
+    (sym (negative_key v c.in-Some.lit lit_is)) ∙ made.other in
+    let reserved = trail_reserved t.lits.items before capacity (at t.seen) (filled.at values)
+    wide v _ after (at c.reserve-2.new.self)
+    (seen_adds (at t.seen) (at c.reserve-2.new.self) 268435455 v _ range.0 range.1 puts)
+    (seen_noted (at t.seen) (at c.reserve-2.new.self)
+    268435455 v _ range.0 range.1 puts c.self.invariant.0.noted) room positive negative in (
+      subst (λ ls. IsTrail ls after capacity (at c.reserve-2.new.self) (filled.at values))
+          (sym c.reserve.ensures.items) reserved,
       omega (arith, more, c.self.invariant.1),
-      (λ w some most. ap is_some (puts w) ∙ seen_or (eqb w v) _ _ refl (λ other. c.self.invariant.2 w some (up_to t.dense w v (c.dense_with-self-inside.ensures w most) other))),
+      (λ w some most. ap is_some (puts w)
+          ∙ seen_or (eqb w v) _ _ refl (λ other.
+          c.self.invariant.2 w some (up_to t.dense w v (c.dense_with-self-inside.ensures w most)
+          other))),
     )
 
 pub returns-clause-reserved : goal.returns-clause-reserved

@@ -1,5 +1,4 @@
-use Rattle.std.proofs.Common.{ℕ, Some, cond, eqb, Option, refl, sym, ◌∙◌, subst}
-use Rattle.std.proofs.Common.{◌<◌, length}
+use Rattle.std.proofs.Common.{ℕ, Some, cond, eqb, Option, refl, sym, ◌∙◌, subst, ◌<◌, length}
 use Rattle.std.specs.Vec.{vec_capacity}
 use Rattle.std.proofs.lemmas.Grind.{get_or_default_zero}
 use Rattle.tables.specs.Table.{at}
