@@ -11,5 +11,6 @@ returns-clause-ascending c = rw (dedup_is _ _ _ c.dedup.ensures.filtered) (IsStr
 
 pub returns-clause-same : goal.returns-clause-same
 returns-clause-same c s =
-    ap (list_any (λ k. eqb k s)) (dedup_is _ _ _ c.dedup.ensures.filtered) ∙ has_deduped c.sort_unstable.new.self.items s
+    ap (list_any (λ k. eqb k s)) (dedup_is _ _ _ c.dedup.ensures.filtered)
+    ∙ has_deduped c.sort_unstable.new.self.items s
     ∙ sym (list_any-IsPermutation (λ k. eqb k s) _ _ c.sort_unstable.ensures.permutation)
