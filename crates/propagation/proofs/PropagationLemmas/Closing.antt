@@ -1,8 +1,7 @@
 -- All that follows with nothing assumed, and the clauses that make a literal hold for good.
 use Rattle.std.proofs.Common.{◌≡◌, ◌≢◌, ℕ, Result, OnOk, ◌+◌, ◌<◌, ◌≤◌, Bool, true, false, ◌&&◌}
-use Rattle.std.proofs.Common.{eqb, eqb-true, Some, None, List, [], ◌∷◌, ◌++◌}
-use Rattle.std.proofs.Common.{take}
-use Rattle.std.proofs.Common.{length, get_or, refl, sym, ap, ◌∙◌, subst, arith, inl, inr}
+use Rattle.std.proofs.Common.{eqb, eqb-true, Some, None, List, [], ◌∷◌, ◌++◌, take, length, get_or}
+use Rattle.std.proofs.Common.{sym, ap, ◌∙◌, subst, arith, inl, inr}
 use Rattle.std.specs.Ordering.{nat_cmp}
 use Rattle.std.specs.FinMap as maps
 use Rattle.std.specs.FinMap.{FinMap}
@@ -13,18 +12,16 @@ use Rattle.std.proofs.lemmas.Option.{same_Some}
 use Rattle.std.proofs.lemmas.Result.{on_ok_weaker}
 use Rattle.cnf_base.specs.Literals.{Literal, complement, Clause, has}
 use Rattle.cnf_base.proofs.LiteralLemmas.{complement-complement}
-use Rattle.cnf_base.proofs.SetLemmas.{has_append_right, has_append_cases}
-use Rattle.cnf_base.proofs.SetLemmas.{has_cases, has_head}
+use Rattle.cnf_base.proofs.SetLemmas.{has_append_right, has_append_cases, has_cases, has_head}
 use Rattle.cnf_base.proofs.WalkLemmas.{has_more, has_take}
 use Rattle.cnf_base.proofs.MapLemmas.{after_remove, remove_other}
 use Rattle.clause_db.specs.Store.{IsTouchedAt}
 use Rattle.propagation.specs.Closure.{IsWhole}
-use Rattle.propagation.specs.Code.Closure.{AreForced, FollowsFrom, IsFollowed, TakesIn}
-use Rattle.propagation.specs.Code.Closure.{is_old, by_unit}
+use Rattle.propagation.specs.Code.Closure.{AreForced, FollowsFrom, IsFollowed, TakesIn, is_old}
+use Rattle.propagation.specs.Code.Closure.{by_unit}
 use Rattle.theory.specs.Code.Propagation.{IsClosedAt, OthersFail}
 use Rattle.theory.specs.Propagation.{Live, IsClosed, Forced, IsRootReason, open_literals}
 use Rattle.trail.specs.Left.{how_many, is_one_at_most}
-use Rattle.trail.specs.Code.Left.{IsSettled}
 use Rattle.trail.specs.declared.left.Left.{Left}
 use Rattle.trail.specs.declared.left.Left.TheVariants.{Nothing, One, More}
 use Rattle.theory.proofs.PropagationLemmas.Forced.{forced_unit}
@@ -34,23 +31,24 @@ use Rattle.trail.proofs.TrailLemmas.Left.{nothing_is, one_is, more_differ, settl
 use Rattle.trail.proofs.TrailLemmas.Longer.{has_begun}
 use Rattle.propagation.proofs.PropagationLemmas.Below.{below_none, below_some}
 
-pub follows_forced : (live : Live) (ls : List Literal) → AreForced live ls → (k : ℕ) (c : Clause) → live k ≡ Some c → (l : Literal) → FollowsFrom ls c l → Forced live [] l
+pub follows_forced : (live : Live) (ls : List Literal) → AreForced live ls → (k : ℕ) (c : Clause)
+    → live k ≡ Some c → (l : Literal) → FollowsFrom ls c l → Forced live [] l
 follows_forced live ls sound k c at l (is_old h) = sound l h
-follows_forced live ls sound k c at l (by_unit member others) = forced_unit live [] k c at l member (λ m h ne. sound (complement m) (others m h ne))
+follows_forced live ls sound k c at l (by_unit member others) = grind (arith, forced_unit)
 
 -- ---- Clauses that make a literal hold for good
 
 module _ (live : Live) (trues : List Literal) (k : ℕ) (c : Clause) (at : live k ≡ Some c) where
   module _ (sound : (l : Literal) → has trues l ≡ true → Forced live [] l) where
     reason_from : (m : Literal) → has c m ≡ true → OthersFail (has trues) c m → IsRootReason live c
-    reason_from m member others =
-        let falses : (l : Literal) → has c l ≡ true → l ≢ m → Forced live [] (complement l) = λ l h ne. sound (complement l) (others l h ne) in
-        record { literal = m; member = member; forced = forced_unit live [] k c at m member falses; others = falses }
+    reason_from m member others = grind (arith, forced_unit)
 
-    pub reason_left : is_one_at_most (how_many (open_literals trues c)) c ≡ true → IsRootReason live c
-    reason_left h = by_left (how_many (open_literals trues c)) refl c refl h
+    pub reason_left : is_one_at_most (how_many (open_literals trues c)) c ≡ true
+        → IsRootReason live c
+    reason_left h = grind (arith, by_left)
       where
-        by_left : (left : Left) → how_many (open_literals trues c) ≡ left → (d : Clause) → c ≡ d → is_one_at_most left d ≡ true → IsRootReason live c
+        by_left : (left : Left) → how_many (open_literals trues c) ≡ left → (d : Clause) → c ≡ d
+            → is_one_at_most left d ≡ true → IsRootReason live c
         by_left More e d is h = absurd (false≢true h)
         by_left Nothing e [] is h = absurd (false≢true h)
         by_left (One m) e [] is h = absurd (false≢true h)
@@ -59,20 +57,17 @@ module _ (live : Live) (trues : List Literal) (k : ℕ) (c : Clause) (at : live 
 
   module _ (all : (l : Literal) → Forced live [] l → has trues l ≡ true) where
     open_alone : (r : IsRootReason live c) → AreAll (open_literals trues c) r.literal
-    open_alone r l h =
-        let w = open_has trues c l h in
-        elim (cases_eq l r.literal) [
-          | inl e ↦ e
-          | inr ne ↦ absurd (true≢false (sym (all (complement l) (r.others l w.0 ne)) ∙ w.1))
-        ]
+    open_alone r l h = grind (arith, open_has trues c l h)
 
-    pub no_reason_left : is_one_at_most (how_many (open_literals trues c)) c ≡ false → ¬ IsRootReason live c
-    no_reason_left h r = by_left (how_many (open_literals trues c)) refl c refl h
+    pub no_reason_left : is_one_at_most (how_many (open_literals trues c)) c ≡ false
+        → ¬ IsRootReason live c
+    no_reason_left h r = grind (arith, by_left)
       where
-        by_left : (left : Left) → how_many (open_literals trues c) ≡ left → (d : Clause) → c ≡ d → is_one_at_most left d ≡ false → ⊥
+        by_left : (left : Left) → how_many (open_literals trues c) ≡ left → (d : Clause) → c ≡ d
+            → is_one_at_most left d ≡ false → ⊥
         by_left More e d is h = more_differ (open_literals trues c) e r.literal (open_alone r)
-        by_left Nothing e [] is h = false≢true (sym (ap (λ x. has x r.literal) is) ∙ r.member)
-        by_left (One m) e [] is h = false≢true (sym (ap (λ x. has x r.literal) is) ∙ r.member)
+        by_left Nothing e [] is h = grind (arith, false≢true)
+        by_left (One m) e [] is h = grind (arith, false≢true)
         by_left Nothing e (l ∷ d) is h = absurd (true≢false h)
         by_left (One m) e (l ∷ d) is h = absurd (true≢false h)
 
@@ -80,7 +75,9 @@ module _ (live : Live) (trues : List Literal) (k : ℕ) (c : Clause) (at : live 
 
 module _ {E : Type 0} (ls now : List Literal) (c : Clause) (r : Result Unit E) where
   -- where none of its literals is left, all are added
-  pub all_follow : how_many (open_literals ls c) ≡ Nothing → OnOk r ((l : Literal) → has now l ≡ has (ls ++ c) l) → OnOk r ((l : Literal) → has now l ≡ true → FollowsFrom ls c l)
+  pub all_follow : how_many (open_literals ls c) ≡ Nothing
+      → OnOk r ((l : Literal) → has now l ≡ has (ls ++ c) l)
+      → OnOk r ((l : Literal) → has now l ≡ true → FollowsFrom ls c l)
   all_follow e = on_ok_weaker r (λ lits l h. elim (has_append_cases ls c l (sym (lits l) ∙ h)) [
     | inl old ↦ is_old old
     | inr member ↦ by_unit member (none_left_follow ls c (nothing_is (open_literals ls c) e) l)
@@ -88,7 +85,8 @@ module _ {E : Type 0} (ls now : List Literal) (c : Clause) (r : Result Unit E) w
 
   module _ (m : Literal) (e : how_many (open_literals ls c) ≡ One m) where
     -- where one is left, it is added
-    pub one_follows : OnOk r ((l : Literal) → has now l ≡ has (ls ++ m ∷ []) l) → OnOk r ((l : Literal) → has now l ≡ true → FollowsFrom ls c l)
+    pub one_follows : OnOk r ((l : Literal) → has now l ≡ has (ls ++ m ∷ []) l)
+        → OnOk r ((l : Literal) → has now l ≡ true → FollowsFrom ls c l)
     one_follows = on_ok_weaker r (λ lits l h. elim (has_append_cases ls (m ∷ []) l (sym (lits l) ∙ h)) [
       | inl old ↦ is_old old
       | inr here ↦ elim (has_cases m [] l here) [
@@ -98,7 +96,8 @@ module _ {E : Type 0} (ls now : List Literal) (c : Clause) (r : Result Unit E) w
     ])
 
     -- where one is left, what follows by them is that one
-    pub one_takes : OnOk r ((l : Literal) → has now l ≡ has (ls ++ m ∷ []) l) → OnOk r (TakesIn ls now c)
+    pub one_takes : OnOk r ((l : Literal) → has now l ≡ has (ls ++ m ∷ []) l)
+        → OnOk r (TakesIn ls now c)
     one_takes = on_ok_weaker r (λ lits k member others.
         let w = open_has ls c m (one_is (open_literals ls c) m e).0 in
         elim (cases_eq m k) [
@@ -106,26 +105,31 @@ module _ {E : Type 0} (ls now : List Literal) (c : Clause) (r : Result Unit E) w
           | inr ne ↦ absurd (true≢false (sym (others m w.0 ne) ∙ w.1))
         ])
 
-pub more_is_closed : (ls : List Literal) (c : Clause) → how_many (open_literals ls c) ≡ More → IsClosedAt (has ls) c
-more_is_closed ls c e = settled_at ls c (subst (IsSettled ls) (sym e) tt)
+pub more_is_closed : (ls : List Literal) (c : Clause) → how_many (open_literals ls c) ≡ More
+    → IsClosedAt (has ls) c
+more_is_closed ls c e = grind (arith, settled_at)
 
 -- ---- More clauses are taken
 
 -- what a clause gave by fewer literals stands among more
 pub taken_in : (first ls now later : List Literal) (c : Clause) → ((l : Literal) → has first l ≡ true → has ls l ≡ true) → ((l : Literal) → has now l ≡ true → has later l ≡ true) → TakesIn ls now c → TakesIn first later c
-taken_in first ls now later c within grows takes m member others = grows m (takes m member (λ l h ne. within (complement l) (others l h ne)))
+taken_in first ls now later c within grows takes m member others = grind (arith, grows)
 
 module _ (live : Live) (before now : List Literal) (n : ℕ) (so_far : (k : ℕ) (c : Clause) → k < n → live k ≡ Some c → TakesIn before now c) where
-  pub all_none : None ≡ live n → (k : ℕ) (c : Clause) → k < n + 1 → live k ≡ Some c → TakesIn before now c
+  pub all_none : None ≡ live n → (k : ℕ) (c : Clause) → k < n + 1 → live k ≡ Some c
+      → TakesIn before now c
   all_none none = below_none live (TakesIn before now) n so_far none
 
-  pub all_taken : (after : List Literal) → take (length before) now ≡ before → take (length now) after ≡ now → (d : Clause) → Some d ≡ live n → TakesIn now after d → (k : ℕ) (c : Clause) → k < n + 1 → live k ≡ Some c → TakesIn before after c
-  all_taken after begins more d here takes =
-      below_some live (TakesIn before after) n (λ k c low at. taken_in before before now after c (λ l h. h) (λ l. has_begun now after l more) (so_far k c low at))
-      d here (taken_in before now after after d (λ l. has_begun before now l begins) (λ l h. h) takes)
+  pub all_taken : (after : List Literal) → take (length before) now ≡ before
+      → take (length now) after ≡ now → (d : Clause) → Some d ≡ live n → TakesIn now after d
+      → (k : ℕ) (c : Clause) → k < n + 1 → live k ≡ Some c → TakesIn before after c
+  all_taken after begins more d here takes = grind (arith, below_some, taken_in, has_begun)
 
 module _ (live : Live) (before now after : List Literal) (begins : take (length before) now ≡ before) (more : take (length now) after ≡ now) (slots : List ℕ) (i : ℕ) (inside : i < length slots) (x : ℕ) (is : x ≡ get_or slots i x) where
-  pub each_taken : ((s : ℕ) (c : Clause) → has (take i slots) s ≡ true → live s ≡ Some c → TakesIn before now c) → (d : Clause) → Some d ≡ live x → TakesIn now after d → (s : ℕ) (c : Clause) → has (take (i + 1) slots) s ≡ true → live s ≡ Some c → TakesIn before after c
+  pub each_taken : ((s : ℕ) (c : Clause) → has (take i slots) s ≡ true → live s ≡ Some c
+      → TakesIn before now c) → (d : Clause) → Some d ≡ live x → TakesIn now after d
+      → (s : ℕ) (c : Clause) → has (take (i + 1) slots) s ≡ true → live s ≡ Some c
+      → TakesIn before after c
   each_taken so_far d here takes s c h at = elim (or_cases (has (take i slots) s) (eqb x s) (sym (has_more slots i inside x is s) ∙ h)) [
     | inl old ↦ taken_in before before now after c (λ l h. h) (λ l. has_begun now after l more) (so_far s c old at)
     | inr e ↦ subst (TakesIn before after) (same_Some d c (here ∙ ap live (eqb-true x s e) ∙ at)) (taken_in before now after after d (λ l. has_begun before now l begins) (λ l h. h) takes)
@@ -138,9 +142,10 @@ module _ (live : FinMap nat_cmp Clause) (lits after : List Literal) (done : ℕ)
   grows l = has_begun lits after l begins
 
   front_is : take (done + 1) after ≡ take (done + 1) lits
-  front_is = sym (take-take (done + 1) (length lits) after (omega (arith, inside))) ∙ ap (take (done + 1)) begins
+  front_is = grind (arith, take-take)
 
-  done_is : (l : Literal) → has (take (done + 1) after) l ≡ true → has (take (done + 1) lits) l ≡ true
+  done_is : (l : Literal) → has (take (done + 1) after) l ≡ true
+      → has (take (done + 1) lits) l ≡ true
   done_is l h = ap (λ ls. has ls l) (sym front_is) ∙ h
 
   module _ (c : Clause) (so_far : TakesIn (take done lits) lits c) where
@@ -156,7 +161,10 @@ module _ (live : FinMap nat_cmp Clause) (lits after : List Literal) (done : ℕ)
 
   module _ (so_far : IsFollowed (maps.get live) done lits) (slots : List ℕ) where
     -- nothing more follows from one literal further
-    pub followed_more : AreForced (maps.get live) after → ((s : ℕ) → IsTouchedAt live (m ∷ []) s → has slots s ≡ true) → ((s : ℕ) (c : Clause) → has slots s ≡ true → maps.get live s ≡ Some c → TakesIn lits after c) → IsFollowed (maps.get live) (done + 1) after
+    pub followed_more : AreForced (maps.get live) after
+        → ((s : ℕ) → IsTouchedAt live (m ∷ []) s → has slots s ≡ true)
+        → ((s : ℕ) (c : Clause) → has slots s ≡ true → maps.get live s ≡ Some c
+        → TakesIn lits after c) → IsFollowed (maps.get live) (done + 1) after
     followed_more sound all takes = record {
       sound = sound;
       takes = λ k c at. elim (cases_Bool (has c (complement m))) [
@@ -166,19 +174,22 @@ module _ (live : FinMap nat_cmp Clause) (lits after : List Literal) (done : ℕ)
     }
 
 -- nothing more follows from any of them
-pub followed_whole : (live : Live) (done : ℕ) (lits : List Literal) → IsFollowed live done lits → length lits ≤ done → IsWhole live lits
-followed_whole live done lits followed over = record { sound = followed.sound; all = λ l forced. forced.in_each (has lits) closed (λ a h. absurd (false≢true h)) }
+pub followed_whole : (live : Live) (done : ℕ) (lits : List Literal) → IsFollowed live done lits
+    → length lits ≤ done → IsWhole live lits
+followed_whole live done lits followed over = grind (arith, closed, false≢true)
   where
     closed : IsClosed live (has lits)
-    closed = record { unit = λ k c at m member others. followed.takes k c at m member (λ l h ne. ap (λ ls. has ls (complement l)) (take_all done lits over) ∙ others l h ne) }
+    closed = grind (arith, take_all)
 
 -- ---- Clauses come and go
 
 module _ (live : FinMap nat_cmp Clause) (slot : ℕ) where
-  fewer_closed : (passes : Literal → Bool) → IsClosed (maps.get live) passes → IsClosed (maps.get (maps.remove live slot)) passes
-  fewer_closed passes closed = record { unit = λ k c at. closed.unit k c (after_remove live slot k c at) }
+  fewer_closed : (passes : Literal → Bool) → IsClosed (maps.get live) passes
+      → IsClosed (maps.get (maps.remove live slot)) passes
+  fewer_closed passes closed = grind (arith, after_remove)
 
-  forced_grows : (l : Literal) → Forced (maps.get (maps.remove live slot)) [] l → Forced (maps.get live) [] l
+  forced_grows : (l : Literal) → Forced (maps.get (maps.remove live slot)) [] l
+      → Forced (maps.get live) [] l
   forced_grows l forced = record { in_each = λ passes closed start. forced.in_each passes (fewer_closed passes closed) start }
 
   module _ (c : Clause) (at : maps.get live slot ≡ Some c) (lits : List Literal) where
@@ -187,7 +198,9 @@ module _ (live : FinMap nat_cmp Clause) (slot : ℕ) where
       pub added_forced : AreForced (maps.get live) lits
       added_forced l h = forced_grows l (whole.sound l h)
 
-      pub added_followed : (next : List Literal) → ((l : Literal) → has next l ≡ true → FollowsFrom lits c l) → TakesIn lits next c → take (length lits) next ≡ lits → IsFollowed (maps.get live) (length lits) next
+      pub added_followed : (next : List Literal)
+          → ((l : Literal) → has next l ≡ true → FollowsFrom lits c l) → TakesIn lits next c
+          → take (length lits) next ≡ lits → IsFollowed (maps.get live) (length lits) next
       added_followed next follows takes begins = record {
         sound = λ l h. follows_forced (maps.get live) lits added_forced slot c at l (follows l h);
         takes = λ k d here m member others.
@@ -204,7 +217,8 @@ module _ (live : FinMap nat_cmp Clause) (slot : ℕ) where
 
     -- a clause is removed that is no reason clause
     module _ (whole : IsWhole (maps.get live) lits) (no_reason : ¬ IsRootReason (maps.get live) c) where
-      within_closed : (passes : Literal → Bool) → IsClosed (maps.get (maps.remove live slot)) passes → IsClosed (maps.get live) (λ x. has lits x && passes x)
+      within_closed : (passes : Literal → Bool) → IsClosed (maps.get (maps.remove live slot)) passes
+          → IsClosed (maps.get live) (λ x. has lits x && passes x)
       within_closed passes closed = record {
         unit = λ k d here m member others.
             let known = λ (l : Literal) (h : has d l ≡ true) (ne : l ≢ m). and_parts (has lits (complement l)) (passes (complement l)) (others l h ne) in
@@ -226,7 +240,9 @@ module _ (live : FinMap nat_cmp Clause) (slot : ℕ) where
       removed_whole = record {
         sound = λ l h. record {
           in_each = λ passes closed start.
-              (and_parts (has lits l) (passes l) ((whole.sound l h).in_each (λ x. has lits x && passes x) (within_closed passes closed) (λ a none. absurd (false≢true none)))).1;
+              (and_parts (has lits l) (passes l)
+              ((whole.sound l h).in_each (λ x. has lits x && passes x) (within_closed passes closed)
+              (λ a none. absurd (false≢true none)))).1;
         };
         all = λ l forced. whole.all l (forced_grows l forced);
       }

@@ -1,13 +1,13 @@
 -- How many clauses have a literal, and that one is found where the number isn't 0.
-use Rattle.std.proofs.Common.{◌≡◌, ◌≢◌, ℕ, ◌+◌, ◌<◌, Bool, true, false, cond, T, ◌&&◌, ◌==◌, Some}
-use Rattle.std.proofs.Common.{List, [], ◌∷◌, map, sum_by, Less, Equal, Greater, is_lt, le-ltb}
-use Rattle.std.proofs.Common.{eqb-true, eq-eqb, refl, sym, ap, ◌∙◌, subst, arith, inl, inr}
+use Rattle.std.proofs.Common.{◌≡◌, ◌≢◌, ℕ, ◌+◌, ◌<◌, Bool, true, false, cond, T, ◌&&◌, Some, List}
+use Rattle.std.proofs.Common.{[], ◌∷◌, map, sum_by, is_lt, eqb-true, eq-eqb, refl, sym, ap, ◌∙◌}
+use Rattle.std.proofs.Common.{arith, inl, inr, rules}
 use Rattle.std.specs.Ordering.{nat_cmp, eq_by_cmp}
 use Rattle.std.specs.Cmp.{unsigned_tied}
 use Rattle.std.specs.FinMap as maps
 use Rattle.std.specs.FinMap.{FinMap, find, is_sorted}
 use Rattle.std.specs.FinMap.Entries.{below_all}
-use Rattle.std.proofs.lemmas.Bool.{cases_Bool, cases_lt, cases_eq, false_from_ne_true}
+use Rattle.std.proofs.lemmas.Bool.{cases_Bool, cases_eq, false_from_ne_true}
 use Rattle.std.proofs.lemmas.List.Sums.{sum_by-cons}
 use Rattle.std.proofs.lemmas.Option.{none-some}
 use Rattle.cnf_base.specs.Literals.{Literal, Clause, has}
@@ -17,12 +17,13 @@ use Rattle.cnf_base.proofs.MapLemmas.{sum_remove}
 
 -- ---- One that is there is counted
 
-pub copies_without : (live : FinMap nat_cmp Clause) (l : Literal) (s : ℕ) → HasAt (maps.get live) l s → 1 + copies_with (maps.remove live s) l ≡ copies_with live l
-copies_without live l s h =
-    ap (λ b. cond b 1 0 + copies_with (maps.remove live s) l) (sym h.member) ∙ sum_remove (λ c. cond (has c l) 1 0) live s h.clause h.at
+pub copies_without : (live : FinMap nat_cmp Clause) (l : Literal) (s : ℕ)
+    → HasAt (maps.get live) l s → 1 + copies_with (maps.remove live s) l ≡ copies_with live l
+copies_without live l s h = grind (arith, sum_remove)
 
-pub none_with : (live : FinMap nat_cmp Clause) (l : Literal) → copies_with live l ≡ 0 → (s : ℕ) → ¬ HasAt (maps.get live) l s
-none_with live l none s h = let more = copies_without live l s h in let wrong : ⊥ = omega (arith, none, more) in wrong
+pub none_with : (live : FinMap nat_cmp Clause) (l : Literal) → copies_with live l ≡ 0 → (s : ℕ)
+    → ¬ HasAt (maps.get live) l s
+none_with live l none s h = search (rules, copies_without)
 
 -- ---- One that is counted is there
 
@@ -30,30 +31,21 @@ pub tied : {k : ℕ} (q : ℕ) → eq_by_cmp nat_cmp q k ≡ true → q ≡ k
 tied {k} q e = eqb-true q k (sym (unsigned_tied q k) ∙ e)
 
 pub above : (x k : ℕ) → T (is_lt (nat_cmp x k)) → x < k
-above x k h =
-    elim (cases_lt x k) [
-      | inl lt ↦ lt
-      | inr le ↦ absurd (not_less (x == k) (subst (λ b. T (is_lt (cond b Less (cond (x == k) Equal Greater)))) (le-ltb x k le) h))
-    ]
-  where
-    not_less : (b : Bool) → T (is_lt (cond b Equal Greater)) → ⊥
-    not_less true t = t
-    not_less false t = t
+above x k h = grind arith
 
 pub both : (a b : Bool) → T (a && b) → T a × T b
 both true b t = (tt, t)
 both false b t = absurd t
 
-pub below_found : (x : ℕ) (es : List (ℕ × Clause)) (k : ℕ) (c : Clause) → T (below_all nat_cmp x es) → find nat_cmp k es ≡ Some c → x < k
+pub below_found : (x : ℕ) (es : List (ℕ × Clause)) (k : ℕ) (c : Clause) → T (below_all nat_cmp x es)
+    → find nat_cmp k es ≡ Some c → x < k
 below_found x [] k c below at = absurd (none-some c at)
 below_found x (e ∷ es) k c below at =
-    let parts = both (is_lt (nat_cmp x e.0)) (below_all nat_cmp x es) below in
-    elim (cases_Bool (eq_by_cmp nat_cmp k e.0)) [
-      | inl same ↦ subst (λ n. x < n) (sym (tied k same)) (above x e.0 parts.0)
-      | inr other ↦ below_found x es k c parts.1 (sym (ap (λ b. cond b (Some e.1) (find nat_cmp k es)) other) ∙ at)
-    ]
+    grind (arith, below_found x es k c, both, is_lt, cases_Bool, tied, above)
 
-counted_found : (w : Clause → ℕ) (es : List (ℕ × Clause)) → T (is_sorted nat_cmp es) → sum_by w (map (λ e. e.1) es) ≢ 0 → (k : ℕ) × (c : Clause) × (find nat_cmp k es ≡ Some c) × (w c ≢ 0)
+counted_found : (w : Clause → ℕ) (es : List (ℕ × Clause)) → T (is_sorted nat_cmp es)
+    → sum_by w (map (λ e. e.1) es) ≢ 0 → (k : ℕ) × (c : Clause) × (find nat_cmp k es ≡ Some c)
+    × (w c ≢ 0)
 counted_found w [] sorted some = absurd (some refl)
 counted_found w (e ∷ es) sorted some =
     elim (cases_eq (w e.1) 0) [

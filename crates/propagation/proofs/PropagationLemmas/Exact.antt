@@ -1,6 +1,6 @@
 -- What a propagation keeps of the literals that are true, as assumptions come and go.
 use Rattle.std.proofs.Common.{◌≡◌, ℕ, ◌≤◌, Bool, true, not, cond, arith, List, [], ◌∷◌, ◌++◌}
-use Rattle.std.proofs.Common.{length, take, sym, ap, ◌∙◌, subst, inl, inr}
+use Rattle.std.proofs.Common.{length, take, sym, ◌∙◌, rules}
 use Rattle.std.proofs.lemmas.List.{length-take, take-take}
 use Rattle.cnf_base.specs.Literals.{Literal, has}
 use Rattle.cnf_base.proofs.SetLemmas.{has_append_left, has_append_right, has_append_cases}
@@ -17,97 +17,102 @@ use Rattle.trail.proofs.TrailLemmas.Longer.{has_begun}
 use Rattle.theory.proofs.PropagationLemmas.Unit.{clash_of_conflict}
 
 -- what is forced by each of two lists that force one another is the same
-pub answer_through : (live : Live) (first second : List Literal) → ((l : Literal) → has first l ≡ true → Forced live second l) → ((l : Literal) → has second l ≡ true → Forced live first l) → (a : Answer) → IsAnswer live first a → IsAnswer live second a
+pub answer_through : (live : Live) (first second : List Literal)
+    → ((l : Literal) → has first l ≡ true → Forced live second l)
+    → ((l : Literal) → has second l ≡ true → Forced live first l) → (a : Answer)
+    → IsAnswer live first a → IsAnswer live second a
 answer_through live first second there back AnswersClash h = clash_through live first second there h
-answer_through live first second there back Quiet h = λ clash. h (clash_through live second first back clash)
+answer_through live first second there back Quiet h =
+    λ clash. h (clash_through live second first back clash)
 
 -- where one more assumption may be made, what is true is forced, and has what is assumed
 module _ (live : Live) (Roots : List Literal → Type 0) (lits : List Literal) (roots : Roots lits → (l : Literal) → has lits l ≡ true → Forced live [] l) where
-  pub sound_before : (assumptions : List Assumption) (starts : List ℕ) → MayAssume assumptions → AreExact live Roots lits assumptions starts → (l : Literal) → has lits l ≡ true → Forced live (assumed_by assumptions) l
+  pub sound_before : (assumptions : List Assumption) (starts : List ℕ) → MayAssume assumptions
+      → AreExact live Roots lits assumptions starts → (l : Literal) → has lits l ≡ true
+      → Forced live (assumed_by assumptions) l
   sound_before [] starts may exact = roots exact
   sound_before (first ∷ []) [] may exact = absurd exact
   sound_before (first ∷ []) (start ∷ starts) may exact = (exact.0 may).sound
   sound_before (first ∷ second ∷ rest) starts may exact = absurd may
 
-  pub start_before : (assumptions : List Assumption) (starts : List ℕ) → MayAssume assumptions → AreExact live Roots lits assumptions starts → (l : Literal) → has (assumed_by assumptions) l ≡ true → has lits l ≡ true
+  pub start_before : (assumptions : List Assumption) (starts : List ℕ) → MayAssume assumptions
+      → AreExact live Roots lits assumptions starts → (l : Literal)
+      → has (assumed_by assumptions) l ≡ true → has lits l ≡ true
   start_before [] starts may exact l h = absurd cc
   start_before (first ∷ []) [] may exact l h = absurd exact
   start_before (first ∷ []) (start ∷ starts) may exact l h = (exact.0 may).start l h
   start_before (first ∷ second ∷ rest) starts may exact l h = absurd may
 
 -- where nothing is assumed and nothing is true
-pub exact_nothing : (live : Live) (held : AssumptionsState) → held.trail.lits ≡ [] → held.assumptions ≡ [] → AreExact live (λ ls. ls ≡ []) held.trail.lits held.assumptions held.starts
-exact_nothing live held unset nothing = subst (λ xs. AreExact live (λ ls. ls ≡ []) held.trail.lits xs held.starts) (sym nothing) unset
+pub exact_nothing : (live : Live) (held : AssumptionsState) → held.trail.lits ≡ []
+    → held.assumptions ≡ [] → AreExact live (λ ls. ls ≡ [])
+    held.trail.lits held.assumptions held.starts
+exact_nothing live held unset nothing = grind arith
 
-pub nothing_true : (live : Live) (Roots : List Literal → Type 0) (held : AssumptionsState) → held.assumptions ≡ [] → AreExact live Roots held.trail.lits held.assumptions held.starts → Roots held.trail.lits
-nothing_true live Roots held nothing exact = subst (λ xs. AreExact live Roots held.trail.lits xs held.starts) nothing exact
+pub nothing_true : (live : Live) (Roots : List Literal → Type 0) (held : AssumptionsState)
+    → held.assumptions ≡ [] → AreExact live Roots held.trail.lits held.assumptions held.starts
+    → Roots held.trail.lits
+nothing_true live Roots held nothing exact = grind arith
 
-pub exact_same : (live : Live) (Roots : List Literal → Type 0) (before after : AssumptionsState) → after.trail.lits ≡ before.trail.lits → after.assumptions ≡ before.assumptions → after.starts ≡ before.starts →
-    AreExact live Roots before.trail.lits before.assumptions before.starts → AreExact live Roots after.trail.lits after.assumptions after.starts
-exact_same live Roots before after lits_are assumptions_are starts_are exact =
-    subst (λ ls. AreExact live Roots ls after.assumptions after.starts) (sym lits_are)
-    (subst (λ xs. AreExact live Roots before.trail.lits xs after.starts) (sym assumptions_are)
-    (subst (λ ns. AreExact live Roots before.trail.lits before.assumptions ns) (sym starts_are) exact))
+pub exact_same : (live : Live) (Roots : List Literal → Type 0) (before after : AssumptionsState)
+    → after.trail.lits ≡ before.trail.lits → after.assumptions ≡ before.assumptions
+    → after.starts ≡ before.starts
+    → AreExact live Roots before.trail.lits before.assumptions before.starts
+    → AreExact live Roots after.trail.lits after.assumptions after.starts
+exact_same live Roots before after lits_are assumptions_are starts_are exact = grind arith
 
 -- ---- More true literals
 
 -- a list is no longer than one that begins with it
-pub longer_from : (first second : List Literal) → take (length first) second ≡ first → length first ≤ length second
-longer_from first second begins = let e = length-take (length first) second in let f = ap length begins in omega (arith, e, f)
+pub longer_from : (first second : List Literal) → take (length first) second ≡ first
+    → length first ≤ length second
+longer_from first second begins = grind (arith, length-take)
 
 -- a list that begins with one that begins with a third
-pub begins_on : (first second third : List Literal) → take (length first) second ≡ first → length first ≤ length second → take (length second) third ≡ second → take (length first) third ≡ first
-begins_on first second third begins longer more = sym (take-take (length first) (length second) third longer) ∙ ap (take (length first)) more ∙ begins
+pub begins_on : (first second third : List Literal) → take (length first) second ≡ first
+    → length first ≤ length second → take (length second) third ≡ second
+    → take (length first) third ≡ first
+begins_on first second third begins longer more = grind (arith, take-take)
 
-pub extends_on : (first second third : AssumptionsState) → Extends first second → Extends second third → Extends first third
-extends_on first second third so_far more = record {
-  begins = begins_on first.trail.lits second.trail.lits third.trail.lits so_far.begins so_far.longer more.begins;
-  longer = omega (arith, so_far.longer, more.longer);
-  reserved = λ v. more.reserved v ∙ so_far.reserved v;
-  assumptions = more.assumptions ∙ so_far.assumptions;
-  starts = more.starts ∙ so_far.starts;
-}
+pub extends_on : (first second third : AssumptionsState) → Extends first second
+    → Extends second third → Extends first third
+extends_on first second third so_far more = grind (arith, begins_on)
 
-pub extends_made : (before after : AssumptionsState) (m : Literal) (is_open : Bool) → is_open ≡ not (has before.trail.lits m) → after.trail.lits ≡ cond is_open (before.trail.lits ++ m ∷ []) before.trail.lits →
-    SameSet after.trail.reserved before.trail.reserved → after.assumptions ≡ before.assumptions → after.starts ≡ before.starts → Extends before after
-extends_made before after m is_open was is met_is assumptions_are starts_are = record {
-  begins = begins_made before.trail.lits after.trail.lits m is_open was is;
-  longer = longer_made before.trail.lits after.trail.lits m is_open was is;
-  reserved = met_is;
-  assumptions = assumptions_are;
-  starts = starts_are;
-}
+pub extends_made : (before after : AssumptionsState) (m : Literal) (is_open : Bool)
+    → is_open ≡ not (has before.trail.lits m)
+    → after.trail.lits ≡ cond is_open (before.trail.lits ++ m ∷ []) before.trail.lits
+    → SameSet after.trail.reserved before.trail.reserved → after.assumptions ≡ before.assumptions
+    → after.starts ≡ before.starts → Extends before after
+extends_made before after m is_open was is met_is assumptions_are starts_are =
+    grind (arith, begins_made, longer_made)
 
 -- ---- One more assumption, by which the added literals are assumed too
 
 module _ (live : Live) (before lits added : List Literal) (sound : (l : Literal) → has lits l ≡ true → Forced live before l) where
   start_forced : (l : Literal) → has (lits ++ added) l ≡ true → Forced live (before ++ added) l
   start_forced l h =
-      elim (has_append_cases lits added l h) [
-        | inl g ↦ forced_through live before (before ++ added) (λ a m. forced_assumed live (before ++ added) a (has_append_left before added a m)) l (sound l g)
-        | inr g ↦ forced_assumed live (before ++ added) l (has_append_right before added l g)
-      ]
+      grind (arith, has_append_cases, forced_through, forced_assumed, has_append_left, has_append_right)
 
   pub conflict_clashes : conflicts (lits ++ added) ≡ true → Clash live (before ++ added)
-  conflict_clashes h = clash_of_conflict live (before ++ added) (lits ++ added) start_forced h
+  conflict_clashes h = search (rules, clash_of_conflict, start_forced)
 
   module _ (more : List Literal) (same : SameSet more (lits ++ added)) (start : (l : Literal) → has before l ≡ true → has lits l ≡ true) where
     more_forced : (l : Literal) → has more l ≡ true → Forced live (before ++ added) l
     more_forced l h = start_forced l (sym (same l) ∙ h)
 
     assumed_set : (l : Literal) → has (before ++ added) l ≡ true → has more l ≡ true
-    assumed_set l h = same l ∙ elim (has_append_cases before added l h) [
-      | inl g ↦ has_append_left lits added l (start l g)
-      | inr g ↦ has_append_right lits added l g
-    ]
+    assumed_set l h = grind (arith, has_append_cases, has_append_left, has_append_right)
 
     pub answer_from : (a : Answer) → IsAnswer live more a → IsAnswer live (before ++ added) a
-    answer_from = answer_through live more (before ++ added) more_forced (λ l h. forced_assumed live more l (assumed_set l h))
+    answer_from = grind (arith, answer_through, more_forced, forced_assumed, assumed_set)
 
-    pub exact_after : (all after : List Literal) → SameSet all (before ++ added) → take (length more) after ≡ more → ((l : Literal) → has after l ≡ true → Forced live more l) → IsClosed live (λ l. has after l) → IsExact live all after
+    pub exact_after : (all after : List Literal) → SameSet all (before ++ added)
+        → take (length more) after ≡ more
+        → ((l : Literal) → has after l ≡ true → Forced live more l)
+        → IsClosed live (λ l. has after l) → IsExact live all after
     exact_after all after alike begins forced closed = record {
-      sound = λ l h.
-          forced_through live (before ++ added) all (λ k m. forced_assumed live all k (alike k ∙ m)) l
+      sound = λ l h. forced_through live (before ++ added) all
+          (λ k m. forced_assumed live all k (alike k ∙ m)) l
           (forced_through live more (before ++ added) more_forced l (forced l h));
       start = λ l h. has_begun more after l begins (assumed_set l (sym (alike l) ∙ h));
       closed = closed;

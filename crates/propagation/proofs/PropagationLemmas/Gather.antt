@@ -1,6 +1,7 @@
 -- Clauses that are put into other slots one after the other are the same clauses.
-use Rattle.std.proofs.Common.{◌≡◌, ◌≢◌, ℕ, ◌+◌, ◌*◌, ◌<◌, true, false, cond, Option, Some, None}
-use Rattle.std.proofs.Common.{List, [], ◌∷◌, sum_by, is_some, IsSome, nat_lt, nat_le, ◌≤◌, refl, sym, subst, ap, ◌∙◌, arith, inl, inr}
+use Rattle.std.proofs.Common.{◌≡◌, ◌≢◌, ℕ, ◌+◌, ◌*◌, ◌<◌, true, false, cond, Some, None, List, []}
+use Rattle.std.proofs.Common.{◌∷◌, sum_by, IsSome, nat_lt, nat_le, ◌≤◌, sym, ap, ◌∙◌, arith, inl}
+use Rattle.std.proofs.Common.{inr, rules}
 use Rattle.std.specs.Ordering.{nat_cmp, is_eq}
 use Rattle.std.specs.FinMap as maps
 use Rattle.std.specs.FinMap.{FinMap}
@@ -22,7 +23,7 @@ abbrev pub is_copy : Clause → Clause → ℕ
 is_copy e c = cond (same_clause e c) 1 0
 
 pub same_copy : (e c d : Clause) → same_clause c d ≡ true → is_copy e c ≡ is_copy e d
-same_copy e c d same = ap (λ b. cond b 1 0) (both_pass (same_clause e c) (same_clause e d) (λ h. same_trans e c d h same) (λ h. same_trans e d c h (same_symm c d same)))
+same_copy e c d same = grind (arith, both_pass, same_trans, same_symm)
 
 -- the same clauses, by how many copies there are of each
 abbrev pub AreCopies : FinMap nat_cmp Clause → FinMap nat_cmp Clause → Type 0
@@ -33,47 +34,38 @@ AreCopies m n = (e : Clause) → sum_over (is_copy e) m ≡ sum_over (is_copy e)
 abbrev pub below : ℕ → FinMap nat_cmp Clause → FinMap nat_cmp Clause
 below n m = maps.retain_keys m (λ s. nat_lt s n)
 
-below_get : (n : ℕ) (m : FinMap nat_cmp Clause) (s : ℕ) → maps.get (below n m) s ≡ cond (nat_lt s n) (maps.get m s) None
+below_get : (n : ℕ) (m : FinMap nat_cmp Clause) (s : ℕ)
+    → maps.get (below n m) s ≡ cond (nat_lt s n) (maps.get m s) None
 below_get n m s = maps.get-retain_keys m (λ x. nat_lt x n) s (λ x e. ap (λ y. nat_lt y n) (sym (tied s (ap is_eq e))))
 
 there : (n : ℕ) (m : FinMap nat_cmp Clause) (s : ℕ) → s < n → maps.get (below n m) s ≡ maps.get m s
-there n m s low = below_get n m s ∙ ap (λ b. cond b (maps.get m s) None) (lt-ltb s n low)
+there n m s low = cc (below_get n m s, lt-ltb s n low)
 
 pub gone : (n : ℕ) (m : FinMap nat_cmp Clause) (s : ℕ) → n ≤ s → maps.get (below n m) s ≡ None
-gone n m s high = below_get n m s ∙ ap (λ b. cond b (maps.get m s) None) (le-ltb s n high)
+gone n m s high = grind (arith, below_get, le-ltb)
 
 -- none is below the first one, and all are below a number that is above them
 pub below_none : (m : FinMap nat_cmp Clause) → below 0 m ≡ maps.empty
 below_none m = same_maps _ _ (λ s. gone 0 m s (omega arith) ∙ sym (maps.get-empty nat_cmp s))
 
-pub below_all : (n : ℕ) (m : FinMap nat_cmp Clause) → ((s : ℕ) → IsSome (maps.get m s) → s < n) → below n m ≡ m
-below_all n m low = same_maps _ _ (λ s. by s (maps.get m s) refl)
-  where
-    by : (s : ℕ) (o : Option Clause) → maps.get m s ≡ o → maps.get (below n m) s ≡ maps.get m s
-    by s (Some c) is = there n m s (low s (ap is_some is))
-    by s None is = elim (cases_lt s n) [
-      | inl lt ↦ there n m s lt
-      | inr le ↦ gone n m s le ∙ sym is
-    ]
+pub below_all : (n : ℕ) (m : FinMap nat_cmp Clause) → ((s : ℕ) → IsSome (maps.get m s) → s < n)
+    → below n m ≡ m
+below_all n m low = grind (arith, same_maps, below, there, cases_lt, gone)
 
 past : (s n : ℕ) → n ≤ s → s ≢ n → n + 1 ≤ s
 past s n le ne = omega (arith, le, ne)
 
 -- a slot more, with a clause or without
-pub below_next : (n : ℕ) (m : FinMap nat_cmp Clause) (c : Clause) → maps.get m n ≡ Some c → below (n + 1) m ≡ maps.insert (below n m) n c
+pub below_next : (n : ℕ) (m : FinMap nat_cmp Clause) (c : Clause) → maps.get m n ≡ Some c
+    → below (n + 1) m ≡ maps.insert (below n m) n c
 below_next n m c is = inserted_is (below n m) (below (n + 1) m) n c (there (n + 1) m n (omega arith) ∙ is) (λ s ne. elim (cases_lt s n) [
   | inl lt ↦ there (n + 1) m s (omega (arith, lt)) ∙ sym (there n m s lt)
   | inr le ↦ gone (n + 1) m s (past s n le ne) ∙ sym (gone n m s le)
 ])
 
-pub below_same : (n : ℕ) (m : FinMap nat_cmp Clause) → maps.get m n ≡ None → below (n + 1) m ≡ below n m
-below_same n m none = same_maps _ _ (λ s. elim (cases_lt s n) [
-  | inl lt ↦ there (n + 1) m s (omega (arith, lt)) ∙ sym (there n m s lt)
-  | inr le ↦ elim (cases_eq s n) [
-    | inl e ↦ there (n + 1) m s (omega (arith, e)) ∙ ap (maps.get m) e ∙ none ∙ sym (gone n m s le)
-    | inr ne ↦ gone (n + 1) m s (past s n le ne) ∙ sym (gone n m s le)
-  ]
-])
+pub below_same : (n : ℕ) (m : FinMap nat_cmp Clause) → maps.get m n ≡ None
+    → below (n + 1) m ≡ below n m
+below_same n m none = grind (arith, same_maps, cases_lt, there, cases_eq, gone, past)
 
 -- ---- What was put into other slots so far
 
@@ -83,48 +75,42 @@ copied_none m e = ap (sum_over (is_copy e)) (sym (below_none m))
 pub copied_next : (old new m : FinMap nat_cmp Clause) (slot n : ℕ) (c d : Clause) → maps.get m n ≡ Some c → maps.get old slot ≡ None → maps.get new slot ≡ Some d → same_clause d c ≡ true
     → ((s : ℕ) → s ≢ slot → maps.get new s ≡ maps.get old s) → AreCopies old (below n m) → AreCopies new (below (n + 1) m)
 copied_next old new m slot n c d is free at same others so_far e =
-    ap (sum_over (is_copy e)) (inserted_is old new slot d at others)
-    ∙ sum_insert (is_copy e) old slot d free
-    ∙ ap (λ k. k + sum_over (is_copy e) old) (same_copy e d c same)
-    ∙ ap (λ k. is_copy e c + k) (so_far e)
-    ∙ sym (ap (sum_over (is_copy e)) (below_next n m c is) ∙ sum_insert (is_copy e) (below n m) n c (gone n m n (omega arith)))
+    cc (inserted_is old new slot d at others, sum_insert (is_copy e) old slot d free, same_copy e d c same, so_far e, below_next n m c is, sum_insert (is_copy e) (below n m) n c (gone n m n (omega arith)))
 
-pub copied_nothing : (old m : FinMap nat_cmp Clause) (n : ℕ) → maps.get m n ≡ None → AreCopies old (below n m) → AreCopies old (below (n + 1) m)
-copied_nothing old m n none so_far e = so_far e ∙ sym (ap (sum_over (is_copy e)) (below_same n m none))
+pub copied_nothing : (old m : FinMap nat_cmp Clause) (n : ℕ) → maps.get m n ≡ None
+    → AreCopies old (below n m) → AreCopies old (below (n + 1) m)
+copied_nothing old m n none so_far e = grind (arith, below_same)
 
-pub copied_all : (new m : FinMap nat_cmp Clause) (n : ℕ) → ((s : ℕ) → IsSome (maps.get m s) → s < n) → AreCopies new (below n m) → SameLive (maps.values new) (maps.values m)
+pub copied_all : (new m : FinMap nat_cmp Clause) (n : ℕ) → ((s : ℕ) → IsSome (maps.get m s) → s < n)
+    → AreCopies new (below n m) → SameLive (maps.values new) (maps.values m)
 copied_all new m n low so_far = record { copies = λ e. so_far e ∙ ap (sum_over (is_copy e)) (below_all n m low) }
 
 -- ---- How many slots they need
 
 -- one clause more needs its slots
-pub needs_more : (old new : FinMap nat_cmp Clause) (slot before after : ℕ) (c d : Clause) → maps.get old slot ≡ None → maps.get new slot ≡ Some d → same_clause d c ≡ true
-    → ((s : ℕ) → s ≢ slot → maps.get new s ≡ maps.get old s) → before ≤ slots_needed old → after ≤ before + slots_for (size c) → after ≤ slots_needed new
+pub needs_more : (old new : FinMap nat_cmp Clause) (slot before after : ℕ) (c d : Clause)
+    → maps.get old slot ≡ None → maps.get new slot ≡ Some d → same_clause d c ≡ true
+    → ((s : ℕ) → s ≢ slot → maps.get new s ≡ maps.get old s) → before ≤ slots_needed old
+    → after ≤ before + slots_for (size c) → after ≤ slots_needed new
 needs_more old new slot before after c d free at same others few more =
     let as_many : size d ≡ size c = size_same d c (same_there d c same) (same_back d c same) in
-    let needs = ap slots_needed (inserted_is old new slot d at others) ∙ sum_insert (λ x. slots_for (size x)) old slot d free in
-    let as_needed = ap slots_for as_many in
-    omega (arith, few, more, needs, as_needed)
+    let needs = ap slots_needed (inserted_is old new slot d at others)
+    ∙ sum_insert (λ x. slots_for (size x)) old slot d free in
+    let as_needed = ap slots_for as_many in omega (arith, few, more, needs, as_needed)
 
 -- what a clause needs is within what clauses may stand in
 one_within : (n : ℕ) → slots_for n ≤ 3 * n + 4 * cond (nat_le 2 n) 0 1
-one_within n = elim (cases_lt n 2) [
-  | inl lt ↦ (let short = ap (λ b. cond {A = ℕ} b 0 1) (lt-leb 2 n lt) in omega arith)
-  | inr le ↦ omega arith
-]
+one_within n = grind (arith, cases_lt, lt-leb)
 
-all_within : (cs : List Clause) → sum_by (λ c. slots_for (size c)) cs ≤ 3 * sum_by size cs + 4 * sum_by (λ c. cond (nat_le 2 (size c)) 0 1) cs
+all_within : (cs : List Clause)
+    → sum_by (λ c. slots_for (size c)) cs
+    ≤ 3 * sum_by size cs + 4 * sum_by (λ c. cond (nat_le 2 (size c)) 0 1) cs
 all_within [] = omega arith
-all_within (c ∷ cs) =
-    let first = one_within (size c) in
-    let rest = all_within cs in
-    let needs = sum_by-cons (λ x. slots_for (size x)) c cs in
-    let lits = sum_by-cons size c cs in
-    let short = sum_by-cons (λ x. cond (nat_le 2 (size x)) 0 1) c cs in
-    omega (arith, first, rest, needs, lits, short)
+all_within (c ∷ cs) = search (rules, all_within cs, one_within, sum_by-cons, nat_le)
 
-pub needed_within : (live : FinMap nat_cmp Clause) (count : ℕ) → count ≤ slots_needed live → count ≤ most_slots live
-needed_within live count few = let all = all_within (maps.values live) in omega (arith, few, all)
+pub needed_within : (live : FinMap nat_cmp Clause) (count : ℕ) → count ≤ slots_needed live
+    → count ≤ most_slots live
+needed_within live count few = grind (arith, all_within)
 
 -- ---- Both, where the slots below a number were passed
 
@@ -134,31 +120,24 @@ pub record IsGathered (made : Propagation) (slots : ℕ) (live : FinMap nat_cmp 
   pub nothing_assumed : made.assumptions ≡ []
   pub refused : made.has_refused ≡ false
 
-pub gathered_none : {made : Propagation} {slots : ℕ} (live : FinMap nat_cmp Clause) → made.live ≡ maps.empty → slots ≡ 0 → made.assumptions ≡ [] → made.has_refused ≡ false → IsGathered made slots live 0
-gathered_none {made} live empty no_slots nothing fresh = record {
-  copies = subst (λ m. AreCopies m (below 0 live)) (sym empty) (copied_none live);
-  few_slots = subst (λ n. n ≤ slots_needed made.live) (sym no_slots) (omega arith);
-  nothing_assumed = nothing;
-  refused = fresh;
-}
+pub gathered_none : {made : Propagation} {slots : ℕ} (live : FinMap nat_cmp Clause)
+    → made.live ≡ maps.empty → slots ≡ 0 → made.assumptions ≡ [] → made.has_refused ≡ false
+    → IsGathered made slots live 0
+gathered_none {made} live empty no_slots nothing fresh = grind (arith, below, copied_none)
 
-pub gathered_next : {old new : Propagation} {before after : ℕ} {live : FinMap nat_cmp Clause} {slot n : ℕ} {c : Clause} → maps.get live n ≡ Some c → maps.get old.live slot ≡ None →
-    (d : Clause) × (maps.get new.live slot ≡ Some d) × (same_clause d c ≡ true) → ((s : ℕ) → s ≢ slot → maps.get new.live s ≡ maps.get old.live s) → new.assumptions ≡ [] → new.has_refused ≡ old.has_refused →
-    after ≤ before + slots_for (size c) → IsGathered old before live n → IsGathered new after live (n + 1)
-gathered_next {old} {new} {before} {after} {live} {slot} {n} {c} is free stored others nothing same more so_far = record {
-  copies = copied_next old.live new.live live slot n c stored.0 is free stored.1 stored.2 others so_far.copies;
-  few_slots = needs_more old.live new.live slot before after c stored.0 free stored.1 stored.2 others so_far.few_slots more;
-  nothing_assumed = nothing;
-  refused = same ∙ so_far.refused;
-}
+pub gathered_next : {old new : Propagation} {before after : ℕ} {live : FinMap nat_cmp Clause} {slot
+    n : ℕ} {c : Clause} → maps.get live n ≡ Some c → maps.get old.live slot ≡ None → (d : Clause)
+    × (maps.get new.live slot ≡ Some d) × (same_clause d c ≡ true)
+    → ((s : ℕ) → s ≢ slot → maps.get new.live s ≡ maps.get old.live s) → new.assumptions ≡ []
+    → new.has_refused ≡ old.has_refused → after ≤ before + slots_for (size c)
+    → IsGathered old before live n → IsGathered new after live (n + 1)
+gathered_next {old} {new} {before} {after} {live} {slot} {n} {c} is free stored others nothing same more so_far = grind (arith, copied_next, needs_more)
 
-pub gathered_nothing : {made : Propagation} {slots : ℕ} {live : FinMap nat_cmp Clause} {n : ℕ} → maps.get live n ≡ None → IsGathered made slots live n → IsGathered made slots live (n + 1)
-gathered_nothing {made} {slots} {live} {n} none so_far = record {
-  copies = copied_nothing made.live live n none so_far.copies;
-  few_slots = so_far.few_slots;
-  nothing_assumed = so_far.nothing_assumed;
-  refused = so_far.refused;
-}
+pub gathered_nothing : {made : Propagation} {slots : ℕ} {live : FinMap nat_cmp Clause} {n : ℕ}
+    → maps.get live n ≡ None → IsGathered made slots live n → IsGathered made slots live (n + 1)
+gathered_nothing {made} {slots} {live} {n} none so_far = grind (arith, copied_nothing)
 
-pub gathered_all : {made : Propagation} {slots : ℕ} {live : FinMap nat_cmp Clause} {n : ℕ} → ((s : ℕ) → IsSome (maps.get live s) → s < n) → IsGathered made slots live n → SameLive (maps.values made.live) (maps.values live)
+pub gathered_all : {made : Propagation} {slots : ℕ} {live : FinMap nat_cmp Clause} {n : ℕ}
+    → ((s : ℕ) → IsSome (maps.get live s) → s < n) → IsGathered made slots live n
+    → SameLive (maps.values made.live) (maps.values live)
 gathered_all {made} {slots} {live} {n} low so_far = copied_all made.live live n low so_far.copies

@@ -1,6 +1,5 @@
 -- Slots whose clauses lack a literal.
-use Rattle.std.proofs.Common.{◌≡◌, ℕ, ◌+◌, ◌<◌, ◌≤◌, false, Some, None, sym, ap, ◌∙◌, subst, inl}
-use Rattle.std.proofs.Common.{inr, arith}
+use Rattle.std.proofs.Common.{◌≡◌, ℕ, ◌+◌, ◌<◌, ◌≤◌, false, Some, None, ◌∙◌, arith}
 use Rattle.std.proofs.lemmas.Option.{none-some, same_Some}
 use Rattle.std.proofs.lemmas.Bool.{true≢false, cases_eq}
 use Rattle.cnf_base.specs.Literals.{Literal, Clause, has}
@@ -12,11 +11,8 @@ module _ (live : Live) (l : Literal) where
   lacks_none n none h = none-some h.clause (none ∙ h.at)
 
   pub lacks_more : (n : ℕ) (c : Clause) → Some c ≡ live n → has c l ≡ false → HasAt live l n → ⊥
-  lacks_more n c here absent h = true≢false (sym h.member ∙ ap (λ d. has d l) (sym (same_Some c h.clause (here ∙ h.at))) ∙ absent)
+  lacks_more n c here absent h = grind (arith, true≢false, same_Some)
 
-  pub lacks_next : (from n : ℕ) → ((s : ℕ) → from ≤ s → s < n → HasAt live l s → ⊥) → (HasAt live l n → ⊥) → (s : ℕ) → from ≤ s → s < n + 1 → HasAt live l s → ⊥
-  lacks_next from n below here s low high h =
-      elim (cases_eq s n) [
-        | inl e ↦ here (subst (HasAt live l) e h)
-        | inr ne ↦ below s low (omega arith) h
-      ]
+  pub lacks_next : (from n : ℕ) → ((s : ℕ) → from ≤ s → s < n → HasAt live l s → ⊥)
+      → (HasAt live l n → ⊥) → (s : ℕ) → from ≤ s → s < n + 1 → HasAt live l s → ⊥
+  lacks_next from n below here s low high h = grind (arith, cases_eq)

@@ -1,8 +1,8 @@
 -- Variables that assumptions noted, as assumptions come and go.
-use Rattle.std.proofs.Common.{◌≡◌, ◌≢◌, ℕ, ◌+◌, ◌/◌, ◌<◌, ◌≤◌, Bool, true, false, not, cond, eqb}
+use Rattle.std.proofs.Common.{◌≡◌, ◌≢◌, ℕ, ◌+◌, ◌/◌, ◌<◌, ◌≤◌, Bool, true, false, not, cond}
 use Rattle.std.proofs.Common.{eqb-true, eq-eqb, List, [], ◌∷◌, ◌++◌, is_some, map, filter, take}
 use Rattle.std.proofs.Common.{length, length-append, get_or, refl, sym, ap, ◌∙◌, subst, inl, inr}
-use Rattle.std.proofs.Common.{◌⊎◌, arith, append-nil}
+use Rattle.std.proofs.Common.{◌⊎◌, arith, append-nil, rules}
 use Rattle.std.proofs.lemmas.Bool.{false≢true, true≢false, cases_eq, or_cases, or_left, or_right}
 use Rattle.std.proofs.lemmas.List.{take-append-le}
 use Rattle.std.proofs.lemmas.List.Elements.{filter_agree, filter-append}
@@ -32,13 +32,13 @@ use Rattle.trail.proofs.TrailLemmas.Truth.{same_literal, more_cases, variable_op
 
 -- ---- Variables of lists
 
-mapped_member : (ls : List ℕ) (v : ℕ) → has (map variable ls) v ≡ true → (k : ℕ) × (has ls k ≡ true) × (variable k ≡ v)
-mapped_member ls v h = let w = place_of_variable ls v h in (get_or ls w.0 0, has_place ls w.0 w.1, w.2)
+mapped_member : (ls : List ℕ) (v : ℕ) → has (map variable ls) v ≡ true → (k : ℕ) × (has ls k ≡ true)
+    × (variable k ≡ v)
+mapped_member ls v h = grind (arith, place_of_variable, has_place)
 
-mapped_within : (first ls : List ℕ) (v : ℕ) → ((l : ℕ) → has first l ≡ true → has ls l ≡ true) → has (map variable first) v ≡ true → has (map variable ls) v ≡ true
-mapped_within first ls v within h =
-    let w = mapped_member first v h in
-    subst (λ u. has (map variable ls) u ≡ true) w.2 (has_mapped ls w.0 (within w.0 w.1))
+mapped_within : (first ls : List ℕ) (v : ℕ) → ((l : ℕ) → has first l ≡ true → has ls l ≡ true)
+    → has (map variable first) v ≡ true → has (map variable ls) v ≡ true
+mapped_within first ls v within h = grind (arith, mapped_member, has_mapped, within)
 
 -- ---- What is assumed
 
@@ -49,7 +49,8 @@ module _ (lits more rest : List Literal) (old new : ℕ → Bool)
     (all : (l : Literal) → has rest l ≡ true → new (l / 2) ≡ true)
     (set : (v : ℕ) → old v ≡ true → has (map variable lits) v ≡ true)
     (added : SameSet more (lits ++ complements rest)) (apart : HasNoVariableTwice more) where
-  within : (l : Literal) → has (of_variables new more) l ≡ true → has (of_variables old lits ++ complements rest) l ≡ true
+  within : (l : Literal) → has (of_variables new more) l ≡ true
+      → has (of_variables old lits ++ complements rest) l ≡ true
   within l h =
       let w = filter_has (λ l. new (l / 2)) more l h in
       elim (splits (l / 2) w.1) [
@@ -64,7 +65,8 @@ module _ (lits more rest : List Literal) (old new : ℕ → Bool)
             has_append_right (of_variables old lits) (complements rest) l (subst (λ m. has (complements rest) m ≡ true) same there)
       ]
 
-  back : (l : Literal) → has (of_variables old lits ++ complements rest) l ≡ true → has (of_variables new more) l ≡ true
+  back : (l : Literal) → has (of_variables old lits ++ complements rest) l ≡ true
+      → has (of_variables new more) l ≡ true
   back l h =
       elim (has_append_cases (of_variables old lits) (complements rest) l h) [
         | inl g ↦
@@ -76,7 +78,7 @@ module _ (lits more rest : List Literal) (old new : ℕ → Bool)
       ]
 
   pub assumed_same : SameSet (of_variables new more) (of_variables old lits ++ complements rest)
-  assumed_same l = both_pass (has (of_variables new more) l) (has (of_variables old lits ++ complements rest) l) (within l) (back l)
+  assumed_same l = grind (arith, both_pass, within, back)
 
 none_of : (lits : List Literal) → of_variables (λ v. false) lits ≡ []
 none_of [] = refl
@@ -87,77 +89,60 @@ none_of (l ∷ lits) = none_of lits
 -- all that is assumed with it
 abbrev pub pushed_assumed : (ℕ → ℕ) → List Literal → Levels → ℕ → List Literal
 pushed_assumed number_of lits Nothing number = of_variables (is_noted number_of number) lits
-pushed_assumed number_of lits (One first) number = of_variables (is_noted_by_two number_of first.number number) lits
+pushed_assumed number_of lits (One first) number =
+    of_variables (is_noted_by_two number_of first.number number) lits
 pushed_assumed number_of lits (Two first second) number = []
 
 pub notes_none : (first number : ℕ) (f : ℕ → ℕ) → Notes first number [] f f
-notes_none first number f = record { old = λ v e. e; changed = λ v ne. refl; new = λ v e ne. absurd (ne e); all = λ l h. absurd (false≢true h) }
+notes_none first number f = grind (arith, false≢true)
 
 module _ (before after : ℕ → ℕ) (made : ℕ) (lits more rest : List Literal) (levels : Levels) (low : (v : ℕ) → before v ≤ made) (are : AreLevels before made lits levels)
     (notes : Notes (first_number levels (made + 1)) (made + 1) rest before after) (begins : take (length lits) more ≡ lits) (longer : length lits ≤ length more)
     (level : Level) (number_is : level.number ≡ made + 1) (start_is : level.start ≡ length lits) where
   fresh : (v : ℕ) → before v ≢ made + 1
-  fresh v e = let h = low v in let wrong : ⊥ = omega arith in wrong
+  fresh v e = grind arith
 
   low_after : (v : ℕ) → after v ≤ made + 1
-  low_after v = elim (cases_eq (after v) (made + 1)) [ inl e ↦ omega arith | inr ne ↦ let e = notes.changed v ne in let h = low v in omega arith ]
+  low_after v = grind (arith, cases_eq)
 
   pub pushed_low : (total : ℕ) → total ≡ made + 1 → (v : ℕ) → after v ≤ total
   pushed_low total e v = let h = low_after v in omega arith
 
-  set_after : ((l : Literal) → has rest l ≡ true → has more (complement l) ≡ true) → (v : ℕ) → after v ≡ made + 1 → has (map variable more) v ≡ true
+  set_after : ((l : Literal) → has rest l ≡ true → has more (complement l) ≡ true) → (v : ℕ)
+      → after v ≡ made + 1 → has (map variable more) v ≡ true
   set_after sets v e =
       let w = mapped_member rest v (notes.new v e (fresh v)) in
-      subst (λ u. has (map variable more) u ≡ true) (variable-complement w.0 ∙ w.2) (has_mapped more (complement w.0) (sets w.0 w.1))
+      subst (λ u. has (map variable more) u ≡ true) (variable-complement w.0 ∙ w.2)
+      (has_mapped more (complement w.0) (sets w.0 w.1))
 
-  level_after : ((l : Literal) → has rest l ≡ true → has more (complement l) ≡ true) → IsLevel after (made + 1) more level
-  level_after sets = record {
-    positive = omega (arith, number_is);
-    low = omega (arith, number_is);
-    start = omega (arith, start_is, longer);
-    set = λ v e. set_after sets v (e ∙ number_is);
-  }
+  level_after : ((l : Literal) → has rest l ≡ true → has more (complement l) ≡ true)
+      → IsLevel after (made + 1) more level
+  level_after sets = grind (arith, set_after)
 
 -- the numbers of those that stood are as before
 module _ (before after : ℕ → ℕ) (made : ℕ) (rest : List Literal) (first : Level) (first_low : first.number ≤ made) (notes : Notes first.number (made + 1) rest before after) where
   old_back : (v : ℕ) → after v ≡ first.number → before v ≡ first.number
-  old_back v e = sym (notes.changed v (λ f. let wrong : ⊥ = omega (arith, first_low, e, f) in wrong)) ∙ e
+  old_back v e = grind arith
 
   noted_same : (v : ℕ) → is_noted after first.number v ≡ is_noted before first.number v
-  noted_same v =
-      both_pass (eqb (after v) first.number) (eqb (before v) first.number)
-      (λ h. eq-eqb _ _ (old_back v (eqb-true _ _ h)))
-      (λ h. eq-eqb _ _ (notes.old v (eqb-true _ _ h)))
+  noted_same v = grind (arith, both_pass, eq-eqb, old_back, eqb-true)
 
   first_kept : (lits : List Literal) → of_variables (is_noted after first.number) lits ≡ of_variables (is_noted before first.number) lits
-  first_kept lits = filter_agree (λ l. is_noted after first.number (l / 2)) (λ l. is_noted before first.number (l / 2)) (λ l. noted_same (l / 2)) lits
+  first_kept lits = grind (arith, filter_agree, noted_same)
 
 module _ (before after : ℕ → ℕ) (made : ℕ) (lits more rest : List Literal) (low : (v : ℕ) → before v ≤ made) (begins : take (length lits) more ≡ lits) (longer : length lits ≤ length more) (level : Level) (number_is : level.number ≡ made + 1) (start_is : level.start ≡ length lits) where
   pushed_levels : (levels : Levels) → MayAssume (assumptions_of before lits levels) → AreLevels before made lits levels → Notes (first_number levels (made + 1)) (made + 1) rest before after →
       ((l : Literal) → has rest l ≡ true → has more (complement l) ≡ true) → AreLevels after (made + 1) more (pushed levels level)
-  pushed_levels Nothing may are notes sets = level_after before after made lits more rest Nothing low are notes begins longer level number_is start_is sets
+  pushed_levels Nothing may are notes sets = search (rules, level_after)
   pushed_levels (One first) may are notes sets =
-      let first_low = are.low in (
-        record {
-          positive = are.positive;
-          low = omega arith;
-          start = omega (arith, are.start, start_is, ap length front);
-          set = λ v e. subst (λ ls. has (map variable ls) v ≡ true) (sym front) (are.set v (old_back before after made rest first first_low notes v e));
-        },
-        level_after before after made lits more rest (One first) low are notes begins longer level number_is start_is sets,
-        λ e. let wrong : ⊥ = omega (arith, first_low, number_is, e) in wrong,
-      )
-    where
-      front : take level.start more ≡ lits
-      front = ap (λ n. take n more) start_is ∙ begins
+      grind (arith, level_after before after made lits more rest (One first) low are notes begins longer level number_is start_is sets)
   pushed_levels (Two first second) may are notes sets = absurd may
 
   pushed_is : (levels : Levels) → MayAssume (assumptions_of before lits levels) → AreLevels before made lits levels → Notes (first_number levels (made + 1)) (made + 1) rest before after →
       assumptions_of after more (pushed levels level) ≡ record { answer = level.answer; assumed = pushed_assumed after more levels level.number } ∷ assumptions_of before lits levels
   pushed_is Nothing may are notes = refl
   pushed_is (One first) may are notes =
-      ap (λ ls. record { answer = level.answer; assumed = of_variables (is_noted_by_two after first.number level.number) more } ∷ record { answer = first.answer; assumed = ls } ∷ [])
-      (ap (of_variables (is_noted after first.number)) (ap (λ n. take n more) start_is ∙ begins) ∙ first_kept before after made rest first are.low notes lits)
+      grind (arith, first_kept)
   pushed_is (Two first second) may are notes = absurd may
 
   pushed_same : (levels : Levels) → MayAssume (assumptions_of before lits levels) → AreLevels before made lits levels → Notes (first_number levels (made + 1)) (made + 1) rest before after →
@@ -172,21 +157,13 @@ module _ (before after : ℕ → ℕ) (made : ℕ) (lits more rest : List Litera
       (λ v h. absurd (false≢true h))
       added apart))
   pushed_same (One first) may are notes added apart =
-      subst (λ n. SameSet (of_variables (is_noted_by_two after first.number n) more) (of_variables (is_noted before first.number) lits ++ complements rest)) (sym number_is)
-      (assumed_same lits more rest (is_noted before first.number) (is_noted_by_two after first.number (made + 1))
-      (λ v h. or_left _ _ (eq-eqb _ _ (notes.old v (eqb-true _ _ h))))
-      (λ v h. elim (or_cases (eqb (after v) first.number) (eqb (after v) (made + 1)) h) [
-        | inl e ↦ inl (eq-eqb _ _ (old_back before after made rest first are.low notes v (eqb-true _ _ e)))
-        | inr e ↦ inr (notes.new v (eqb-true _ _ e) (fresh before after made lits more rest (One first) low are notes begins longer level number_is start_is v))
-      ])
-      (λ l h. elim (cases_eq (after (l / 2)) first.number) [ inl e ↦ or_left _ _ (eq-eqb _ _ e) | inr ne ↦ or_right _ _ (eq-eqb _ _ (notes.all l h ne)) ])
-      (λ v h. are.set v (eqb-true _ _ h))
-      added apart)
+      grind (arith, assumed_same, or_left, eq-eqb, eqb-true, or_cases, old_back, fresh, cases_eq, or_right)
   pushed_same (Two first second) may are notes added apart = absurd may
 
 -- the complements of what was made false are true
-complements_true : (more lits rest : List Literal) → SameSet more (lits ++ complements rest) → (l : Literal) → has rest l ≡ true → has more (complement l) ≡ true
-complements_true more lits rest added l h = added (complement l) ∙ has_append_right lits (complements rest) (complement l) (has-complements rest l h)
+complements_true : (more lits rest : List Literal) → SameSet more (lits ++ complements rest)
+    → (l : Literal) → has rest l ≡ true → has more (complement l) ≡ true
+complements_true more lits rest added l h = grind (arith, has_append_right, has-complements)
 
 -- So it is after it, where it is pushed as one that clashes.
 module _ (trail after : TrailState) (numbers noted : Filled ℕ) (made number start : ℕ) (levels : Levels) (rest : List Literal) (stood : List Assumption)
@@ -199,82 +176,64 @@ module _ (trail after : TrailState) (numbers noted : Filled ℕ) (made number st
   may_then : MayAssume (assumptions_of (number_at numbers) trail.lits levels)
   may_then = subst MayAssume (sym stood_are) may
 
-  notes_here : Notes (first_number levels (made + 1)) (made + 1) rest (number_at numbers) (number_at noted)
-  notes_here = subst (λ n. Notes (first_number levels n) n rest (number_at numbers) (number_at noted)) number_is (subst (λ n. Notes n number rest (number_at numbers) (number_at noted)) first_is notes)
+  notes_here : Notes (first_number levels (made + 1)) (made + 1) rest (number_at numbers)
+      (number_at noted)
+  notes_here = grind arith
 
   pub pushed_seen : assumptions_of (number_at noted) after.lits (pushed levels clashing) ≡ record { answer = Clash; assumed = pushed_assumed (number_at noted) after.lits levels number } ∷ stood
   pushed_seen =
-      pushed_is (number_at numbers) (number_at noted) made trail.lits after.lits rest is.low begins longer clashing number_is start_is levels may_then is.levels_are notes_here
-      ∙ ap (λ before. record { answer = Clash; assumed = pushed_assumed (number_at noted) after.lits levels number } ∷ before) stood_are
+      grind (arith, pushed_is, clashing, may_then, notes_here)
 
   module _ (added : SameSet after.lits (trail.lits ++ complements rest)) where
-    pub pushed_numbered : ((v : ℕ) → is_some (at noted v) ≡ is_some (at numbers v)) → SameSet after.reserved trail.reserved → IsNumbered after noted number (pushed levels clashing)
+    pub pushed_numbered : ((v : ℕ) → is_some (at noted v) ≡ is_some (at numbers v))
+        → SameSet after.reserved trail.reserved
+        → IsNumbered after noted number (pushed levels clashing)
     pushed_numbered known reserved = record {
       known = λ v h. known v ∙ is.known v (sym (reserved v) ∙ h);
-      low = pushed_low (number_at numbers) (number_at noted) made trail.lits after.lits rest levels is.low is.levels_are notes_here begins longer clashing number_is start_is number number_is;
-      levels_are = subst (λ n. AreLevels (number_at noted) n after.lits (pushed levels clashing)) (sym number_is)
-          (pushed_levels (number_at numbers) (number_at noted) made trail.lits after.lits rest is.low begins longer clashing number_is start_is levels may_then is.levels_are notes_here
-          (complements_true after.lits trail.lits rest added));
+      low = pushed_low (number_at numbers) (number_at noted)
+          made trail.lits after.lits rest levels is.low is.levels_are notes_here begins longer
+          clashing number_is start_is number number_is;
+      levels_are = subst (λ n. AreLevels (number_at noted) n after.lits (pushed levels clashing))
+          (sym number_is) (pushed_levels (number_at numbers) (number_at noted)
+          made trail.lits after.lits rest is.low begins longer clashing number_is start_is levels
+          may_then is.levels_are notes_here (complements_true after.lits trail.lits rest added));
     }
 
     pub pushed_assumes : HasNoVariableTwice after.lits → SameSet (pushed_assumed (number_at noted) after.lits levels number) (assumed_by stood ++ complements rest)
     pushed_assumes apart =
-        subst (λ before. SameSet (pushed_assumed (number_at noted) after.lits levels number) (assumed_by before ++ complements rest)) stood_are
-        (pushed_same (number_at numbers) (number_at noted) made trail.lits after.lits rest is.low begins longer clashing number_is start_is levels may_then is.levels_are notes_here added apart)
+        grind (arith, pushed_same (number_at numbers) (number_at noted) made trail.lits after.lits rest is.low begins longer clashing number_is start_is levels may_then is.levels_are notes_here added apart)
 
 -- ---- One more literal that is true
 
 module _ (number_of : ℕ → ℕ) (made : ℕ) (lits : List Literal) (m : Literal) (unset : has (map variable lits) (variable m) ≡ false) where
-  kept_of_set : (passes : ℕ → Bool) → ((v : ℕ) → passes v ≡ true → has (map variable lits) v ≡ true) → of_variables passes (lits ++ m ∷ []) ≡ of_variables passes lits
-  kept_of_set passes set = filter-append (λ l. passes (l / 2)) lits (m ∷ []) ∙ by_test (passes (m / 2)) refl
-    where
-      by_test : (b : Bool) → passes (m / 2) ≡ b → of_variables passes lits ++ cond b (m ∷ []) [] ≡ of_variables passes lits
-      by_test true e = absurd (true≢false (sym (set (m / 2) e) ∙ unset))
-      by_test false e = append-nil _
+  kept_of_set : (passes : ℕ → Bool) → ((v : ℕ) → passes v ≡ true → has (map variable lits) v ≡ true)
+      → of_variables passes (lits ++ m ∷ []) ≡ of_variables passes lits
+  kept_of_set passes set = grind (arith, filter-append, true≢false, append-nil)
 
-  longer_level : (level : Level) → IsLevel number_of made lits level → IsLevel number_of made (lits ++ m ∷ []) level
-  longer_level level is = record {
-    positive = is.positive;
-    low = is.low;
-    start = let e = length-append lits (m ∷ []) in omega (arith, is.start);
-    set = λ v e. still_set lits m v (is.set v e);
-  }
+  longer_level : (level : Level) → IsLevel number_of made lits level
+      → IsLevel number_of made (lits ++ m ∷ []) level
+  longer_level level is = grind (arith, length-append, still_set)
 
-  pub made_levels : (levels : Levels) → AreLevels number_of made lits levels → AreLevels number_of made (lits ++ m ∷ []) levels
+  pub made_levels : (levels : Levels) → AreLevels number_of made lits levels
+      → AreLevels number_of made (lits ++ m ∷ []) levels
   made_levels Nothing are = tt
   made_levels (One first) are = longer_level first are
-  made_levels (Two first second) are = (
-    subst (λ ls. IsLevel number_of made ls first) (sym (take-append-le second.start lits (m ∷ []) are.1.start)) are.0,
-    longer_level second are.1,
-    are.2,
-  )
+  made_levels (Two first second) are = search (rules, take-append-le, longer_level)
 
-  pub made_assumptions : (levels : Levels) → AreLevels number_of made lits levels → assumptions_of number_of (lits ++ m ∷ []) levels ≡ assumptions_of number_of lits levels
+  pub made_assumptions : (levels : Levels) → AreLevels number_of made lits levels
+      → assumptions_of number_of (lits ++ m ∷ []) levels ≡ assumptions_of number_of lits levels
   made_assumptions Nothing are = refl
-  made_assumptions (One first) are = ap (λ ls. record { answer = first.answer; assumed = ls } ∷ []) (kept_of_set (is_noted number_of first.number) (λ v h. are.set v (eqb-true _ _ h)))
+  made_assumptions (One first) are = grind (arith, kept_of_set, eqb-true)
   made_assumptions (Two first second) are =
-      ap (λ ls. record { answer = second.answer; assumed = ls } ∷ record { answer = first.answer; assumed = of_variables (is_noted number_of first.number) (take second.start (lits ++ m ∷ [])) } ∷ [])
-      (kept_of_set (is_noted_by_two number_of first.number second.number) either)
-      ∙ ap (λ ls. record { answer = second.answer; assumed = of_variables (is_noted_by_two number_of first.number second.number) lits } ∷ record { answer = first.answer; assumed = of_variables (is_noted number_of first.number) ls } ∷ [])
-      (take-append-le second.start lits (m ∷ []) are.1.start)
-    where
-      front : (l : ℕ) → has (take second.start lits) l ≡ true → has lits l ≡ true
-      front l h = has_take lits second.start l h
-
-      either : (v : ℕ) → is_noted_by_two number_of first.number second.number v ≡ true → has (map variable lits) v ≡ true
-      either v h = elim (or_cases (eqb (number_of v) first.number) (eqb (number_of v) second.number) h) [
-        | inl e ↦ mapped_within (take second.start lits) lits v front (are.0.set v (eqb-true _ _ e))
-        | inr e ↦ are.1.set v (eqb-true _ _ e)
-      ]
+      grind (arith, kept_of_set, take-append-le, has_take, or_cases, mapped_within, eqb-true)
 
 module _ (number_of : ℕ → ℕ) (made : ℕ) (lits after : List Literal) (m : Literal) (is_open : Bool) (was : is_open ≡ not (has lits m)) (is : after ≡ cond is_open (lits ++ m ∷ []) lits) (not_false : has lits (complement m) ≡ false) (levels : Levels) (are : AreLevels number_of made lits levels) where
   pub true_levels : AreLevels number_of made after levels
-  true_levels = by_open lits after m is_open was is (λ ls. AreLevels number_of made ls levels) (λ absent. made_levels number_of made lits m (variable_open lits m absent not_false) levels are) (λ here. are)
+  true_levels = grind (arith, by_open, made_levels, variable_open)
 
-  pub true_assumptions : assumptions_of number_of after levels ≡ assumptions_of number_of lits levels
-  true_assumptions =
-      by_open lits after m is_open was is (λ ls. assumptions_of number_of ls levels ≡ assumptions_of number_of lits levels)
-      (λ absent. made_assumptions number_of made lits m (variable_open lits m absent not_false) levels are) (λ here. refl)
+  pub true_assumptions : assumptions_of number_of after levels
+      ≡ assumptions_of number_of lits levels
+  true_assumptions = grind (arith, by_open, made_assumptions, variable_open)
 
 -- ---- Variables noted one by one
 
@@ -287,42 +246,26 @@ pub record NotesTo (first number : ℕ) (c : List Literal) (keeps : Literal → 
 
 module _ (first number : ℕ) (c : List Literal) (keeps : Literal → Bool) (before now : ℕ → ℕ) where
   pub noted_none : NotesTo first number c keeps 0 now now
-  noted_none = record { old = λ v e. e; changed = λ v ne. refl; new = λ v e ne. absurd (ne e); all = λ l h. absurd (false≢true h) }
+  noted_none = grind (arith, false≢true)
 
-  pub noted_whole : (i : ℕ) → take i c ≡ c → NotesTo first number c keeps i before now → Notes first number (filter keeps c) before now
-  noted_whole i whole so_far = record {
-    old = so_far.old;
-    changed = so_far.changed;
-    new = so_far.new;
-    all = λ l h. let w = filter_has keeps c l h in so_far.all l (ap (λ d. has d l) whole ∙ w.0) w.1;
-  }
+  pub noted_whole : (i : ℕ) → take i c ≡ c → NotesTo first number c keeps i before now
+      → Notes first number (filter keeps c) before now
+  noted_whole i whole so_far = grind (arith, filter_has)
 
   module _ (i : ℕ) (inside : i < length c) (x : Literal) (is : x ≡ get_or c i x) (so_far : NotesTo first number c keeps i before now) where
     -- a literal that is left out
     pub noted_past : keeps x ≡ false → NotesTo first number c keeps (i + 1) before now
-    noted_past out = record {
-      old = so_far.old;
-      changed = so_far.changed;
-      new = so_far.new;
-      all = λ l h k ne. elim (more_cases c i inside x is l h) [ inl g ↦ so_far.all l g k ne | inr e ↦ absurd (true≢false (sym k ∙ ap keeps (sym e) ∙ out)) ];
-    }
+    noted_past out = grind (arith, more_cases, true≢false)
 
     module _ (next : ℕ → ℕ) (var : ℕ) (of_x : var ≡ x / 2) (other : (v : ℕ) → v ≢ var → next v ≡ now v) (old : now var ≡ first → next var ≡ first) (new : now var ≢ first → next var ≡ number) where
       noted_here : next var ≢ first → next var ≡ number
-      noted_here ne = elim (cases_eq (now var) first) [ inl e ↦ absurd (ne (old e)) | inr f ↦ new f ]
+      noted_here ne = grind (arith, cases_eq)
 
       noted_changed : (v : ℕ) → next v ≢ number → next v ≡ before v
-      noted_changed v ne = elim (cases_eq v var) [
-        | inl here ↦ elim (cases_eq (now var) first) [
-          | inl e ↦
-              let same : next v ≡ now v = ap next here ∙ old e ∙ sym e ∙ ap now (sym here) in
-              same ∙ so_far.changed v (λ f. ne (same ∙ f))
-          | inr f ↦ absurd (ne (ap next here ∙ new f))
-        ]
-        | inr far ↦ other v far ∙ so_far.changed v (λ f. ne (other v far ∙ f))
-      ]
+      noted_changed v ne = grind (arith, cases_eq)
 
-      noted_all : (l : Literal) → has (take (i + 1) c) l ≡ true → keeps l ≡ true → next (l / 2) ≢ first → next (l / 2) ≡ number
+      noted_all : (l : Literal) → has (take (i + 1) c) l ≡ true → keeps l ≡ true
+          → next (l / 2) ≢ first → next (l / 2) ≡ number
       noted_all l h k ne = elim (cases_eq (l / 2) var) [
         | inl same ↦ ap next same ∙ noted_here (λ e. ne (ap next same ∙ e))
         | inr far ↦ elim (more_cases c i inside x is l h) [
@@ -332,12 +275,5 @@ module _ (first number : ℕ) (c : List Literal) (keeps : Literal → Bool) (bef
       ]
 
       pub noted_next : keeps x ≡ true → NotesTo first number c keeps (i + 1) before next
-      noted_next kept = record {
-        old = λ v e. elim (cases_eq v var) [ inl here ↦ ap next here ∙ old (ap now (sym here) ∙ so_far.old v e) | inr far ↦ other v far ∙ so_far.old v e ];
-        changed = noted_changed;
-        new = λ v e ne. elim (cases_eq v var) [
-          | inl here ↦ subst (λ u. has (map variable (filter keeps c)) u ≡ true) (sym (here ∙ of_x)) (has_mapped (filter keeps c) x (has-filter keeps c x (is_in c i inside x is) kept))
-          | inr far ↦ so_far.new v (sym (other v far) ∙ e) ne
-        ];
-        all = noted_all;
-      }
+      noted_next kept =
+          grind (arith, cases_eq, noted_changed, has_mapped, has-filter, is_in, noted_all)

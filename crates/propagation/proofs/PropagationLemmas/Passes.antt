@@ -18,19 +18,22 @@ use Rattle.propagation.proofs.PropagationLemmas.Below.{below_none, below_some}
 
 -- ---- How many variables are open
 
-mapped_push : (ls : List ℕ) (m : ℕ) → map variable (ls ++ m ∷ []) ≡ map variable ls ++ variable m ∷ []
+mapped_push : (ls : List ℕ) (m : ℕ)
+    → map variable (ls ++ m ∷ []) ≡ map variable ls ++ variable m ∷ []
 mapped_push [] m = refl
 mapped_push (l ∷ ls) m = ap (λ xs. variable l ∷ xs) (mapped_push ls m)
 
-unset-cons : (lits : List ℕ) (v : ℕ) (vs : List ℕ) → unset lits (v ∷ vs) ≡ cond (not (has (map variable lits) v)) 1 0 + unset lits vs
+unset-cons : (lits : List ℕ) (v : ℕ) (vs : List ℕ)
+    → unset lits (v ∷ vs) ≡ cond (not (has (map variable lits) v)) 1 0 + unset lits vs
 unset-cons lits v vs = sum_by-cons (λ w. cond (not (has (map variable lits) w)) 1 0) v vs
 
 module _ (lits : List ℕ) (m : ℕ) where
-  pub still_set : (v : ℕ) → has (map variable lits) v ≡ true → has (map variable (lits ++ m ∷ [])) v ≡ true
-  still_set v h = ap (λ xs. has xs v) (mapped_push lits m) ∙ has_append_left (map variable lits) (variable m ∷ []) v h
+  pub still_set : (v : ℕ) → has (map variable lits) v ≡ true
+      → has (map variable (lits ++ m ∷ [])) v ≡ true
+  still_set v h = grind (arith, mapped_push, has_append_left)
 
   now_set : has (map variable (lits ++ m ∷ [])) (variable m) ≡ true
-  now_set = ap (λ xs. has xs (variable m)) (mapped_push lits m) ∙ has_append_right (map variable lits) (variable m ∷ []) (variable m) (has_head (variable m) [])
+  now_set = grind (arith, mapped_push, has_append_right, has_head)
 
   weight_le : (a b : Bool) → (a ≡ true → b ≡ true) → cond {A = ℕ} (not b) 1 0 ≤ cond (not a) 1 0
   weight_le true true keeps = omega arith
@@ -41,13 +44,10 @@ module _ (lits : List ℕ) (m : ℕ) where
   unset_le : (vs : List ℕ) → unset (lits ++ m ∷ []) vs ≤ unset lits vs
   unset_le [] = omega arith
   unset_le (v ∷ vs) =
-      let first = unset-cons (lits ++ m ∷ []) v vs in
-      let second = unset-cons lits v vs in
-      let here = weight_le (has (map variable lits) v) (has (map variable (lits ++ m ∷ [])) v) (still_set v) in
-      let rest = unset_le vs in
-      omega arith
+      grind (arith, unset-cons (lits ++ m ∷ []) v vs, unset-cons lits v vs, weight_le (has (map variable lits) v) (has (map variable (lits ++ m ∷ [])) v) (still_set v), unset_le vs)
 
-  unset_falls : has (map variable lits) (variable m) ≡ false → (vs : List ℕ) → has vs (variable m) ≡ true → unset (lits ++ m ∷ []) vs < unset lits vs
+  unset_falls : has (map variable lits) (variable m) ≡ false → (vs : List ℕ)
+      → has vs (variable m) ≡ true → unset (lits ++ m ∷ []) vs < unset lits vs
   unset_falls absent [] h = absurd (false≢true h)
   unset_falls absent (v ∷ vs) h =
       let first = unset-cons (lits ++ m ∷ []) v vs in
@@ -69,25 +69,31 @@ module _ (lits : List ℕ) (m : ℕ) where
 abbrev pub IsPassedTo : Live → TrailState → List Literal → ℕ → Pass → Type 0
 IsPassedTo live before lits n PassClash = ⊥
 IsPassedTo live before lits n Changed = (vs : List ℕ) → ((v : ℕ) → has before.reserved v ≡ true → has vs v ≡ true) → unset lits vs < unset before.lits vs
-IsPassedTo live before lits n Quiet = (lits ≡ before.lits) × ((k : ℕ) (c : Clause) → k < n → live k ≡ Some c → IsSettled before.lits (how_many (open_literals before.lits c)))
+IsPassedTo live before lits n Quiet =
+    (lits ≡ before.lits) × ((k : ℕ) (c : Clause) → k < n → live k ≡ Some c
+    → IsSettled before.lits (how_many (open_literals before.lits c)))
 
 module _ (live : Live) (before : TrailState) (lits : List Literal) (n : ℕ) where
-  pub passed_none : None ≡ live n → (p : Pass) → IsPassedTo live before lits n p → IsPassedTo live before lits (n + 1) p
+  pub passed_none : None ≡ live n → (p : Pass) → IsPassedTo live before lits n p
+      → IsPassedTo live before lits (n + 1) p
   passed_none none PassClash h = h
   passed_none none Changed h = h
-  passed_none none Quiet h = (h.0, below_none live (λ c. IsSettled before.lits (how_many (open_literals before.lits c))) n h.1 none)
+  passed_none none Quiet h = grind (arith, below_none)
 
-  pub passed_settled : (d : Clause) → Some d ≡ live n → IsSettled lits (how_many (open_literals lits d)) → (p : Pass) → IsPassedTo live before lits n p → IsPassedTo live before lits (n + 1) p
+  pub passed_settled : (d : Clause) → Some d ≡ live n
+      → IsSettled lits (how_many (open_literals lits d)) → (p : Pass)
+      → IsPassedTo live before lits n p → IsPassedTo live before lits (n + 1) p
   passed_settled d here settled PassClash h = h
   passed_settled d here settled Changed h = h
-  passed_settled d here settled Quiet h =
-      (h.0, below_some live (λ c. IsSettled before.lits (how_many (open_literals before.lits c))) n h.1 d here (subst (λ ls. IsSettled ls (how_many (open_literals ls d))) h.0 settled))
+  passed_settled d here settled Quiet h = grind (arith, below_some)
 
-  pub passed_unit : (m : Literal) → has lits m ≡ false → has lits (complement m) ≡ false → has before.reserved (m / 2) ≡ true → (p : Pass) → IsPassedTo live before lits n p → IsPassedTo live before (lits ++ m ∷ []) (n + 1) Changed
+  pub passed_unit : (m : Literal) → has lits m ≡ false → has lits (complement m) ≡ false
+      → has before.reserved (m / 2) ≡ true → (p : Pass) → IsPassedTo live before lits n p
+      → IsPassedTo live before (lits ++ m ∷ []) (n + 1) Changed
   passed_unit m e f member PassClash h = absurd h
-  passed_unit m e f member Changed h = λ vs covers.
-      let falls = unset_falls lits m (variable_open lits m e f) vs (covers (m / 2) member) in
-      let so_far = h vs covers in
-      omega arith
-  passed_unit m e f member Quiet h = λ vs covers.
-      subst (λ ls. unset (lits ++ m ∷ []) vs < unset ls vs) h.0 (unset_falls lits m (variable_open lits m e f) vs (covers (m / 2) member))
+  passed_unit m e f member Changed h =
+      λ vs covers. let falls = unset_falls lits m (variable_open lits m e f) vs
+      (covers (m / 2) member) in let so_far = h vs covers in omega arith
+  passed_unit m e f member Quiet h =
+      λ vs covers. subst (λ ls. unset (lits ++ m ∷ []) vs < unset ls vs) h.0
+      (unset_falls lits m (variable_open lits m e f) vs (covers (m / 2) member))

@@ -1,6 +1,6 @@
 -- The invariant of the plainest propagation, as clauses come and go.
-use Rattle.std.proofs.Common.{◌≡◌, ◌≢◌, ℕ, ◌/◌, ◌++◌, ◌∷◌, Bool, true, false, cond, eqb, length}
-use Rattle.std.proofs.Common.{take, Some, None, List, [], sym, ap, ◌∙◌, subst, inl, inr}
+use Rattle.std.proofs.Common.{◌≡◌, ◌≢◌, ℕ, ◌++◌, ◌∷◌, true, false, length, take, Some, List, []}
+use Rattle.std.proofs.Common.{sym, ap, ◌∙◌, arith, rules}
 use Rattle.std.specs.Ordering.{nat_cmp}
 use Rattle.std.specs.FinMap as maps
 use Rattle.std.specs.FinMap.{FinMap}
@@ -10,7 +10,7 @@ use Rattle.std.specs.declared.result.Result.TheVariants.{Ok, Err}
 use Rattle.std.proofs.lemmas.Bool.{false≢true, cases_eq}
 use Rattle.std.proofs.lemmas.Option.{none-some, same_Some}
 use Rattle.cnf_base.specs.Literals.{Literal, Clause, has, same_clause, size}
-use Rattle.propagation.specs.Assumptions.{Assumes, Assuming, AssumptionsState, IsAnswer, MayAssume}
+use Rattle.propagation.specs.Assumptions.{Assuming, AssumptionsState, IsAnswer, MayAssume}
 use Rattle.propagation.specs.Assumptions.{Propagation, assumed_by}
 use Rattle.propagation.specs.Code.Exact.{IsExact, AreExact}
 use Rattle.theory.specs.Propagation.{Live, IsClosed, Forced, Clash}
@@ -28,152 +28,122 @@ use Rattle.propagation.proofs.PropagationLemmas.Exact.{conflict_clashes, answer_
 use Rattle.theory.proofs.PropagationLemmas.Forced.{forced_assumed}
 use Rattle.cnf_base.proofs.MapLemmas.{get_remove, sum_empty}
 
-pub scan_empty : (live : FinMap nat_cmp Clause) (held : AssumptionsState) → live ≡ maps.empty → held.trail.lits ≡ [] → held.assumptions ≡ [] → IsScan live held
+pub scan_empty : (live : FinMap nat_cmp Clause) (held : AssumptionsState) → live ≡ maps.empty
+    → held.trail.lits ≡ [] → held.assumptions ≡ [] → IsScan live held
 scan_empty live held none unset nothing = record {
   room = record { each = λ k c here. absurd (none-some c (sym (ap (λ m. maps.get m k) none ∙ maps.get-empty nat_cmp k) ∙ here)) };
   exact = exact_nothing (maps.get live) held unset nothing;
 }
 
 -- more room, and else nothing new
-pub held_reserved : (live : FinMap nat_cmp Clause) (Roots : List Literal → Type 0) (before after : AssumptionsState) → after.trail.lits ≡ before.trail.lits → after.assumptions ≡ before.assumptions → after.starts ≡ before.starts →
-    ((v : ℕ) → has before.trail.reserved v ≡ true → has after.trail.reserved v ≡ true) → IsHeld live Roots before → IsHeld live Roots after
-held_reserved live Roots before after lits_are assumptions_are starts_are within held = record {
-  room = record { each = λ k c here l member. within (l / 2) (held.room.each k c here l member) };
-  exact = exact_same (maps.get live) Roots before after lits_are assumptions_are starts_are held.exact;
-}
+pub held_reserved : (live : FinMap nat_cmp Clause) (Roots : List Literal → Type 0)
+    (before after : AssumptionsState) → after.trail.lits ≡ before.trail.lits
+    → after.assumptions ≡ before.assumptions → after.starts ≡ before.starts
+    → ((v : ℕ) → has before.trail.reserved v ≡ true → has after.trail.reserved v ≡ true)
+    → IsHeld live Roots before → IsHeld live Roots after
+held_reserved live Roots before after lits_are assumptions_are starts_are within held =
+    grind (arith, exact_same)
 
 -- a clause that is added, for which there is room
-pub room_added : (reserved : List ℕ) (live after : FinMap nat_cmp Clause) (slot : ℕ) (lits : Clause) → HasRoomForAll reserved (maps.get live) → HasRoom reserved lits →
-    (c : Clause) × (maps.get after slot ≡ Some c) × (same_clause c lits ≡ true) → ((s : ℕ) → s ≢ slot → maps.get after s ≡ maps.get live s) → HasRoomForAll reserved (maps.get after)
-room_added reserved live after slot lits all room stored others = record {
-  each = λ k c here l member. elim (cases_eq k slot) [
-    | inl e ↦ room l (same_there stored.0 lits stored.2 l (ap (λ d. has d l) (sym (same_Some c stored.0 (sym here ∙ ap (maps.get after) e ∙ stored.1))) ∙ member))
-    | inr ne ↦ all.each k c (sym (others k ne) ∙ here) l member
-  ];
-}
+pub room_added : (reserved : List ℕ) (live after : FinMap nat_cmp Clause) (slot : ℕ) (lits : Clause)
+    → HasRoomForAll reserved (maps.get live) → HasRoom reserved lits → (c : Clause)
+    × (maps.get after slot ≡ Some c) × (same_clause c lits ≡ true)
+    → ((s : ℕ) → s ≢ slot → maps.get after s ≡ maps.get live s)
+    → HasRoomForAll reserved (maps.get after)
+room_added reserved live after slot lits all room stored others =
+    grind (arith, cases_eq, same_there, same_Some)
 
-pub room_removed : (reserved : List ℕ) (live after : FinMap nat_cmp Clause) (slot : ℕ) → after ≡ maps.remove live slot → HasRoomForAll reserved (maps.get live) → HasRoomForAll reserved (maps.get after)
-room_removed reserved live after slot is all = record {
-  each = λ k c here. all.each k c (by_test k c (eqb k slot) (sym (get_remove live slot k) ∙ sym (ap (λ m. maps.get m k) is) ∙ here));
-}
-  where
-    by_test : (k : ℕ) (c : Clause) (b : Bool) → cond b None (maps.get live k) ≡ Some c → maps.get live k ≡ Some c
-    by_test k c true e = absurd (none-some c e)
-    by_test k c false e = e
+pub room_removed : (reserved : List ℕ) (live after : FinMap nat_cmp Clause) (slot : ℕ)
+    → after ≡ maps.remove live slot → HasRoomForAll reserved (maps.get live)
+    → HasRoomForAll reserved (maps.get after)
+room_removed reserved live after slot is all = grind (arith, get_remove, none-some)
 
 -- a clause is added or taken out where nothing is assumed
-pub scan_with : (live after : FinMap nat_cmp Clause) (held : AssumptionsState) → held.assumptions ≡ [] → HasRoomForAll held.trail.reserved (maps.get after) → IsScan live held → IsScan after held
-scan_with live after held none room scan = record {
-  room = room;
-  exact = exact_nothing (maps.get after) held (nothing_true (maps.get live) (λ ls. ls ≡ []) held none scan.exact) none;
-}
+pub scan_with : (live after : FinMap nat_cmp Clause) (held : AssumptionsState)
+    → held.assumptions ≡ [] → HasRoomForAll held.trail.reserved (maps.get after) → IsScan live held
+    → IsScan after held
+scan_with live after held none room scan = grind (arith, exact_nothing, nothing_true)
 
-pub room_inserted : {E : Type 0} (reserved : List ℕ) (live after : FinMap nat_cmp Clause) (lits : Clause) (r : Result ℕ E) → HasRoomForAll reserved (maps.get live) → HasRoom reserved lits →
-    IfOk r (λ slot. (c : Clause) × (maps.get after slot ≡ Some c) × (same_clause c lits ≡ true)) → IfOk r (λ slot. (s : ℕ) → s ≢ slot → maps.get after s ≡ maps.get live s) → OnErr r (after ≡ live) → HasRoomForAll reserved (maps.get after)
-room_inserted reserved live after lits (Ok slot) all room stored others err = room_added reserved live after slot lits all room stored others
-room_inserted reserved live after lits (Err e) all room stored others err = subst (λ m. HasRoomForAll reserved (maps.get m)) (sym err) all
+pub room_inserted : {E : Type 0} (reserved : List ℕ) (live after : FinMap nat_cmp Clause)
+    (lits : Clause) (r : Result ℕ E) → HasRoomForAll reserved (maps.get live)
+    → HasRoom reserved lits → IfOk r
+    (λ slot. (c : Clause) × (maps.get after slot ≡ Some c) × (same_clause c lits ≡ true))
+    → IfOk r (λ slot. (s : ℕ) → s ≢ slot → maps.get after s ≡ maps.get live s)
+    → OnErr r (after ≡ live) → HasRoomForAll reserved (maps.get after)
+room_inserted reserved live after lits (Ok slot) all room stored others err =
+    room_added reserved live after slot lits all room stored others
+room_inserted reserved live after lits (Err e) all room stored others err = grind arith
 
 -- what is kept in a store without clauses
 pub none_alone : (s : StoreState) → s ≡ no_clauses → s.stored ≡ literals_in s.live
-none_alone s is = ap (λ s. s.stored) is ∙ sym (sum_empty size) ∙ ap (λ s. literals_in s.live) (sym is)
+none_alone s is = cc (sum_empty size)
 
 -- ---- One more assumption
 
 -- nothing is true where nothing is assumed, so what is true is forced
-pub no_roots : (live : Live) (lits : List Literal) → lits ≡ [] → (l : Literal) → has lits l ≡ true → Forced live [] l
-no_roots live lits none l h = absurd (false≢true (ap (λ ls. has ls l) (sym none) ∙ h))
+pub no_roots : (live : Live) (lits : List Literal) → lits ≡ [] → (l : Literal) → has lits l ≡ true
+    → Forced live [] l
+no_roots live lits none l h = grind (arith, false≢true)
 
 module _ (live : FinMap nat_cmp Clause) (Roots : List Literal → Type 0) (sound : (ls : List Literal) → Roots ls → (l : Literal) → has ls l ≡ true → Forced (maps.get live) [] l)
     (before after : AssumptionsState) (added : List Literal) (may : MayAssume before.assumptions) (scan : IsHeld live Roots before) where
-  before_sound : (l : Literal) → has before.trail.lits l ≡ true → Forced (maps.get live) (assumed_by before.assumptions) l
-  before_sound = sound_before (maps.get live) Roots before.trail.lits (sound before.trail.lits) before.assumptions before.starts may scan.exact
+  before_sound : (l : Literal) → has before.trail.lits l ≡ true
+      → Forced (maps.get live) (assumed_by before.assumptions) l
+  before_sound = grind (arith, sound_before)
 
-  before_start : (l : Literal) → has (assumed_by before.assumptions) l ≡ true → has before.trail.lits l ≡ true
-  before_start = start_before (maps.get live) Roots before.trail.lits (sound before.trail.lits) before.assumptions before.starts may scan.exact
+  before_start : (l : Literal) → has (assumed_by before.assumptions) l ≡ true
+      → has before.trail.lits l ≡ true
+  before_start = grind (arith, start_before)
 
-  pub part_clashes : conflicts (before.trail.lits ++ added) ≡ true → Clash (maps.get live) (assumed_by before.assumptions ++ added)
-  part_clashes = conflict_clashes (maps.get live) (assumed_by before.assumptions) before.trail.lits added before_sound
+  pub part_clashes : conflicts (before.trail.lits ++ added) ≡ true
+      → Clash (maps.get live) (assumed_by before.assumptions ++ added)
+  part_clashes = search (rules, conflict_clashes, before_sound)
 
-  pub part_answer : SameSet after.trail.lits (before.trail.lits ++ added) → (a : Answer) → IsAnswer (maps.get live) after.trail.lits a → IsAnswer (maps.get live) (assumed_by before.assumptions ++ added) a
-  part_answer same = answer_from (maps.get live) (assumed_by before.assumptions) before.trail.lits added before_sound after.trail.lits same before_start
+  pub part_answer : SameSet after.trail.lits (before.trail.lits ++ added) → (a : Answer)
+      → IsAnswer (maps.get live) after.trail.lits a
+      → IsAnswer (maps.get live) (assumed_by before.assumptions ++ added) a
+  part_answer same = search (rules, answer_from, before_sound, before_start)
 
   -- what is true at the end, and what stands
   module _ (last : AssumptionsState) (answer : Answer) (all : List Literal) (stand : last.assumptions ≡ record { answer = answer; assumed = all } ∷ before.assumptions) (starts : last.starts ≡ length before.trail.lits ∷ before.starts)
       (begins : take (length before.trail.lits) last.trail.lits ≡ before.trail.lits) (reserved : SameSet last.trail.reserved before.trail.reserved) where
     room_last : HasRoomForAll last.trail.reserved (maps.get live)
-    room_last = record { each = λ k c here l member. reserved (l / 2) ∙ scan.room.each k c here l member }
+    room_last = grind arith
 
-    exact_last : (answer ≡ Quiet → IsExact (maps.get live) all last.trail.lits) → AreExact (maps.get live) Roots last.trail.lits last.assumptions last.starts
-    exact_last exact =
-        subst (λ xs. AreExact (maps.get live) Roots last.trail.lits xs last.starts) (sym stand)
-        (subst (λ ns. AreExact (maps.get live) Roots last.trail.lits (record { answer = answer; assumed = all } ∷ before.assumptions) ns) (sym starts)
-        (exact, subst (λ ls. AreExact (maps.get live) Roots ls before.assumptions before.starts) (sym begins) scan.exact))
+    exact_last : (answer ≡ Quiet → IsExact (maps.get live) all last.trail.lits)
+        → AreExact (maps.get live) Roots last.trail.lits last.assumptions last.starts
+    exact_last exact = grind arith
 
-    pub scan_after : (answer ≡ Quiet → IsExact (maps.get live) all last.trail.lits) → IsHeld live Roots last
+    pub scan_after : (answer ≡ Quiet → IsExact (maps.get live) all last.trail.lits)
+        → IsHeld live Roots last
     scan_after exact = record { room = room_last; exact = exact_last exact }
 
-  pub part_exact : SameSet after.trail.lits (before.trail.lits ++ added) → (all lits : List Literal) → SameSet all (assumed_by before.assumptions ++ added) → take (length after.trail.lits) lits ≡ after.trail.lits →
-      ((l : Literal) → has lits l ≡ true → Forced (maps.get live) after.trail.lits l) → IsClosed (maps.get live) (λ l. has lits l) → IsExact (maps.get live) all lits
+  pub part_exact : SameSet after.trail.lits (before.trail.lits ++ added) → (all lits : List Literal)
+      → SameSet all (assumed_by before.assumptions ++ added)
+      → take (length after.trail.lits) lits ≡ after.trail.lits
+      → ((l : Literal) → has lits l ≡ true → Forced (maps.get live) after.trail.lits l)
+      → IsClosed (maps.get live) (λ l. has lits l) → IsExact (maps.get live) all lits
   part_exact same all lits alike begins forced closed =
-      exact_after (maps.get live) (assumed_by before.assumptions) before.trail.lits added before_sound after.trail.lits same before_start all lits alike begins forced closed
+      search (rules, exact_after, before_sound, before_start)
 
 -- what an assumption of the given literals does is what one of the added ones does
-pub assuming_from : {E : Type 0} (before after : Propagation) (live : FinMap nat_cmp Clause) (held last : AssumptionsState) (given added : List Literal) (r : Result Answer E) →
-    live ≡ before.live → held.assumptions ≡ before.assumptions → given ≡ added → before.has_refused ≡ false → after.live ≡ live → after.stored ≡ literals_in after.live → after.assumptions ≡ last.assumptions → after.has_refused ≡ is_err r →
-    AssumesOn live held last given r → Assuming before after added r
-assuming_from before after live held last given added (Ok answer) live_is held_is given_is none same alone after_is refused assumed = record {
-  answer = subst (λ m. IsAnswer (maps.get m) (assumed_by before.assumptions ++ added) answer) live_is
-      (subst (λ xs. IsAnswer (maps.get live) (assumed_by xs ++ added) answer) held_is (subst (λ ls. IsAnswer (maps.get live) (assumed_by held.assumptions ++ ls) answer) given_is assumed.answer));
-  stands = subst (λ xs. Assumes before.assumptions xs answer (assumed_by before.assumptions ++ added)) (sym after_is)
-      (subst (λ xs. Assumes xs last.assumptions answer (assumed_by xs ++ added)) held_is (subst (λ ls. Assumes held.assumptions last.assumptions answer (assumed_by held.assumptions ++ ls)) given_is assumed.stands));
-  live = same ∙ live_is;
-  live_alone = alone;
-  never_refused = none;
-  not_refused = refused;
-  refused = tt;
-  stays = tt;
-}
-assuming_from before after live held last given added (Err e) live_is held_is given_is none same alone after_is refused assumed = record {
-  answer = tt;
-  stands = tt;
-  live = same ∙ live_is;
-  live_alone = alone;
-  never_refused = tt;
-  not_refused = tt;
-  refused = refused;
-  stays = after_is ∙ assumed.stays ∙ held_is;
-}
+pub assuming_from : {E : Type 0} (before after : Propagation) (live : FinMap nat_cmp Clause)
+    (held last : AssumptionsState) (given added : List Literal) (r : Result Answer E)
+    → live ≡ before.live → held.assumptions ≡ before.assumptions → given ≡ added
+    → before.has_refused ≡ false → after.live ≡ live → after.stored ≡ literals_in after.live
+    → after.assumptions ≡ last.assumptions → after.has_refused ≡ is_err r
+    → AssumesOn live held last given r → Assuming before after added r
+assuming_from before after live held last given added (Ok answer) live_is held_is given_is none same alone after_is refused assumed = grind arith
+assuming_from before after live held last given added (Err e) live_is held_is given_is none same alone after_is refused assumed = grind arith
 
 -- memory was refused
-pub assumed_none : {E : Type 0} (live : FinMap nat_cmp Clause) (before after : AssumptionsState) (added : List Literal) (r : Result Answer E) → is_err r ≡ true → after.assumptions ≡ before.assumptions → AssumesOn live before after added r
+pub assumed_none : {E : Type 0} (live : FinMap nat_cmp Clause) (before after : AssumptionsState)
+    (added : List Literal) (r : Result Answer E) → is_err r ≡ true
+    → after.assumptions ≡ before.assumptions → AssumesOn live before after added r
 assumed_none live before after added (Ok a) refused stays = absurd (false≢true refused)
 assumed_none live before after added (Err e) refused stays = record { answer = tt; stands = tt; stays = stays }
 
 -- the same literals in another order
 pub assuming_alike : {E : Type 0} (before after : Propagation) (first second : List Literal) (r : Result Answer E) → SameSet first second → Assuming before after first r → Assuming before after second r
-assuming_alike before after first second (Ok answer) same assuming = record {
-  answer = answer_through (maps.get before.live) (assumed_by before.assumptions ++ first) (assumed_by before.assumptions ++ second)
-      (λ l h. forced_assumed (maps.get before.live) (assumed_by before.assumptions ++ second) l (sym (alike l) ∙ h)) (λ l h. forced_assumed (maps.get before.live) (assumed_by before.assumptions ++ first) l (alike l ∙ h)) answer assuming.answer;
-  stands = record { all = assuming.stands.all; stands = assuming.stands.stands; same = λ quiet l. assuming.stands.same quiet l ∙ alike l };
-  live = assuming.live;
-  live_alone = assuming.live_alone;
-  never_refused = assuming.never_refused;
-  not_refused = assuming.not_refused;
-  refused = tt;
-  stays = tt;
-}
-  where
-    alike : (l : Literal) → has (assumed_by before.assumptions ++ first) l ≡ has (assumed_by before.assumptions ++ second) l
-    alike l = both_pass _ _
-        (λ h. elim (has_append_cases (assumed_by before.assumptions) first l h) [ inl g ↦ has_append_left (assumed_by before.assumptions) second l g | inr g ↦ has_append_right (assumed_by before.assumptions) second l (sym (same l) ∙ g) ])
-        (λ h. elim (has_append_cases (assumed_by before.assumptions) second l h) [ inl g ↦ has_append_left (assumed_by before.assumptions) first l g | inr g ↦ has_append_right (assumed_by before.assumptions) first l (same l ∙ g) ])
-assuming_alike before after first second (Err e) same assuming = record {
-  answer = tt;
-  stands = tt;
-  live = assuming.live;
-  live_alone = assuming.live_alone;
-  never_refused = tt;
-  not_refused = tt;
-  refused = assuming.refused;
-  stays = assuming.stays;
-}
+assuming_alike before after first second (Ok answer) same assuming = grind (arith, answer_through, forced_assumed, both_pass, has_append_cases, has_append_left, has_append_right)
+assuming_alike before after first second (Err e) same assuming = grind arith

@@ -8,7 +8,8 @@ use Rattle.propagation.proofs.assumptions.note_all.Goals.{then-keeps_literal, el
 
 pub loop-l-init : goal.loop-l-init
 loop-l-init g c = record {
-  notes = noted_none c.args.first c.args.number c.args.clause.now (g.P.Part.keeps c.args.part.now) (number_at c.args.numbers.now) (number_at c.args.numbers.now);
+  notes = noted_none c.args.first c.args.number c.args.clause.now (g.P.Part.keeps c.args.part.now)
+      (number_at c.args.numbers.now) (number_at c.args.numbers.now);
   known = λ v. refl;
 }
 
@@ -32,4 +33,6 @@ loop-l-preserved g c =
     ]
 
 pub returns-clause-notes : goal.returns-clause-notes
-returns-clause-notes g c = noted_whole _ _ _ (g.P.Part.keeps c.args.part.now) _ _ c.loop-l.l-index (take_all c.loop-l.l-index c.args.clause.now c.loop-l-test.false) c.loop-l.invariant.notes
+returns-clause-notes g c =
+    noted_whole _ _ _ (g.P.Part.keeps c.args.part.now) _ _ c.loop-l.l-index
+    (take_all c.loop-l.l-index c.args.clause.now c.loop-l-test.false) c.loop-l.invariant.notes

@@ -18,7 +18,10 @@ loop-slot-preserved g c =
     let inside = c.loop-slot-test.true in
     let item = c.at.ensures ∙ sym (get_or_default_zero c.args.slots.now i c.at.result inside) in
     record {
-      sound = λ k h. follows_forced live now so_far.sound c.at.result d (sym c.clause.ensures.clause) k (e.follows k h);
-      begins = begins_on before now after so_far.begins (longer_from before now so_far.begins) e.begins;
-      takes = each_taken live before now after so_far.begins e.begins c.args.slots.now i inside c.at.result item so_far.takes d c.clause.ensures.clause e.takes;
+      sound = λ k h. follows_forced live now so_far.sound c.at.result d
+          (sym c.clause.ensures.clause) k (e.follows k h);
+      begins = begins_on before now after so_far.begins (longer_from before now so_far.begins)
+          e.begins;
+      takes = each_taken live before now after so_far.begins e.begins c.args.slots.now i inside
+          c.at.result item so_far.takes d c.clause.ensures.clause e.takes;
     }

@@ -10,4 +10,5 @@ pub returns-in-Some-clause-no : goal.returns-in-Some-clause-no
 returns-in-Some-clause-no g c = λ no. lacks_more (maps.get c.args.store.now.live) c.args.l c.args.number c.in-Some.clause.now c.in-Some.ensures (sym c.contains.ensures.value ∙ no)
 
 pub returns-in-None-clause-no : goal.returns-in-None-clause-no
-returns-in-None-clause-no g c = λ _. lacks_none (maps.get c.args.store.now.live) c.args.l c.args.number c.in-None.ensures
+returns-in-None-clause-no g c =
+    λ _. lacks_none (maps.get c.args.store.now.live) c.args.l c.args.number c.in-None.ensures

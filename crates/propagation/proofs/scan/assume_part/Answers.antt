@@ -11,7 +11,9 @@ use Rattle.propagation.proofs.PropagationLemmas.Exact.{begins_on, longer_from}
 use Rattle.propagation.proofs.scan.assume_part.Goals as goal
 
 pub returns-in_err-assume-clause-assumed : goal.returns-in_err-assume-clause-assumed
-returns-in_err-assume-clause-assumed g c = assumed_none _ c.args.assumptions.now _ _ c.from_residual.result (search rules) (ap (λ h. h.assumptions) c.in_err-assume.ensures.err)
+returns-in_err-assume-clause-assumed g c =
+    assumed_none _ c.args.assumptions.now _ _ c.from_residual.result (search rules)
+    (ap (λ h. h.assumptions) c.in_err-assume.ensures.err)
 
 pub returns-then-branch-clause-assumed : goal.returns-then-branch-clause-assumed
 returns-then-branch-clause-assumed g c =
@@ -34,18 +36,27 @@ returns g c =
     let e = c.in_ok-assume.ensures in
     let p = c.propagate-answer.ensures in
     let all = e.assumed.0 in
-    let same = subst (λ b. OnFalse b (SameSet after.trail.lits (before.trail.lits ++ added))) c.if-branch.false e.added in
-    let alike = subst (λ b. OnFalse b (SameSet all (assumed_by before.assumptions ++ added))) c.if-branch.false e.assumed.2 in
+    let same = subst (λ b. OnFalse b (SameSet after.trail.lits (before.trail.lits ++ added)))
+    c.if-branch.false e.added in
+    let alike = subst (λ b. OnFalse b (SameSet all (assumed_by before.assumptions ++ added)))
+    c.if-branch.false e.assumed.2 in
     let stand = c.answer.ensures.assumptions _ _ (p.extends.assumptions ∙ e.assumed.1) in
-    let begins = begins_on before.trail.lits after.trail.lits found.trail.lits e.begins (longer_from before.trail.lits after.trail.lits e.begins) p.extends.begins in record {
+    let begins = begins_on before.trail.lits after.trail.lits found.trail.lits e.begins
+    (longer_from before.trail.lits after.trail.lits e.begins) p.extends.begins in
+    record {
       assumed = record {
-        answer = part_answer live (λ ls. ls ≡ []) (no_roots (maps.get live)) before after added c.requires.may c.requires.scan same answer p.answer;
+        answer = part_answer live (λ ls. ls ≡ []) (no_roots (maps.get live))
+            before after added c.requires.may c.requires.scan same answer p.answer;
         stands = record { all = all; stands = stand; same = λ quiet. alike };
         stays = tt;
       };
-      scan =
-          scan_after live (λ ls. ls ≡ []) (no_roots (maps.get live)) before after added c.requires.may c.requires.scan last answer all stand (c.answer.ensures.starts ∙ p.extends.starts ∙ e.starts)
-          (ap (λ t. take (length before.trail.lits) t.lits) c.answer.ensures.trail ∙ begins) (λ v. ap (λ t. has t.reserved v) c.answer.ensures.trail ∙ p.extends.reserved v ∙ e.reserved v)
-          (λ quiet. subst (λ t. IsExact (maps.get live) all t.lits) (sym c.answer.ensures.trail)
-          (part_exact live (λ ls. ls ≡ []) (no_roots (maps.get live)) before after added c.requires.may c.requires.scan same all found.trail.lits alike p.extends.begins p.sound (p.closed quiet)));
+      scan = scan_after live (λ ls. ls ≡ []) (no_roots (maps.get live))
+          before after added c.requires.may c.requires.scan last answer all stand
+          (c.answer.ensures.starts ∙ p.extends.starts ∙ e.starts)
+          (ap (λ t. take (length before.trail.lits) t.lits) c.answer.ensures.trail ∙ begins)
+          (λ v. ap (λ t. has t.reserved v) c.answer.ensures.trail ∙ p.extends.reserved v
+          ∙ e.reserved v) (λ quiet. subst (λ t. IsExact (maps.get live) all t.lits)
+          (sym c.answer.ensures.trail) (part_exact live (λ ls. ls ≡ []) (no_roots (maps.get live))
+          before after added c.requires.may c.requires.scan same all found.trail.lits alike
+          p.extends.begins p.sound (p.closed quiet)));
     }

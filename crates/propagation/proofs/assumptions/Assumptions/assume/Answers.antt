@@ -23,8 +23,11 @@ invariant_of-self-2 g c =
     let noted = c.note_all.new.numbers in
     let number_is : c.in-Some.number ≡ s.made + 1 = search rules in
     subst (IsNumbered more noted c.in-Some.number) (sym c.pushed-self-inside.ensures)
-    (pushed_numbered s.trail more s.numbers noted s.made c.in-Some.number c.len-start.result s.levels (filter (g.P.Part.keeps c.args.part.now) c.args.clause.now) _ c.self.invariant
-    (ap (λ a. a.assumptions) c.self.view_is) c.requires.may number_is c.len-start.ensures.value _ c.first_number-first.ensures c.note_all.ensures.notes c.make_false.ensures.begins c.make_false.ensures.longer
+    (pushed_numbered s.trail more s.numbers noted s.made c.in-Some.number c.len-start.result
+    s.levels (filter (g.P.Part.keeps c.args.part.now) c.args.clause.now) _ c.self.invariant
+    (ap (λ a. a.assumptions) c.self.view_is)
+    c.requires.may number_is c.len-start.ensures.value _ c.first_number-first.ensures
+    c.note_all.ensures.notes c.make_false.ensures.begins c.make_false.ensures.longer
     c.if-make_false.ensures.made.added c.note_all.ensures.known c.make_false.ensures.reserved)
 
 pub returns-clause-assumed : goal.returns-clause-assumed
@@ -36,8 +39,16 @@ returns-clause-assumed g c =
     let number_is : number ≡ s.made + 1 = search rules in
     let rest = filter (g.P.Part.keeps c.args.part.now) c.args.clause.now in
     let stood = ap (λ a. a.assumptions) c.self.view_is in
-    let seen = pushed_seen s.trail c.make_false.new.self s.numbers noted s.made number c.len-start.result s.levels rest _ c.self.invariant stood c.requires.may number_is c.len-start.ensures.value
-    _ c.first_number-first.ensures c.note_all.ensures.notes c.make_false.ensures.begins c.make_false.ensures.longer in
-    let alike = pushed_assumes s.trail c.make_false.new.self s.numbers noted s.made number c.len-start.result s.levels rest _ c.self.invariant stood c.requires.may number_is c.len-start.ensures.value
-    _ c.first_number-first.ensures c.note_all.ensures.notes c.make_false.ensures.begins c.make_false.ensures.longer c.if-make_false.ensures.made.added c.len-different.ensures.different in
-    (pushed_assumed (number_at noted) lits s.levels number, ap (assumptions_of (number_at noted) lits) c.pushed-self-inside.ensures ∙ seen, alike)
+    let seen = pushed_seen s.trail c.make_false.new.self s.numbers noted s.made number
+    c.len-start.result s.levels rest _ c.self.invariant stood c.requires.may number_is
+    c.len-start.ensures.value _ c.first_number-first.ensures c.note_all.ensures.notes
+    c.make_false.ensures.begins c.make_false.ensures.longer in
+    let alike = pushed_assumes s.trail c.make_false.new.self s.numbers noted s.made number
+    c.len-start.result s.levels rest _ c.self.invariant stood c.requires.may number_is
+    c.len-start.ensures.value _ c.first_number-first.ensures c.note_all.ensures.notes
+    c.make_false.ensures.begins c.make_false.ensures.longer c.if-make_false.ensures.made.added
+    c.len-different.ensures.different in (
+      pushed_assumed (number_at noted) lits s.levels number,
+      ap (assumptions_of (number_at noted) lits) c.pushed-self-inside.ensures ∙ seen,
+      alike,
+    )

@@ -9,8 +9,10 @@ returns-clause-value g c =
 
 pub returns-clause-none : goal.returns-clause-none
 returns-clause-none g c none =
-    none_with (g.Self.Propagate.state c.args.self.now).live c.args.l (sym (returns-clause-value g c) ∙ none)
+    none_with (g.Self.Propagate.state c.args.self.now).live c.args.l
+    (sym (returns-clause-value g c) ∙ none)
 
 pub returns-clause-some : goal.returns-clause-some
 returns-clause-some g c some =
-    some_with (g.Self.Propagate.state c.args.self.now).live c.args.l (λ zero. some (returns-clause-value g c ∙ zero))
+    some_with (g.Self.Propagate.state c.args.self.now).live c.args.l
+    (λ zero. some (returns-clause-value g c ∙ zero))

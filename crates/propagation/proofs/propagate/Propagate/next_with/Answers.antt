@@ -15,4 +15,6 @@ returns-clause-passed_over g c =
 pub returns-clause-none : goal.returns-clause-none
 returns-clause-none g c =
     let live = (g.Self.Propagate.state c.args.self.now).live in
-    if_none_then c.first_with.result c.first_with.ensures.none (λ h s from there. h s from (kept_has_at live c.store.result.now.live c.store.ensures.live c.args.l s there))
+    if_none_then c.first_with.result c.first_with.ensures.none
+    (λ h s from there. h s from (kept_has_at live c.store.result.now.live c.store.ensures.live
+    c.args.l s there))

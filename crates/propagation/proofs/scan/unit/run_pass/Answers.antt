@@ -23,20 +23,26 @@ returns-in-Nothing-clause-pass c =
     let live = maps.get c.args.store.now.live in
     let lits = c.loop-number.assumptions.trail.lits in
     let d = c.in-Some.clause.now in
-    let left = subst (λ t. Nothing ≡ how_many (open_literals t.lits d)) c.trail.ensures c.in-Nothing.ensures in
-    none_left_clashes live c.args.assumptions.now.trail.lits lits c.loop-number.invariant.sound c.loop-number.number d (sym c.in-Some.ensures) (nothing_is (open_literals lits d) (sym left))
+    let left = subst (λ t. Nothing ≡ how_many (open_literals t.lits d))
+    c.trail.ensures c.in-Nothing.ensures in
+    none_left_clashes live c.args.assumptions.now.trail.lits lits c.loop-number.invariant.sound
+    c.loop-number.number d (sym c.in-Some.ensures) (nothing_is (open_literals lits d) (sym left))
 
 pub make_true-requires-clause-reserved : goal.make_true-requires-clause-reserved
 make_true-requires-clause-reserved c =
     let d = c.in-Some.clause.now in
-    let left = subst (λ t. OneLeft c.in-One.l ≡ how_many (open_literals t.lits d)) c.trail.ensures c.in-One.ensures in
-    let room : has c.args.assumptions.now.trail.reserved (c.in-One.l / 2) ≡ true = c.requires.each c.loop-number.number d (sym c.in-Some.ensures) c.in-One.l (left_open c.loop-number.assumptions.trail.lits d c.in-One.l left).0 in
+    let left = subst (λ t. OneLeft c.in-One.l ≡ how_many (open_literals t.lits d))
+    c.trail.ensures c.in-One.ensures in
+    let room : has c.args.assumptions.now.trail.reserved (c.in-One.l / 2) ≡ true =
+    c.requires.each c.loop-number.number d (sym c.in-Some.ensures) c.in-One.l
+    (left_open c.loop-number.assumptions.trail.lits d c.in-One.l left).0 in
     c.loop-number.invariant.extends.reserved (c.in-One.l / 2) ∙ room
 
 pub make_true-requires-clause-not_false : goal.make_true-requires-clause-not_false
 make_true-requires-clause-not_false c =
     let d = c.in-Some.clause.now in
-    let left = subst (λ t. OneLeft c.in-One.l ≡ how_many (open_literals t.lits d)) c.trail.ensures c.in-One.ensures in
+    let left = subst (λ t. OneLeft c.in-One.l ≡ how_many (open_literals t.lits d))
+    c.trail.ensures c.in-One.ensures in
     (left_open c.loop-number.assumptions.trail.lits d c.in-One.l left).1
 
 pub loop-number-preserved : goal.loop-number-preserved

@@ -13,4 +13,5 @@ pub returns-in-One-clause-takes : goal.returns-in-One-clause-takes
 returns-in-One-clause-takes c = one_takes c.args.self.now c.add.new.self c.args.clause.now c.add.result c.in-One.l (sym c.in-One.ensures) c.add.ensures.lits
 
 pub returns-in-More-clause-takes : goal.returns-in-More-clause-takes
-returns-in-More-clause-takes c = more_is_closed c.args.self.now c.args.clause.now (sym c.in-More.ensures)
+returns-in-More-clause-takes c =
+    more_is_closed c.args.self.now c.args.clause.now (sym c.in-More.ensures)
