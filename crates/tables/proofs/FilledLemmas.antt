@@ -1,9 +1,7 @@
 -- One value at the keys of literals and of their complements, written one after the other.
-use Rattle.std.proofs.Common.{◌≡◌, ℕ, ◌+◌, ◌<◌, Bool, true, false, ◌||◌, cond, eqb, eq-eqb, List}
-use Rattle.std.proofs.Common.{Some, set, slice_get, take, get_or, length, refl, sym}
-use Rattle.std.proofs.Common.{ap, ◌∙◌, inl, inr, arith}
-use Rattle.std.proofs.lemmas.Bool.{cases_eq, cases_lt, ne_eqb, or_cases, or_left, or_right}
-use Rattle.std.proofs.lemmas.Bool.{false_from_ne_true, true≢false}
+use Rattle.std.proofs.Common.{◌≡◌, ℕ, ◌+◌, ◌<◌, Bool, false, ◌||◌, cond, eqb, eq-eqb, List, Some}
+use Rattle.std.proofs.Common.{set, slice_get, take, get_or, length, sym, ap, ◌∙◌, inl, inr, arith}
+use Rattle.std.proofs.lemmas.Bool.{cases_eq, cases_lt, ne_eqb}
 use Rattle.std.proofs.lemmas.List.{get_or-set_same, get_or-set_other, length-set}
 use Rattle.std.proofs.lemmas.Option.{slice_get-get_or, slice_get_past}
 use Rattle.cnf_base.specs.Literals.{complement, has}
@@ -12,8 +10,7 @@ use Rattle.cnf_base.proofs.LiteralLemmas.{complement-complement}
 use Rattle.cnf_base.proofs.WalkLemmas.{has_more, has_take}
 
 or_nothing : (b : Bool) → (b || false) ≡ b
-or_nothing true = refl
-or_nothing false = refl
+or_nothing b = grind arith
 
 -- an element that was written, and the others
 pub set_get : {X : Type 0} (xs : List X) (i : ℕ) (x : X) → i < length xs → (k : ℕ) →
@@ -36,27 +33,12 @@ set_get xs i x inside k = elim (cases_eq k i) [
 ]
 
 module _ {T : Type 0} (value : T) (c : List ℕ) (i : ℕ) (inside : i < length c) (x : ℕ) (is : x ≡ get_or c i x) (was before after : ℕ → T) where
-  pub written_more : ((k : ℕ) → before k ≡ cond (has (take i c) k || has (take i c) (complement k)) value (was k)) →
-      ((k : ℕ) → after k ≡ cond (eqb k (complement x)) value (cond (eqb k x) value (before k))) →
-      (k : ℕ) → after k ≡ cond (has (take (i + 1) c) k || has (take (i + 1) c) (complement k)) value (was k)
-  written_more so_far step k = elim (cases_eq k (complement x)) [
-    | inl same ↦
-        step k ∙ ap (λ b. cond b value (cond (eqb k x) value (before k))) (eq-eqb k (complement x) same)
-        ∙ sym (ap (λ b. cond b value (was k)) (or_right (has (take (i + 1) c) k) _ (more (complement k) ∙ or_right (has (take i c) (complement k)) _ (eq-eqb x (complement k) (sym (ap complement same ∙ complement-complement x))))))
-    | inr other ↦ elim (cases_eq k x) [
-      | inl here ↦
-          step k ∙ ap (λ b. cond b value (cond (eqb k x) value (before k))) (ne_eqb k (complement x) other) ∙ ap (λ b. cond b value (before k)) (eq-eqb k x here)
-          ∙ sym (ap (λ b. cond b value (was k)) (or_left _ (has (take (i + 1) c) (complement k)) (more k ∙ or_right (has (take i c) k) _ (eq-eqb x k (sym here)))))
-      | inr apart ↦
-          step k ∙ ap (λ b. cond b value (cond (eqb k x) value (before k))) (ne_eqb k (complement x) other) ∙ ap (λ b. cond b value (before k)) (ne_eqb k x apart)
-          ∙ so_far k
-          ∙ sym (
-          ap (λ b. cond (b || has (take (i + 1) c) (complement k)) value (was k)) (more k ∙ ap (λ b. has (take i c) k || b) (ne_eqb x k (λ e. apart (sym e))) ∙ or_nothing (has (take i c) k))
-          ∙ ap (λ b. cond (has (take i c) k || b) value (was k))
-          (more (complement k) ∙ ap (λ b. has (take i c) (complement k) || b) (ne_eqb x (complement k) (λ e. other (sym (complement-complement k) ∙ ap complement (sym e)))) ∙ or_nothing (has (take i c) (complement k)))
-          )
-    ]
-  ]
+  pub written_more : ((k : ℕ) → before k
+      ≡ cond (has (take i c) k || has (take i c) (complement k)) value (was k))
+      → ((k : ℕ) → after k ≡ cond (eqb k (complement x)) value (cond (eqb k x) value (before k)))
+      → (k : ℕ) → after k ≡ cond (has (take (i + 1) c) k || has (take (i + 1) c) (complement k))
+      value (was k)
+  written_more so_far step k = grind (arith, more, complement-complement, ne_eqb, or_nothing)
     where
       more : (l : ℕ) → has (take (i + 1) c) l ≡ (has (take i c) l || eqb x l)
       more = has_more c i inside x is
@@ -66,17 +48,4 @@ pub written_again : {T : Type 0} (value : T) (c : List ℕ) (n : ℕ) (was befor
     ((k : ℕ) → before k ≡ cond (is_of (take n c) k) value (was k)) →
     ((k : ℕ) → after k ≡ cond (is_of c k) value (before k)) →
     (k : ℕ) → after k ≡ cond (is_of c k) value (was k)
-written_again value c n was before after first all k = by_test (is_of c k) refl
-  where
-    fewer : is_of c k ≡ false → is_of (take n c) k ≡ false
-    fewer e = false_from_ne_true _ (λ h. elim (or_cases (has (take n c) k) _ h) [
-      | inl g ↦ true≢false (sym (or_left (has c k) _ (has_take c n k g)) ∙ e)
-      | inr g ↦ true≢false (sym (or_right (has c k) _ (has_take c n (complement k) g)) ∙ e)
-    ])
-
-    by_test : (b : Bool) → is_of c k ≡ b → after k ≡ cond (is_of c k) value (was k)
-    by_test true e =
-        all k ∙ ap (λ b. cond b value (before k)) e ∙ sym (ap (λ b. cond b value (was k)) e)
-    by_test false e =
-        all k ∙ ap (λ b. cond b value (before k)) e ∙ first k
-        ∙ ap (λ b. cond b value (was k)) (fewer e ∙ sym e)
+written_again value c n was before after first all k = grind (arith, has_take)

@@ -13,10 +13,14 @@ returns-clause-total g c =
     let old = c.args.self.now.far in
     let list = c.give_back.new.list in
     let e = c.insert.ensures in
-    let past : length c.args.self.now.near.items ≤ c.args.key = let high = c.requires.far in let fits = c.args.self.now.near.ok in omega arith in
-    let entries = unless_refused c.insert.result e.entries e.absent (found_far c.args.key (length c.args.self.now.near.items) (get nat_cmp old c.args.key) past c.requires.known) in
+    let past : length c.args.self.now.near.items ≤ c.args.key =
+    let high = c.requires.far in
+    let fits = c.args.self.now.near.ok in omega arith in
+    let entries = unless_refused c.insert.result e.entries e.absent
+    (found_far c.args.key (length c.args.self.now.near.items) (get nat_cmp old c.args.key)
+    past c.requires.known) in
     let written = ap (λ es. total (values_of es)) entries in
-    let put = sum_by-insert_entry (λ v. length v.items) nat_cmp_total old.entries c.args.key list e.was_ordered in
+    let put = sum_by-insert_entry (λ v. length v.items)
+    nat_cmp_total old.entries c.args.key list e.was_ordered in
     let was = was_empty (get nat_cmp old c.args.key) c.requires.taken in
-    let len = ap length c.give_back.ensures in
-    omega (arith, written, put, was, len)
+    let len = ap length c.give_back.ensures in omega (arith, written, put, was, len)

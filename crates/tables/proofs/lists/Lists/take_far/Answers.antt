@@ -12,7 +12,9 @@ returns-in-Some-clause-total g c =
     let list = c.in-Some.list.now in
     let empty = c.replace.new.dest in
     let written = ap (λ es. total (values_of es)) (c.get_mut.follows.holds empty).0 in
-    let put = sum_by-set_value (λ v. length v.items) (is_at (nat_cmp c.args.key)) far list empty (sym c.in-Some.ensures.value) in
+    let put = sum_by-set_value (λ v. length v.items) (is_at (nat_cmp c.args.key)) far list empty
+    (sym c.in-Some.ensures.value) in
     let taken = ap (λ v. length v.items) c.replace.ensures.value in
-    let none = ap (λ v. length v.items) c.replace.ensures.after ∙ ap length c.new-empty.ensures.items in
+    let none = ap (λ v. length v.items) c.replace.ensures.after
+    ∙ ap length c.new-empty.ensures.items in
     omega (arith, written, put, taken, none)

@@ -1,5 +1,5 @@
-use Rattle.std.proofs.Common.{cond, eqb, length, slice_get, [], ◌∷◌, ◌++◌, sym, ap, ◌∙◌}
-use Rattle.std.proofs.Common.{arith, is_some}
+use Rattle.std.proofs.Common.{cond, eqb, length, slice_get, [], ◌∷◌, ◌++◌, sym, ap, ◌∙◌, arith}
+use Rattle.std.proofs.Common.{is_some}
 use Rattle.std.proofs.lemmas.List.{length-append}
 use Rattle.std.proofs.lemmas.List.Sums.{sum_by_push}
 use Rattle.std.specs.BTreeMap.{get}
