@@ -29,7 +29,7 @@ MODEL = b"s SATISFIABLE\nv 1 2 0\n"
 MINISAT = b"SAT\n1 2 0\n"
 CLASP = b"clasp version 3.3.5\nReading from g.cnf\nSolving...\nAnswer: 1\n1 2\nSATISFIABLE\n"
 
-# the literal 2 holds for good by the second clause
+# the literal 2 is root-level by the second clause
 CHAIN = b"p cnf 4 4\n1 0\n-1 2 0\n-2 3 4 0\n-2 3 -4 0\n"
 
 # as long as what CaDiCaL writes before its answer

@@ -220,7 +220,7 @@ def decoded(content):
 
 
 def deletes_reason(formula, words):
-    """Whether some deletion of a DRAT proof takes a literal away that held for good."""
+    """Whether some deletion of a DRAT proof takes a root-level literal away."""
     literals = " ".join(word.decode() for word in words_of(formula)[4:])
     alive = [[int(word) for word in clause.split()] for clause in f" {literals}".split(" 0")[:-1]]
     clause, deletes = [], False

@@ -46,7 +46,7 @@ kept() {
     refused_after "$1" drat-forward "$2" '' "${@:3}"
 }
 
-# 1 and 2 hold for good: 1 by a unit clause, and 2 by -1 2
+# 1 and 2 are root-level: 1 by a unit clause, and 2 by -1 2
 chain='1 0\n-1 2 0\n-2 3 4 0\n-2 3 -4 0'
 copies='1 0\n-1 2 0\n-1 2 0\n-2 3 4 0'
 lost reason_deleted 'line 2, column 3' "$chain" 'd -1 2 0\n2 0'

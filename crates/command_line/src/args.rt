@@ -17,7 +17,7 @@ pub struct Args {
     pub strict: bool,
     /// `--pr`: an addition may list a witness after its clause.
     pub pr: bool,
-    /// `--keep-units`: a deletion of a live clause that makes a literal of it hold for good is
+    /// `--keep-units`: a deletion of a live clause that is the reason of a root-level literal is
     /// ignored.
     pub keep_units: bool,
     /// The name of the file with the formula.

@@ -19,7 +19,7 @@ use trail::LiteralSet;
 /// Live clauses by which additions are judged, with the room that this needs, which is kept from
 /// step to step. Between steps it is empty.
 #[derive(Drop)]
-pub struct Examiner<P: Propagate> {
+pub struct AdditionChecker<P: Propagate> {
     /// The slots of the clauses that are touched.
     slots: Vec<u32>,
     last: Clashed,
@@ -30,7 +30,7 @@ pub struct Examiner<P: Propagate> {
     pub clauses: P,
 }
 
-impl<P: Propagate> Examiner<P> {
+impl<P: Propagate> AdditionChecker<P> {
     /// With room for nothing yet. It takes no memory.
     pub fn new(clauses: P) -> Self
         ensures clauses { P.state result.clauses ≡ P.state clauses }
@@ -38,7 +38,7 @@ impl<P: Propagate> Examiner<P> {
             result.witness }
     {
         let alloc = clauses.alloc();
-        Examiner {
+        AdditionChecker {
             clauses,
             slots: Vec::new(alloc),
             last: Clashed::new(alloc),

@@ -7,6 +7,6 @@ mod deletion;
 mod step;
 pub mod word;
 
-pub use addition::Examiner;
+pub use addition::AdditionChecker;
 pub use deletion::delete;
 pub use step::{add_copy, parts_under};

@@ -7,7 +7,7 @@ ghost use Rattle.theory.specs.Drat as drat;
 ghost use Rattle.drat_steps.specs.Ready.{IsIdle, IsEmptied, MeetsIfListed};
 ghost use Rattle.theory.specs.Answers.{UnlessOutOfMemory};
 
-use crate::addition::Examiner;
+use crate::addition::AdditionChecker;
 use cnf_base::{Lit, OutOfMemory};
 use proofs::parts_of;
 use propagation::Propagate;
@@ -25,7 +25,7 @@ pub fn add_copy<P: Propagate>(clauses: &mut P, lits: &[Lit]) -> Result<(), OutOf
     Ok(())
 }
 
-impl<P: Propagate> Examiner<P> {
+impl<P: Propagate> AdditionChecker<P> {
     /// Judges an addition, and adds the clause where it is accepted. The witness is not added.
     pub fn add(&mut self, lits: &[Lit], witness: &[Lit]) -> Result<Accepted, Refusal>
         requires idle { IsIdle (P.state self.old.clauses) }

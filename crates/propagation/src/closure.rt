@@ -132,7 +132,7 @@ impl Closure {
         Ok(found)
     }
 
-    /// Whether the clause in the slot makes a literal of it hold for good: that literal follows
+    /// Whether the clause in the slot is the reason of a root-level literal: that literal follows
     /// with nothing assumed, and so do the complements of all its others.
     ///
     /// The first call goes over all clauses. Later ones cost what this clause costs, until a

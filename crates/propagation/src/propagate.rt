@@ -146,7 +146,7 @@ pub trait Propagate {
             (P.keeps part.now) result }
         ensures same_slots { slot_count self.new ≡ slot_count self.old };
 
-    /// Whether the clause in the slot makes a literal of it hold for good, where nothing is
+    /// Whether the clause in the slot is the reason of a root-level literal, where nothing is
     /// assumed: that literal follows, and so do the complements of all its others. It is asked of
     /// the whole least set, past a clash too.
     ///

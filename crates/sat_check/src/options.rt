@@ -35,7 +35,7 @@ pub struct DratOptions {
     /// Whether an addition may list a set after its clause, by which it may be propagation
     /// redundant (PR).
     pub pr: bool,
-    /// Whether a deletion of a live clause that makes a literal of it hold for good is ignored.
+    /// Whether a deletion of a live clause that is the reason of a root-level literal is ignored.
     pub keep_units: bool,
     /// Mixed into the hashes of clauses, one number a run. No answer depends on it.
     pub seed: u64,

@@ -10,7 +10,7 @@ use crate::judge::Judge;
 use crate::named::Named;
 use crate::session::Session;
 use cnf_base::{Lit, OutOfMemory};
-use drat_steps::{Examiner, add_copy, delete, parts_under};
+use drat_steps::{AdditionChecker, add_copy, delete, parts_under};
 use proofs::{StepBuf, StepKind};
 use propagation::Propagate;
 use theory::{Accepted, DratRules, Refusal};
@@ -21,13 +21,13 @@ pub type DratSession<P> = Session<Named<DratJudge<P>>>;
 /// The live clauses of a DRAT proof, and its rules.
 #[derive(Drop)]
 pub struct DratJudge<P: Propagate> {
-    examiner: Examiner<P>,
+    checker: AdditionChecker<P>,
     rules: DratRules,
     has_lost_literal: bool,
-    ghost no_slots: { examiner.slots.items ≡ [] },
-    ghost no_rest: { examiner.last.rest.items ≡ [] },
-    ghost none_looked_at: { (l : ℕ) → IsFalse (in_set examiner.looked_at l) },
-    ghost no_witness: { (l : ℕ) → IsFalse (in_set examiner.witness l) },
+    ghost no_slots: { checker.slots.items ≡ [] },
+    ghost no_rest: { checker.last.rest.items ≡ [] },
+    ghost none_looked_at: { (l : ℕ) → IsFalse (in_set checker.looked_at l) },
+    ghost no_witness: { (l : ℕ) → IsFalse (in_set checker.witness l) },
 }
 
 impl<P: Propagate> Session<Named<DratJudge<P>>> {
@@ -41,9 +41,9 @@ impl<P: Propagate> Session<Named<DratJudge<P>>> {
         // so it is known that no literals are kept
         let _ = clauses.literals();
         let alloc = clauses.alloc();
-        let examiner = Examiner::new(clauses);
+        let checker = AdditionChecker::new(clauses);
         let judge = DratJudge {
-            examiner,
+            checker,
             rules,
             has_lost_literal: false,
         };
@@ -55,10 +55,10 @@ impl<P: Propagate> Judge for DratJudge<P> {
     ghost use Rattle.theory.specs.Rules.{drat};
     ghost use Rattle.drat_steps.specs.Ready.{IsIdle};
 
-    // Each field has to be named here, those of the examiner too. Of them the clauses alone have
-    // lists of literals; what the examiner has beside them is empty.
+    // Each field has to be named here, those of the checker too. Of them the clauses alone have
+    // lists of literals; what the checker has beside them is empty.
     ghost held = { λ record {
-      examiner = record {
+      checker = record {
         slots = _;
         last = record { alloc = _; rest = _ };
         looked_at = _;
@@ -79,20 +79,20 @@ impl<P: Propagate> Judge for DratJudge<P> {
       has_lost_literal = has_lost_literal;
     } };
 
-    ghost is_ready = { λ s. IsIdle (P.state s.examiner.clauses) };
+    ghost is_ready = { λ s. IsIdle (P.state s.checker.clauses) };
 
     fn input(&mut self, lits: &[Lit]) -> Result<(), OutOfMemory> {
-        add_copy(&mut self.examiner.clauses, lits)
+        add_copy(&mut self.checker.clauses, lits)
     }
 
     fn step(&mut self, lits: &[Lit], step: &StepBuf) -> Result<Accepted, Refusal> {
         match step.kind() {
             StepKind::Add => {
                 let (clause, witness) = parts_under(self.rules, lits);
-                self.examiner.add(clause, witness)
+                self.checker.add(clause, witness)
             }
             StepKind::Delete => {
-                let clauses = &mut self.examiner.clauses;
+                let clauses = &mut self.checker.clauses;
                 let word = delete(clauses, self.rules, lits, &mut self.has_lost_literal)?;
                 // Where memory is refused, all clauses stay where they are.
                 let _stay = clauses.gather();
@@ -106,6 +106,6 @@ impl<P: Propagate> Judge for DratJudge<P> {
     }
 
     fn literals(&self) -> u64 {
-        self.examiner.clauses.literals()
+        self.checker.clauses.literals()
     }
 }

@@ -2,9 +2,9 @@
 -- first literal written, and deletions are those of DRAT, as DRAT-trim's page has it. DRAT-trim
 -- ignores the deletion of a clause that is not alive too. Our own profile: RUP is asked first, a
 -- deletion of a unit clause is done as written, and strict rules refuse one of a clause that is not
--- alive. Where the rules keep units, the deletion of a clause that makes a literal hold for good is
--- ignored, as DRAT-trim ignores most of these. Additions that list a witness after their clause are
--- those of DPR proofs; that they are tried by RUP and PR alone is our own.
+-- alive. Where the rules keep units, the deletion of a clause that is the reason of a root-level
+-- literal is ignored, as DRAT-trim ignores most of these. Additions that list a witness after their
+-- clause are those of DPR proofs; that they are tried by RUP and PR alone is our own.
 use Rattle.std.specs.Prelude.{◌≡◌, ℕ, Bool, true, false, ◌⊎◌, List, [], ◌∷◌, Ok}
 use Rattle.std.specs.Prelude.{Err, count_by, slice_get, IsTrue, IsFalse, if◌then◌else◌}
 use Rattle.std.specs.List.{list_any}
@@ -69,7 +69,7 @@ abbrev pub AnswersListed : Live → List Literal → List Literal → StepAnswer
 AnswersListed live c [] answer = AnswersAdd live c answer
 AnswersListed live c (l ∷ witness) answer = AnswersWithWitness live c (l ∷ witness) answer
 
--- the rules keep units, and the clause makes a literal of it hold for good
+-- the rules keep units, and the clause is the reason of a root-level literal
 abbrev pub IsKeptUnit : DratRules → List Clause → Clause → Type 0
 IsKeptUnit rules live c = IsTrue rules.keep_units × IsRootReason (slice_get live) c
 

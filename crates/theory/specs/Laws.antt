@@ -86,15 +86,15 @@ UnitsAreKept = (rules : DratRules) (live last : List Clause) (steps : List DratS
     IsTrue rules.keep_units → Leads rules live steps words last →
     Forced (slice_get live) [] l → Forced (slice_get last) [] l
 
--- Where the rules keep units, no clause is deleted that makes a literal hold for good (our own
--- profile).
+-- Where the rules keep units, no clause is deleted that is the reason of a root-level literal (our
+-- own profile).
 abbrev pub ReasonsAreKept : Type 0
 ReasonsAreKept = (rules : DratRules) (formula : List Clause) (steps : List Step)
     (words : List Accepted) (ending : Ending) →
     IsTrue rules.keep_units → Verdict (drat rules) formula steps words ending →
     ¬ DeletedReason (start (drat rules) formula) steps words
 
--- A deletion that loses a root-level literal is of a clause that made one hold for good (our own
+-- A deletion that loses a root-level literal is of a clause that was the reason of one (our own
 -- profile).
 abbrev pub LostWithReason : Type 0
 LostWithReason = (state : State) (step : Step) (word : Accepted) →

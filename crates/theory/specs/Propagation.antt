@@ -33,8 +33,8 @@ pub data Clash (live : Live) (assumed : List Literal) : Type 0 where
   by_both : (l : Literal) → Forced live assumed l → Forced live assumed (complement l) →
       Clash live assumed
 
--- The clause makes a literal of it hold for good: with nothing assumed that literal is forced, and
--- so are the complements of all its others. It is said of the whole least set, past a clash too
+-- The clause is the reason of a root-level literal: with nothing assumed that literal is forced,
+-- and so are the complements of all its others. It is said of the whole least set, past a clash too
 -- (our own profile; DRAT-trim keeps those of these clauses that its propagation took as reasons).
 pub record IsRootReason (live : Live) (c : Clause) : Type 0 where
   pub literal : Literal

@@ -11,6 +11,6 @@ pub struct DratRules {
     /// Whether an addition may list a set after its clause, by which it may be propagation
     /// redundant (PR).
     pub pr: bool,
-    /// Whether a deletion of a live clause that makes a literal of it hold for good is ignored.
+    /// Whether a deletion of a live clause that is the reason of a root-level literal is ignored.
     pub keep_units: bool,
 }

@@ -59,12 +59,12 @@ pub fn units_are_kept()
     ensures { UnitsAreKept }
 {}
 
-/// Where the rules keep units, no clause is deleted that makes a literal hold for good.
+/// Where the rules keep units, no clause is deleted that is the reason of a root-level literal.
 pub fn reasons_are_kept()
     ensures { ReasonsAreKept }
 {}
 
-/// A deletion that loses a root-level literal is of a clause that made one hold for good.
+/// A deletion that loses a root-level literal is of a clause that was the reason of one.
 pub fn lost_with_reason()
     ensures { LostWithReason }
 {}

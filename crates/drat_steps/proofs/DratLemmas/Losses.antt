@@ -68,7 +68,7 @@ module _ (live : FinMap nat_cmp Clause) (slot : ℕ) (c lits : Clause) (there : 
     quiet_listed : ¬ Clash (slice_get (maps.values live)) []
     quiet_listed clash = quiet ((slots-clash live []).1 clash)
 
-    -- no literal of it held for good
+    -- no literal of it was root-level
     pub loses_nothing : ((l : Literal) → has c l ≡ true → ¬ Forced (maps.get live) [] l) → ¬ Loses
     loses_nothing none (inl p) = quiet_listed p.0
     loses_nothing none (inr p) =

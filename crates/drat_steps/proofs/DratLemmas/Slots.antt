@@ -69,7 +69,7 @@ slots-rat m c pivot = (rat_covers _ _ (slots_covered m) (covered_by_slots m) c p
 pub slots-pr : (m : FinMap nat_cmp Clause) (c set : List Literal) → HasPr (slots.get m) c set ↔ HasPr (slice_get (slots.values m)) c set
 slots-pr m c set = (pr_covers _ _ (slots_covered m) (covered_by_slots m) c set, pr_covers _ _ (covered_by_slots m) (slots_covered m) c set)
 
--- a clause that makes a literal hold for good, however it is written
+-- a clause that is the reason of a root-level literal, however it is written
 pub slots-reason : (m : FinMap nat_cmp Clause) (c d : Clause) → same_clause c d ≡ true → IsRootReason (slots.get m) c → IsRootReason (slice_get (slots.values m)) d
 slots-reason m c d same r = reason_covers _ _ (slots_covered m) c d same r
 

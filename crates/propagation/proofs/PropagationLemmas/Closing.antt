@@ -1,4 +1,4 @@
--- All that follows with nothing assumed, and the clauses that make a literal hold for good.
+-- All that follows with nothing assumed, and the clauses that are reasons of root-level literals.
 use Rattle.std.proofs.Common.{◌≡◌, ◌≢◌, ℕ, Result, OnOk, ◌+◌, ◌<◌, ◌≤◌, Bool, true, false, ◌&&◌}
 use Rattle.std.proofs.Common.{eqb, eqb-true, Some, None, List, [], ◌∷◌, ◌++◌, take, length, get_or}
 use Rattle.std.proofs.Common.{sym, ap, ◌∙◌, subst, arith, inl, inr}
@@ -36,7 +36,7 @@ pub follows_forced : (live : Live) (ls : List Literal) → AreForced live ls →
 follows_forced live ls sound k c at l (is_old h) = sound l h
 follows_forced live ls sound k c at l (by_unit member others) = grind (arith, forced_unit)
 
--- ---- Clauses that make a literal hold for good
+-- ---- Reasons of root-level literals
 
 module _ (live : Live) (trues : List Literal) (k : ℕ) (c : Clause) (at : live k ≡ Some c) where
   module _ (sound : (l : Literal) → has trues l ≡ true → Forced live [] l) where

@@ -87,7 +87,7 @@ module _ (c : Clause) where
         ];
       }
 
-  -- a clause that makes no literal hold for good takes nothing with it
+  -- a clause that is the reason of no root-level literal takes nothing with it
   pub forced_without : (live : List Clause) → (IsRootReason (slice_get live) c → ⊥) → (l : Literal) → Forced (slice_get live) [] l
       → Forced (slice_get (take_off c live)) [] l
   forced_without live none = search (rules, forced_still)

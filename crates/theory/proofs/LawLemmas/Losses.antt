@@ -23,7 +23,7 @@ module _ (live : List Clause) (c : Clause) (quiet : ¬ Clash (slice_get live) []
   abbrev Loses : Type 0
   Loses = LosesLiteral (slice_get live) (slice_get (take_off c live))
 
-  -- no literal of the clause held for good
+  -- no literal of the clause was root-level
   pub none_held : ((l : Literal) → has c l ≡ true → ¬ Forced (slice_get live) [] l) → ¬ Loses
   none_held none loses = search (rules, forced_still)
 

@@ -1,4 +1,5 @@
--- Whether a clause makes a literal hold for good can be decided: what follows with nothing assumed is a list, past a clash too.
+-- Whether a clause is the reason of a root-level literal can be decided: what follows with nothing
+-- assumed is a list, past a clash too.
 use Rattle.std.proofs.Common.{◌≡◌, ℕ, zero, suc, ◌≤◌, Bool, true, false, not, ◌||◌, ◌&&◌, eqb}
 use Rattle.std.proofs.Common.{eqb-true, eq-eqb, Some, List, [], ◌∷◌, slice_get, refl, sym, ◌∙◌, inl}
 use Rattle.std.proofs.Common.{inr, arith, rules}

@@ -431,7 +431,7 @@ fn stays_where_memory_runs_out(rt: HostRuntime) -> Result<(), Fail> {
     Ok(())
 }
 
-/// Whether a clause makes a literal of it hold for good; none where there is no such clause.
+/// Whether a clause is the reason of a root-level literal; none where there is no such clause.
 fn root_reason<P: Fresh>(
     alloc: Global,
     rows: &[[i32; 2]],

@@ -14,7 +14,7 @@ use Rattle.std.specs.FinMap as maps
 pub returns-in-Add-clause-keeps_models : goal.returns-in-Add-clause-keeps_models
 returns-in-Add-clause-keeps_models g c =
     let state = λ (p : g.row.P.Denot). by_copies c.args.self.now.rules (maps.values (g.P.Propagate.state p).live) in
-    keeps_taken (state c.args.self.now.examiner.clauses) (state c.add.new.self.clauses) (with_lits c.args.lits.now c.args.step.now) c.add.result (search rules) (search rules)
+    keeps_taken (state c.args.self.now.checker.clauses) (state c.add.new.self.clauses) (with_lits c.args.lits.now c.args.step.now) c.add.result (search rules) (search rules)
 
 taken_off : (r : DratRules) (old left gathered : List Clause) (lits : List Literal) (step : Step) (word : Accepted) → step.kind ≡ kinds.Delete → SameLive left (after_drat old (delete lits) word)
     → SameLive gathered left → Same (by_copies r gathered) (after (by_copies r old) (with_lits lits step) word)
@@ -29,5 +29,5 @@ pub returns-in_ok-word-in-Delete-clause-keeps_models : goal.returns-in_ok-word-i
 returns-in_ok-word-in-Delete-clause-keeps_models g c =
     let state = λ (p : g.row.P.Denot). by_copies c.args.self.now.rules (maps.values (g.P.Propagate.state p).live) in
     let word = c.in_ok-word-in-Delete.word in
-    keeps_taken (state c.args.self.now.examiner.clauses) (state c.gather-stay.new.self) (with_lits c.args.lits.now c.args.step.now) (Ok word) (search rules)
+    keeps_taken (state c.args.self.now.checker.clauses) (state c.gather-stay.new.self) (with_lits c.args.lits.now c.args.step.now) (Ok word) (search rules)
     (taken_off c.args.self.now.rules _ _ _ c.args.lits.now c.args.step.now word (search rules) c.in_ok-word-in-Delete.ensures.live c.gather-stay.ensures.live)

@@ -1,7 +1,7 @@
 use Rattle.std.proofs.Common.{true, false}
 use Rattle.propagation.specs.Assumptions.{assumed_by}
 use Rattle.drat_steps.proofs.DratLemmas.Witnesses.{answers_filled, touched_if_reduced}
-use Rattle.drat_steps.proofs.addition.Examiner.judge_pr.Goals as goal
+use Rattle.drat_steps.proofs.addition.AdditionChecker.judge_pr.Goals as goal
 
 pub all_clash-requires-clause-touched : goal.all_clash-requires-clause-touched
 all_clash-requires-clause-touched g c = λ d. touched_if_reduced c.args.self.now.witness c.args.witness.now c.requires.listed.filled d

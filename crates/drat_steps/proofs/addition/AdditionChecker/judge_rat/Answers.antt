@@ -1,7 +1,7 @@
 use Rattle.std.proofs.Common.{true, false}
 use Rattle.propagation.specs.Assumptions.{assumed_by}
 use Rattle.drat_steps.proofs.DratLemmas.Steps.{answers_none, answers_searched}
-use Rattle.drat_steps.proofs.addition.Examiner.judge_rat.Goals as goal
+use Rattle.drat_steps.proofs.addition.AdditionChecker.judge_rat.Goals as goal
 
 pub returns-in_default-clause-answers : goal.returns-in_default-clause-answers
 returns-in_default-clause-answers g c =

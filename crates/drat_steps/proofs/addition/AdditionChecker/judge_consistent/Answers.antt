@@ -3,7 +3,7 @@ use Rattle.cnf_base.specs.Literals.{complements}
 use Rattle.propagation.specs.Assumptions.{IsAnswer, assumed_by}
 use Rattle.theory.specs.Propagation.{Clash}
 use Rattle.drat_steps.proofs.DratLemmas.{Steps.no_clash, Witnesses.listed_rup}
-use Rattle.drat_steps.proofs.addition.Examiner.judge_consistent.Goals as goal
+use Rattle.drat_steps.proofs.addition.AdditionChecker.judge_consistent.Goals as goal
 use Rattle.std.specs.FinMap as maps
 
 pub judge_without_rup-judged-requires-clause-assumed : goal.judge_without_rup-judged-requires-clause-assumed
