@@ -123,7 +123,7 @@ fn note_counts<P: Propagate>(clauses: &P, log: &mut Vec<u8>) -> Result<(), Fail>
     Ok(())
 }
 
-/// Takes out a clause if it is there, and notes whether it makes a literal of it hold for good.
+/// Takes out a clause if it is there, and notes whether it is the reason of a root-level literal.
 fn take_out<P: Propagate>(clauses: &mut P, lits: &[Lit], log: &mut Vec<u8>) -> Result<(), Fail>
     requires { (P.state clauses.old).assumptions ≡ [] }
     ensures { OnOk result ((P.state clauses.new).assumptions ≡ []) }
@@ -187,6 +187,10 @@ fn counts_of(alloc: Global, watch: &mut Watch) -> Result<(u64, usize, usize), Fa
     let _ = watch.assume(&[])?;
     watch.undo();
     fill(alloc, watch, &[[5, -5]])?;
+    let tautology = literals(alloc, &[11, 12, 13, 14, 15, 16, 17, 18, 19, -11])?;
+    watch.insert(tautology.as_slice())?;
+    let other = literals(alloc, &[11, 12, 13, 14, 15, 16, 17, 18, 19, 20])?;
+    watch.insert(other.as_slice())?;
     let _ = watch.assume(&[])?;
     Ok((
         watch.watch_entries()?,
@@ -198,6 +202,6 @@ fn counts_of(alloc: Global, watch: &mut Watch) -> Result<(u64, usize, usize), Fa
 #[test]
 fn counts_entries(rt: HostRuntime) -> Result<(), Fail> {
     let mut watch = Watch::new(rt.alloc())?;
-    expect_equal(&rt, counts_of(rt.alloc(), &mut watch)?, (4, 1, 2));
+    expect_equal(&rt, counts_of(rt.alloc(), &mut watch)?, (6, 1, 2));
     Ok(())
 }
