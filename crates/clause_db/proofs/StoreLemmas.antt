@@ -1,3 +1,4 @@
+pub mod Below
 pub mod Counts
 pub mod Fields
 pub mod Kept

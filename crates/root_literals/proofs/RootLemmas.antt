@@ -5,5 +5,11 @@ pub mod Reasons
 pub mod Uses
 pub mod History
 pub mod Kept
+pub mod Closed
+pub mod Carried
+pub mod Grown
+pub mod Propagated
+pub mod Doubts
+pub mod Units
 pub mod Entered
 pub mod Lone

@@ -41,3 +41,7 @@ pub record IsRewound (old now : History) (place : ℕ) : Type 0 where
   pub floor : visits now ≢ 0 → (old.floor < place) × (now.floor ≡ old.floor)
   pub next : visits now ≢ 0 → (visits now < visits old) × (trues_at old (visits now) ≤ place)
   pub doubts : visits now ≢ 0 → now.doubts.items ≡ old.doubts.items
+
+-- the same visits were made, and more literals are true
+abbrev pub HasGrown : History → History → List Literal → List Literal → Type 0
+HasGrown old now before after = (now ≡ old) × (take (length before) after ≡ before)

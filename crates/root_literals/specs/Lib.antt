@@ -1,3 +1,4 @@
+pub mod Code
 pub mod History
 pub mod Order
 pub mod Roots

@@ -4,8 +4,7 @@ use Rattle.std.specs.FinMap as maps
 use Rattle.std.specs.FinMap.{FinMap}
 use Rattle.std.specs.Ordering.{nat_cmp}
 use Rattle.std.specs.Prelude.{◌≡◌, ◌≢◌, ℕ, Bool, Option, Some, List, IsTrue, IsSome, ◌≤◌, [], take}
-use Rattle.std.specs.Prelude.{length, true, false, ◌∷◌, ⊤, ◌<◌, slice_index, IsFalse}
-use Rattle.std.specs.Prelude.{if◌then◌else◌}
+use Rattle.std.specs.Prelude.{length, true, false, ◌∷◌, ⊤, ◌<◌, slice_index, IsFalse, if◌then◌else◌}
 use Rattle.cnf_base.specs.Literals.{Literal, Clause, has, complement}
 use Rattle.tables.specs.Filled.{at}
 use Rattle.theory.specs.Propagation.{Live}

@@ -1,88 +1,10 @@
--- Watched literals: the first two of each clause of two literals or more that is no tautology (as
--- solvers and DRAT-trim have them; our own profile).
-use Rattle.std.specs.Prelude.{◌==◌, ◌||◌, ◌&&◌, ◌+◌, ◌≤◌, Bool, not, false, [], ◌∷◌, true, ℕ, Option}
-use Rattle.std.specs.Prelude.{Some, None, if◌then◌else◌, ◌≡◌, ◌<◌, List, IsSome, IsTrue, ⊤, take}
+-- Where watched literals are false (our own profile).
+use Rattle.std.specs.Prelude.{[], ◌∷◌, ℕ, Some, ◌≡◌, List, IsTrue, ⊤, take}
 use Rattle.cnf_base.specs.Literals.{Literal, Clause, has, complement}
-use Rattle.clause_db.specs.Store.{is_tautology}
 use Rattle.theory.specs.Propagation.{Live}
 use Rattle.propagation.specs.Assumptions.{Assumption}
 use Rattle.propagation.specs.declared.answer.Answer.TheVariants.{Quiet}
-use Rattle.watch_lists.specs.Lists.{entries_in, entries_of, list_at, times_in}
-use Rattle.watch_lists.specs.Lists.{unfit_entries}
-use Rattle.watch_lists.specs.declared.lists.WatchLists.{WatchLists}
-use Rattle.watch_lists.specs.declared.watcher.Watcher.{Watcher}
-
--- whether a literal is one of the first two of a clause that has two or more
-abbrev pub is_first : Clause → Literal → Bool
-is_first [] l = false
-is_first (a ∷ []) l = false
-is_first (a ∷ b ∷ c) l = a == l || b == l
-
--- whether a clause watches a literal
-abbrev pub watches : Clause → Literal → Bool
-watches c l = is_first c l && not (is_tautology c)
-
--- whether a clause is too short to watch two literals
-abbrev pub is_short : Clause → Bool
-is_short [] = true
-is_short (a ∷ []) = true
-is_short (a ∷ b ∷ c) = false
-
--- whether a clause watches no literal
-abbrev pub is_unwatched : Clause → Bool
-is_unwatched c = is_short c || is_tautology c
-
--- ---- The lists
-
--- how many entries there are for a slot in the list of a literal
-abbrev pub entries_for : Option Clause → Literal → ℕ
-entries_for None l = 0
-entries_for (Some c) l = if watches c l then 1 else 0
-
--- how many there are for it in the list of the short clauses
-abbrev pub short_for : Option Clause → ℕ
-short_for None = 0
-short_for (Some c) = if is_short c then 1 else 0
-
--- how many there are for it in the list of the tautologies
-abbrev pub tautology_for : Option Clause → ℕ
-tautology_for None = 0
-tautology_for (Some c) = if is_tautology c then 1 else 0
-
--- a slot stands once in the lists of the two literals that its clause watches, and nowhere else,
--- each time in an entry that fits the clause
-pub record IsListed (live : Live) (list_of : Literal → List Watcher) : Type 0 where
-  pub watched : (l s : ℕ) → entries_of s (list_of l) ≡ entries_for (live s) l
-  pub low : (s : ℕ) → IsSome (live s) → s < 2147483648
-  pub fitting : (l s : ℕ) (c : Clause) → live s ≡ Some c → unfit_entries s c l (list_of l) ≡ 0
-
--- a slot of a short clause stands once in this list, and nothing else does
-pub record IsShortList (live : Live) (short : List ℕ) : Type 0 where
-  pub listed : (s : ℕ) → times_in s short ≡ short_for (live s)
-
--- a slot of a tautology stands once in this list, and nothing else does
-pub record IsTautologyList (live : Live) (tautologies : List ℕ) : Type 0 where
-  pub listed : (s : ℕ) → times_in s tautologies ≡ tautology_for (live s)
-
--- the lists of the literals that the clause watches have one entry more for the slot, and no other
--- list has more or fewer
-abbrev pub HasEntry : Clause → ℕ → WatchLists → WatchLists → Type 0
-HasEntry c slot lists lists_without =
-    (l s : ℕ) → entries_of s (list_at lists l) ≡
-    entries_of s (list_at lists_without l) + (if watches c l && s == slot then 1 else 0)
-
--- no entry has come that doesn't fit its clause, where the slot has this one
-abbrev pub AddsFitting : Clause → ℕ → WatchLists → WatchLists → Type 0
-AddsFitting c slot before after =
-    (l s : ℕ) (d : Clause) → (s ≡ slot → d ≡ c) →
-    unfit_entries s d l (list_at after l) ≤ unfit_entries s d l (list_at before l)
-
--- the lists have the same entries
-pub record AreUnchanged (before after : WatchLists) : Type 0 where
-  pub lists : (l : Literal) → list_at after l ≡ list_at before l
-  pub entries : entries_in after ≡ entries_in before
-
--- ---- Where literals are false
+use Rattle.watch_lists.specs.Watched.{watches}
 
 -- all its literals are in the other list
 abbrev pub IsPart : List Literal → List Literal → Type 0

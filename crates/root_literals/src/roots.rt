@@ -12,19 +12,19 @@
 //! solvers add one, and then delete the clauses that it satisfies. A reason stays in the table when
 //! its literal is taken back, and says nothing until the next clause that makes it true.
 
-ghost use Rattle.std.specs.Prelude.{◌≡◌, ◌≢◌, ℕ, ◌<◌, ◌≤◌, ◌/◌, ◌==◌, ◌&&◌, ◌++◌, ◌∷◌, [], not};
-ghost use Rattle.std.specs.Prelude.{true, false, length, take, if◌then◌else◌, Some};
-ghost use Rattle.std.specs.Prelude.{IsTrue, IsFalse, IsSome, IfSome, IfNone, OnOk};
+ghost use Rattle.std.specs.Prelude.{◌≡◌, ◌≢◌, ◌<◌, ◌≤◌, ◌/◌, ◌==◌, ◌&&◌, ◌++◌, ◌∷◌, [], not, true};
+ghost use Rattle.std.specs.Prelude.{false, length, take, if◌then◌else◌, Some, IsTrue, IsFalse};
+ghost use Rattle.std.specs.Prelude.{IsSome, IfSome, IfNone, OnOk};
 ghost use Rattle.std.specs.FinMap as maps;
 ghost use Rattle.cnf_base.specs.Literals.{Literal, Clause, complement, has};
 ghost use Rattle.tables.specs.Filled.{at};
 ghost use Rattle.trail.specs.Trail.{HasRoom};
-ghost use Rattle.theory.specs.Sets.{SameSet, conflicts};
+ghost use Rattle.theory.specs.Sets.{SameSet};
 ghost use Rattle.root_literals.specs.History.{IsRewound};
 ghost use Rattle.root_literals.specs.Roots.{HasReasons, IsArranged, IsKept, has_clash, is_cut};
 ghost use Rattle.root_literals.specs.Roots.{is_up_to_date};
 ghost use Rattle.root_literals.specs.Uses.{AreCounted, times};
-ghost use Rattle.root_literals.specs.Watched.{AreUnchanged};
+ghost use Rattle.watch_lists.specs.Watched.{AreUnchanged};
 ghost use Rattle.trail.specs.declared.left.Left.TheVariants.{More};
 ghost use Rattle.root_literals.specs.declared.roots.Kept.TheVariants.{Behind, Clash, Cut};
 

@@ -4,13 +4,8 @@ pub mod Visits
 pub mod Moves
 pub mod PropagatesTo
 pub mod Follow
-pub mod Units
 pub mod Entries
-pub mod Closed
 pub mod Cursor
-pub mod Doubts
-pub mod Kept
-pub mod CatchUp
 pub mod Visited
 pub mod Arrange
 pub mod Assumed

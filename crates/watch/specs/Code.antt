@@ -1,5 +1,4 @@
 -- How the parts of the code fit together. No public contract speaks of it.
 pub mod ClauseSource
-pub mod Doubts
 pub mod State
 pub mod Visits

@@ -1,94 +1,22 @@
 //! What follows with nothing assumed, brought up to date.
 
-ghost use Rattle.std.specs.Prelude.{◌≡◌, ◌≤◌, ◌⊎◌, ℕ, [], true, false, IsSome, IfSome, IfNone};
-ghost use Rattle.std.specs.Prelude.{OnOk, length, take};
+ghost use Rattle.std.specs.Prelude.{◌≡◌, ◌≤◌, ℕ, true, false, OnOk, length, take};
 ghost use Rattle.std.specs.FinMap as maps;
-ghost use Rattle.cnf_base.specs.Literals.{Literal};
-ghost use Rattle.trail.specs.Trail.{HasRoomForAll};
 ghost use Rattle.theory.specs.Sets.{SameSet};
 ghost use Rattle.root_literals.specs.Order.{each_in_order};
 ghost use Rattle.root_literals.specs.History.{sure_of, visits};
-ghost use Rattle.root_literals.specs.Roots.{IsFalseAt, IsKept, is_cut, is_up_to_date};
-ghost use Rattle.root_literals.specs.Watched.{IsShortList, IsWatched};
-ghost use Rattle.root_literals.specs.declared.roots.Kept.TheVariants.{Cut};
-ghost use Rattle.watch.specs.Code.Doubts.{HasGrown};
+ghost use Rattle.root_literals.specs.Roots.{IsKept, is_cut, is_up_to_date};
+ghost use Rattle.root_literals.specs.Watched.{IsWatched};
 ghost use Rattle.watch.specs.Code.State.{IsWatch};
 ghost use Rattle.watch.specs.Code.Visits.{CanFollow, Followed};
 ghost use Rattle.tables.specs.Filled.{at};
 
-use crate::doubts::{Looked, look_at};
 use crate::follow::follow;
-use crate::units::set_units;
 use clause_db::Store;
 use cnf_base::OutOfMemory;
 use propagation::Assumptions;
-use root_literals::{Kept, Roots};
+use root_literals::{Kept, Roots, start};
 use watch_lists::{SlotList, WatchLists};
-
-/// Makes sure that the literals that were visited are propagated to the clauses that are doubtful,
-/// or forgets all. The slot of a clause of which all literals are false; none where there is none.
-/// It takes no memory.
-fn settle(store: &Store, assumptions: &mut Assumptions, roots: &mut Roots) -> Option<u32>
-    requires nothing_assumed { assumptions.old.assumptions ≡ [] }
-    requires room { HasRoomForAll assumptions.old.trail.reserved
-        (maps.get (each_in_order store.now.live)) }
-    requires kept { IsKept store.now.live roots.old assumptions.old.trail.lits }
-    requires cut { roots.old.kept ≡ Cut }
-    ensures kept { IsKept store.now.live roots.new assumptions.new.trail.lits }
-    ensures cut { roots.new.kept ≡ Cut }
-    ensures clash { IfSome result (λ s.
-        IsFalseAt (maps.get (each_in_order store.now.live)) s assumptions.new.trail.lits) }
-    ensures sure { IfNone result (IsWatched (maps.get store.now.live)
-        (take (visits roots.new.history) assumptions.new.trail.lits)
-        assumptions.new.trail.lits) }
-    ensures begun { (visits roots.new.history ≡ 0) ⊎ HasGrown roots.old.history roots.new.history
-        assumptions.old.trail.lits assumptions.new.trail.lits }
-    ensures noted { (l : Literal) → IsSome (at roots.old.reasons l) →
-        IsSome (at roots.new.reasons l) }
-    ensures reserved { SameSet assumptions.new.trail.reserved assumptions.old.trail.reserved }
-    ensures assumptions { assumptions.new.assumptions ≡ assumptions.old.assumptions }
-    ensures starts { assumptions.new.starts ≡ assumptions.old.starts }
-{
-    let slots = roots.history.doubts.as_slice();
-    match look_at(store, slots, assumptions, &mut roots.reasons) {
-        Looked::Settled => None,
-        Looked::Clash(slot) => Some(slot),
-        Looked::Open => {
-            roots.cut(store, assumptions, 0);
-            None
-        }
-    }
-}
-
-/// Keeps the literals of the clauses of one literal too, where some may be missing, and leaves no
-/// doubt. It takes no memory.
-fn start(store: &Store, short: &SlotList, assumptions: &mut Assumptions, roots: &mut Roots)
-    requires listed { IsShortList (maps.get store.now.live) short.now }
-    requires nothing_assumed { assumptions.old.assumptions ≡ [] }
-    requires room { HasRoomForAll assumptions.old.trail.reserved
-        (maps.get (each_in_order store.now.live)) }
-    requires kept { IsKept store.now.live roots.old assumptions.old.trail.lits }
-    ensures kept { IsKept store.now.live roots.new assumptions.new.trail.lits }
-    ensures known { is_cut roots.new.kept ≡ false }
-    ensures begun { (visits roots.new.history ≡ 0) ⊎ HasGrown roots.old.history roots.new.history
-        assumptions.old.trail.lits assumptions.new.trail.lits }
-    ensures noted { (l : Literal) → IsSome (at roots.old.reasons l) →
-        IsSome (at roots.new.reasons l) }
-    ensures reserved { SameSet assumptions.new.trail.reserved assumptions.old.trail.reserved }
-    ensures assumptions { assumptions.new.assumptions ≡ assumptions.old.assumptions }
-    ensures starts { assumptions.new.starts ≡ assumptions.old.starts }
-{
-    if let Kept::Cut = roots.kept {
-        if let Some(slot) = settle(store, assumptions, roots) {
-            roots.kept = Kept::Clash(slot);
-            return;
-        }
-        match set_units(store, short.slots(), assumptions, &mut roots.reasons) {
-            Some(slot) => roots.kept = Kept::Clash(slot),
-            None => roots.kept = Kept::Behind,
-        }
-    }
-}
 
 /// Propagates the literals that are kept and were not propagated yet, up to a clash. It notes how
 /// many literals were true when each visit began, and of the first how many were when the ones

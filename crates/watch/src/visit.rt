@@ -4,7 +4,7 @@ ghost use Rattle.std.specs.Prelude.{◌≡◌, ℕ, ◌-◌, ◌<◌, ◌≤◌,
 ghost use Rattle.std.specs.FinMap as maps;
 ghost use Rattle.cnf_base.specs.Literals.{Clause, complement, has, size};
 ghost use Rattle.trail.specs.Trail.{AreNear, HasNoVariableTwice};
-ghost use Rattle.root_literals.specs.Watched.{watches};
+ghost use Rattle.watch_lists.specs.Watched.{watches};
 ghost use Rattle.watch.specs.Code.Visits.{IsEntryOf, IsVisit};
 
 use clause_db::{Slot, Store};

@@ -3,8 +3,8 @@
 //! So a visit reads one place of memory for a clause and its watched literals, and a move exchanges
 //! two literals of it. Contracts see each clause by rising literals: no move is seen there.
 
-ghost use Rattle.std.specs.Prelude.{◌≡◌, ◌≢◌, ℕ, [], ◌*◌, ◌≤◌, ◌<◌, ◌++◌, drop, filter, min, true};
-ghost use Rattle.std.specs.Prelude.{false, IsTrue, IfOk, OnOk, OnErr, IfSome, IfNone, IsSome};
+ghost use Rattle.std.specs.Prelude.{◌≡◌, ◌≢◌, [], ◌*◌, ◌≤◌, ◌<◌, drop, filter, min, true, false};
+ghost use Rattle.std.specs.Prelude.{IsTrue, IfOk, OnOk, OnErr};
 ghost use Rattle.std.specs.FinMap as maps;
 ghost use Rattle.cnf_base.specs.Literals.{Literal, complements, has};
 ghost use Rattle.theory.specs.Drat.{SameLive};
@@ -17,14 +17,12 @@ ghost use Rattle.root_literals.specs.Order.{each_in_order};
 ghost use Rattle.root_literals.specs.Roots.{is_up_to_date};
 ghost use Rattle.watch.specs.Code.ClauseSource.{clause_of};
 ghost use Rattle.watch.specs.Code.State.{IsWatch};
-ghost use Rattle.watch.specs.Watched.{watched_clauses};
+ghost use Rattle.watch_lists.specs.Watched.{watched_clauses};
 
 use crate::arrange::arrange;
 use crate::clause_source::{assume_from, reserve_given};
 use crate::clauses::{insert_clause, remove_clause};
-use crate::entries::{add_entries, remove_entries};
 use crate::gather::gathered;
-use crate::listing::listed;
 use crate::reason::is_reason_for_good;
 use crate::refresh::refresh;
 use crate::room::reserve_room;
@@ -36,7 +34,7 @@ use root_literals::Roots;
 use std::alloc::Global;
 use std::marker::Model;
 use trail::{Part, Value};
-use watch_lists::{SlotList, WatchLists};
+use watch_lists::{SlotList, WatchLists, add_entries, listed, remove_entries};
 
 /// Live clauses, and unit propagation with two watched literals a clause: what follows from an
 /// assumption is found without a look at the clauses that have nothing to do with it.
@@ -76,7 +74,7 @@ impl Model for Watch {
     ghost use Rattle.propagation.specs.Closure.{IsClosure};
     ghost use Rattle.std.specs.FinMap as maps;
     ghost use Rattle.root_literals.specs.Roots.{has_clash, is_up_to_date};
-    ghost use Rattle.root_literals.specs.Watched.{IsTautologyList};
+    ghost use Rattle.watch_lists.specs.Watched.{IsTautologyList};
     ghost use Rattle.watch.specs.Code.State.{IsWatch, variables_in, watch_code};
     ghost use Rattle.watch.specs.State.{WatchState};
 
@@ -86,9 +84,9 @@ impl Model for Watch {
 
     // The order of a clause's literals changes with each move, so it is not shown. Each field has
     // to be named here, those of the roots too. Of them the store alone has lists of literals of
-    // clauses; the tautologies are slots, and the roots have slots, places and counts. Of the literals that are true or follow,
-    // the trail and the closure have lists: the trail's length is shown, and the closure's list has
-    // what follows from the live clauses and nothing else.
+    // clauses; the tautologies are slots, and the roots have slots, places and counts. Of the
+    // literals that are true or follow, the trail and the closure have lists: the trail's length is
+    // shown, and the closure's list has what follows from the live clauses and nothing else.
     ghost view = { λ record {
       alloc = _;
       seed = _;
@@ -184,8 +182,8 @@ impl Watch {
         Watch::seeded(alloc, 0)
     }
 
-    /// The same, with clauses hashed by the seed, a number that whoever chooses them shouldn't know,
-    /// so that none are chosen that are slow to find. No answer depends on it.
+    /// The same, with clauses hashed by the seed, a number that whoever chooses them shouldn't
+    /// know, so that none are chosen that are slow to find. No answer depends on it.
     pub fn seeded(alloc: Global, seed: u64) -> Result<Self, OutOfMemory>
         ensures live { IfOk result (λ w. w.propagation.live ≡ maps.empty) }
         ensures nothing_assumed { IfOk result (λ w. w.propagation.assumptions ≡ []) }
@@ -241,8 +239,9 @@ impl Watch {
         self.make_lists()
     }
 
-    /// How many entries all watch lists have, two for each clause of two literals or more that is no
-    /// tautology; `2^64 - 1` where they are more. It makes the lists where they are still to be made.
+    /// How many entries all watch lists have, two for each clause of two literals or more that is
+    /// no tautology; `2^64 - 1` where they are more. It makes the lists where they are still to be
+    /// made.
     ///
     /// # Errors
     ///

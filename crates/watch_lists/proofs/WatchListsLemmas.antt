@@ -1,5 +1,8 @@
 -- Watch lists.
 pub mod Cursor
+pub mod Entries
 pub mod Lists
+pub mod Made
 pub mod Results
 pub mod SlotList
+pub mod Watched

@@ -1,4 +1,5 @@
 pub mod Cursor
 pub mod Entry
 pub mod Lists
+pub mod Watched
 pub mod Code

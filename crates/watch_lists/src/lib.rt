@@ -2,6 +2,8 @@
 #![tactic(auto)]
 
 mod cursor;
+mod entries;
+mod listing;
 mod lists;
 mod place_table;
 mod places;
@@ -10,6 +12,8 @@ mod taken;
 mod watcher;
 
 pub use cursor::Cursor;
+pub use entries::{add_entries, remove_entries};
+pub use listing::listed;
 pub use lists::WatchLists;
 pub use slot_list::SlotList;
 pub use watcher::Watcher;

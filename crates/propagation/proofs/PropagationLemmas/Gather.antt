@@ -1,19 +1,20 @@
 -- Clauses that are put into other slots one after the other are the same clauses.
 use Rattle.std.proofs.Common.{◌≡◌, ◌≢◌, ℕ, ◌+◌, ◌*◌, ◌<◌, true, false, cond, Some, None, List, []}
-use Rattle.std.proofs.Common.{◌∷◌, sum_by, IsSome, nat_lt, nat_le, ◌≤◌, sym, ap, ◌∙◌, arith, inl}
-use Rattle.std.proofs.Common.{inr, rules}
-use Rattle.std.specs.Ordering.{nat_cmp, is_eq}
+use Rattle.std.proofs.Common.{◌∷◌, sum_by, IsSome, nat_le, ◌≤◌, sym, ap, ◌∙◌, arith, inl, inr}
+use Rattle.std.proofs.Common.{rules}
+use Rattle.std.specs.Ordering.{nat_cmp}
 use Rattle.std.specs.FinMap as maps
 use Rattle.std.specs.FinMap.{FinMap}
-use Rattle.std.proofs.lemmas.Bool.{cases_lt, cases_eq, lt-leb, lt-ltb, le-ltb}
+use Rattle.std.proofs.lemmas.Bool.{cases_lt, lt-leb}
 use Rattle.std.proofs.lemmas.List.Sums.{sum_by-cons}
 use Rattle.cnf_base.specs.Literals.{Clause, same_clause, size}
 use Rattle.cnf_base.specs.Maps.{sum_over}
-use Rattle.cnf_base.proofs.MapLemmas.{same_maps, inserted_is, sum_insert}
+use Rattle.cnf_base.proofs.MapLemmas.{inserted_is, sum_insert}
 use Rattle.cnf_base.proofs.SetLemmas.{both_pass, same_back, same_symm, same_there, same_trans}
 use Rattle.cnf_base.proofs.SizeLemmas.{size_same}
 use Rattle.clause_db.specs.Store.{slots_for}
-use Rattle.propagation.proofs.PropagationLemmas.Counts.{tied}
+use Rattle.clause_db.proofs.StoreLemmas.Below.{below, below_all, below_next, below_none, below_same}
+use Rattle.clause_db.proofs.StoreLemmas.Below.{gone}
 use Rattle.propagation.specs.Assumptions.{Propagation}
 use Rattle.propagation.specs.Slots.{most_slots, slots_needed}
 use Rattle.theory.specs.Drat.{SameLive}
@@ -28,44 +29,6 @@ same_copy e c d same = grind (arith, both_pass, same_trans, same_symm)
 -- the same clauses, by how many copies there are of each
 abbrev pub AreCopies : FinMap nat_cmp Clause → FinMap nat_cmp Clause → Type 0
 AreCopies m n = (e : Clause) → sum_over (is_copy e) m ≡ sum_over (is_copy e) n
-
--- ---- The clauses in the slots below a number
-
-abbrev pub below : ℕ → FinMap nat_cmp Clause → FinMap nat_cmp Clause
-below n m = maps.retain_keys m (λ s. nat_lt s n)
-
-below_get : (n : ℕ) (m : FinMap nat_cmp Clause) (s : ℕ)
-    → maps.get (below n m) s ≡ cond (nat_lt s n) (maps.get m s) None
-below_get n m s = maps.get-retain_keys m (λ x. nat_lt x n) s (λ x e. ap (λ y. nat_lt y n) (sym (tied s (ap is_eq e))))
-
-there : (n : ℕ) (m : FinMap nat_cmp Clause) (s : ℕ) → s < n → maps.get (below n m) s ≡ maps.get m s
-there n m s low = cc (below_get n m s, lt-ltb s n low)
-
-pub gone : (n : ℕ) (m : FinMap nat_cmp Clause) (s : ℕ) → n ≤ s → maps.get (below n m) s ≡ None
-gone n m s high = grind (arith, below_get, le-ltb)
-
--- none is below the first one, and all are below a number that is above them
-pub below_none : (m : FinMap nat_cmp Clause) → below 0 m ≡ maps.empty
-below_none m = same_maps _ _ (λ s. gone 0 m s (omega arith) ∙ sym (maps.get-empty nat_cmp s))
-
-pub below_all : (n : ℕ) (m : FinMap nat_cmp Clause) → ((s : ℕ) → IsSome (maps.get m s) → s < n)
-    → below n m ≡ m
-below_all n m low = grind (arith, same_maps, below, there, cases_lt, gone)
-
-past : (s n : ℕ) → n ≤ s → s ≢ n → n + 1 ≤ s
-past s n le ne = omega (arith, le, ne)
-
--- a slot more, with a clause or without
-pub below_next : (n : ℕ) (m : FinMap nat_cmp Clause) (c : Clause) → maps.get m n ≡ Some c
-    → below (n + 1) m ≡ maps.insert (below n m) n c
-below_next n m c is = inserted_is (below n m) (below (n + 1) m) n c (there (n + 1) m n (omega arith) ∙ is) (λ s ne. elim (cases_lt s n) [
-  | inl lt ↦ there (n + 1) m s (omega (arith, lt)) ∙ sym (there n m s lt)
-  | inr le ↦ gone (n + 1) m s (past s n le ne) ∙ sym (gone n m s le)
-])
-
-pub below_same : (n : ℕ) (m : FinMap nat_cmp Clause) → maps.get m n ≡ None
-    → below (n + 1) m ≡ below n m
-below_same n m none = grind (arith, same_maps, cases_lt, there, cases_eq, gone, past)
 
 -- ---- What was put into other slots so far
 

@@ -2,9 +2,7 @@
 use Rattle.std.proofs.Common.{◌≡◌, ◌≢◌, ℕ, ◌+◌, ◌<◌, Bool, true, false, cond, eqb, eq-eqb, Option}
 use Rattle.std.proofs.Common.{Some, None, is_some, List, [], ◌∷◌, ◌++◌, length, take, refl, sym, ap}
 use Rattle.std.proofs.Common.{◌∙◌, subst, arith, inl, inr, ◌⊎◌, rules}
-use Rattle.std.proofs.lemmas.{Bool.cases_eq, Bool.true≢false, Bool.false≢true, Option.none-some}
 use Rattle.std.proofs.lemmas.List.{length-append, take_all, take-append-le}
-use Rattle.std.specs.{Ordering.nat_cmp, FinMap.FinMap}
 use Rattle.std.specs.FinMap as maps
 use Rattle.cnf_base.specs.Literals.{Literal, complement, Clause, has}
 use Rattle.cnf_base.proofs.SetLemmas.{has_append_left, has_append_right, has_head}
@@ -15,7 +13,6 @@ use Rattle.root_literals.specs.Roots.{AreNoted, AreReasoned, HasReasons, HaveUni
 use Rattle.root_literals.specs.Roots.{IsKept, IsKnown, has_clash, is_cut}
 use Rattle.root_literals.specs.Uses.{AreCounted, clause_in, is_in}
 use Rattle.root_literals.specs.Watched.{IsPart, IsMet, HasUnit, IsWatched}
-use Rattle.root_literals.specs.declared.{history.History.History, roots.Kept.Kept}
 use Rattle.root_literals.specs.declared.roots.Kept.TheVariants.{Cut, Behind, All, Clash}
 use Rattle.root_literals.specs.declared.roots.Roots.{Roots}
 use Rattle.root_literals.proofs.RootLemmas.Watched.{front_part, watched_grown, watched_most}
@@ -31,6 +28,12 @@ use Rattle.root_literals.proofs.RootLemmas.Reasons.{reasoned_taken}
 use Rattle.root_literals.proofs.RootLemmas.Uses.{counted_among, counted_longer, in_rest_too}
 use Rattle.trail.specs.declared.left.Left.{Left}
 use Rattle.trail.specs.declared.left.Left.TheVariants.{Nothing, One, More}
+use Rattle.std.proofs.lemmas.Bool.{cases_eq, true≢false, false≢true}
+use Rattle.std.proofs.lemmas.Option.{none-some}
+use Rattle.std.specs.Ordering.{nat_cmp}
+use Rattle.std.specs.FinMap.{FinMap}
+use Rattle.root_literals.specs.declared.history.History.{History}
+use Rattle.root_literals.specs.declared.roots.Kept.{Kept}
 
 only_one : (c : Clause) (m : Literal) → length c ≡ 1 → has c m ≡ true → (k : Literal) → has c k ≡ true → k ≡ m
 only_one [] m one there k h = absurd (false≢true h)

@@ -8,8 +8,9 @@ use Rattle.std.proofs.Math.Seq.{get_or-append_seam}
 use Rattle.cnf_base.specs.Literals.{Literal, has}
 use Rattle.theory.specs.Propagation.{Live}
 use Rattle.root_literals.specs.History.{IsHistory, IsRewound, trues_at, visits}
-use Rattle.root_literals.specs.{Watched.IsPart, Watched.IsWatched, declared.history.History.History}
 use Rattle.root_literals.proofs.RootLemmas.Watched.{front_part}
+use Rattle.root_literals.specs.Watched.{IsPart, IsWatched}
+use Rattle.root_literals.specs.declared.history.History.{History}
 
 -- ---- Fewer propagated literals
 

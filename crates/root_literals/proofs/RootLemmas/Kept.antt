@@ -1,19 +1,13 @@
 -- What is kept where clauses come and go.
 use Rattle.std.proofs.Common.{◌≡◌, ◌≢◌, ℕ, ◌+◌, ◌<◌, get_or, Bool, true, false, cond, eqb, eq-eqb}
 use Rattle.std.proofs.Common.{ne_eqb, ◌||◌, Option, Some, None, is_some, option_map, List, [], ◌∷◌}
-use Rattle.std.proofs.Common.{rules}
-use Rattle.std.proofs.Common.{length, take, ◌≤◌, refl, sym, ap, ◌∙◌, subst, inl, inr}
-use Rattle.std.proofs.lemmas.{Bool.cases_eq, Bool.false≢true, Option.none-some, Option.same_Some}
-use Rattle.std.specs.{Ordering.nat_cmp, FinMap.FinMap}
+use Rattle.std.proofs.Common.{rules, length, take, ◌≤◌, refl, sym, ap, ◌∙◌, subst, inl, inr}
 use Rattle.std.specs.FinMap as maps
 use Rattle.cnf_base.specs.Literals.{Literal, complement, Clause, has}
-use Rattle.cnf_base.proofs.{MapLemmas.remove_here, MapLemmas.remove_other, SetLemmas.has_head}
 use Rattle.tables.specs.Filled.{at}
 use Rattle.root_literals.specs.History.{IsHistory, IsRewound, sure_of, visits}
-use Rattle.root_literals.specs.declared.{history.History.History, roots.Kept.Kept}
 use Rattle.root_literals.specs.declared.roots.Kept.TheVariants.{Cut, Behind, All}
 use Rattle.root_literals.specs.declared.roots.Kept.TheVariants.{Clash as KeptClash}
-use Rattle.root_literals.specs.{declared.roots.Roots.Roots, Order.in_order, Order.each_in_order}
 use Rattle.root_literals.specs.Roots.{AreNoted, AreReasoned, HasReasons, HaveUnits, IsArranged}
 use Rattle.root_literals.specs.Roots.{IsFalseAt, IsKept, IsKnown, IsReasonAt, has_clash, is_cut}
 use Rattle.root_literals.specs.Roots.{seen_of}
@@ -22,12 +16,23 @@ use Rattle.root_literals.specs.Uses.{AreCounted, clause_in, is_in, times}
 use Rattle.root_literals.proofs.RootLemmas.Order.{get_ordered, has-in_order, seen_there}
 use Rattle.root_literals.proofs.RootLemmas.History.{history_cut, history_none, history_noted}
 use Rattle.root_literals.proofs.RootLemmas.History.{watched_cut, watched_none}
-use Rattle.root_literals.proofs.RootLemmas.Watched.{watched_first, watched_sure}
+use Rattle.watch_lists.proofs.WatchListsLemmas.Watched.{watched_first}
+use Rattle.root_literals.proofs.RootLemmas.Watched.{watched_sure}
 use Rattle.root_literals.proofs.RootLemmas.Reasons.{reasoned_among, reasoned_cut, reasoned_instead}
 use Rattle.root_literals.proofs.RootLemmas.Uses.{counted_among, counted_instead, in_rest}
 use Rattle.theory.specs.Propagation.{Live}
 use Rattle.trail.specs.declared.left.Left.TheVariants.{One, More}
 use Rattle.trail.specs.Trail.{HasNoVariableTwice}
+use Rattle.std.proofs.lemmas.Bool.{cases_eq, false≢true}
+use Rattle.std.proofs.lemmas.Option.{none-some, same_Some}
+use Rattle.std.specs.Ordering.{nat_cmp}
+use Rattle.std.specs.FinMap.{FinMap}
+use Rattle.cnf_base.proofs.MapLemmas.{remove_here, remove_other}
+use Rattle.cnf_base.proofs.SetLemmas.{has_head}
+use Rattle.root_literals.specs.declared.history.History.{History}
+use Rattle.root_literals.specs.declared.roots.Kept.{Kept}
+use Rattle.root_literals.specs.declared.roots.Roots.{Roots}
+use Rattle.root_literals.specs.Order.{in_order, each_in_order}
 
 -- ---- One clause more
 

@@ -5,12 +5,9 @@ use Rattle.std.proofs.Common.{sym, ap, ◌∙◌, subst, arith, inl, inr, ◌⊎
 use Rattle.std.proofs.lemmas.Bool.{cases_eq, cases_lt, false≢true, false_from_ne_true, or_cases}
 use Rattle.std.proofs.lemmas.Bool.{or_left, or_right, true≢false}
 use Rattle.std.proofs.lemmas.List.Edits.{get_or-remove_above, get_or-remove_below, length-remove}
-use Rattle.std.proofs.lemmas.{Grind.get_or_default_zero, Option.same_Some}
-use Rattle.std.specs.{List.remove, Ordering.nat_cmp, FinMap.FinMap}
 use Rattle.std.specs.FinMap as maps
 use Rattle.cnf_base.specs.Literals.{Literal, complement, Clause, has, variable}
 use Rattle.cnf_base.proofs.LiteralLemmas.{complement-complement}
-use Rattle.cnf_base.proofs.{SetLemmas.has_cases, SetLemmas.has_head, SizeLemmas.has_at}
 use Rattle.cnf_base.proofs.MemberLemmas.{has_front, place_in_front}
 use Rattle.clause_db.specs.Store.{copies_with}
 use Rattle.tables.specs.Filled.{at}
@@ -26,14 +23,23 @@ use Rattle.root_literals.specs.Roots.{AreNoted, AreReasoned, FollowsReasons, Hav
 use Rattle.root_literals.specs.Roots.{IsKept, IsKnown, IsUnneeded, has_clash, is_cut}
 use Rattle.root_literals.specs.Uses.{AreCounted, clause_in, is_in, times}
 use Rattle.root_literals.specs.Watched.{HasUnit, IsPart, IsWatched}
-use Rattle.root_literals.specs.declared.{history.History.History, roots.Kept.Kept}
 use Rattle.root_literals.specs.declared.roots.Kept.TheVariants.{Cut, Behind, All}
 use Rattle.root_literals.specs.declared.roots.Kept.TheVariants.{Clash as KeptClash}
 use Rattle.root_literals.specs.declared.roots.Roots.{Roots}
-use Rattle.root_literals.proofs.RootLemmas.{History.front_in_front, Kept.noted_left}
-use Rattle.root_literals.proofs.RootLemmas.{Kept.still_seen, Kept.was_there, Order.seen_has_at}
-use Rattle.root_literals.proofs.RootLemmas.{Order.there_seen, Uses.counted_out, Uses.in_rest}
 use Rattle.root_literals.proofs.RootLemmas.Watched.{front_part, sure_by, sure_is}
+use Rattle.std.proofs.lemmas.Grind.{get_or_default_zero}
+use Rattle.std.proofs.lemmas.Option.{same_Some}
+use Rattle.std.specs.List.{remove}
+use Rattle.std.specs.Ordering.{nat_cmp}
+use Rattle.std.specs.FinMap.{FinMap}
+use Rattle.cnf_base.proofs.SetLemmas.{has_cases, has_head}
+use Rattle.cnf_base.proofs.SizeLemmas.{has_at}
+use Rattle.root_literals.specs.declared.history.History.{History}
+use Rattle.root_literals.specs.declared.roots.Kept.{Kept}
+use Rattle.root_literals.proofs.RootLemmas.History.{front_in_front}
+use Rattle.root_literals.proofs.RootLemmas.Kept.{noted_left, still_seen, was_there}
+use Rattle.root_literals.proofs.RootLemmas.Order.{seen_has_at, there_seen}
+use Rattle.root_literals.proofs.RootLemmas.Uses.{counted_out, in_rest}
 
 -- one clause has the literal
 pub absent_else : (live : FinMap nat_cmp Clause) (slot : ℕ) (l : Literal) → maps.get live slot ≡ Some (l ∷ []) → 1 ≡ copies_with live l → IsAbsent (maps.get (maps.remove live slot)) l

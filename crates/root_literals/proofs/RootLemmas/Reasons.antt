@@ -1,17 +1,19 @@
 -- Literals that follow from their reasons.
 use Rattle.std.proofs.Common.{◌≡◌, ◌≢◌, ℕ, Bool, true, Option, Some, is_some, List, [], ◌∷◌, ◌++◌}
 use Rattle.std.proofs.Common.{length, take, sym, ap, ◌∙◌, subst, arith, inl, inr, ◌≤◌}
-use Rattle.std.proofs.lemmas.{Bool.cases_eq, Bool.cases_lt, List.length-append, List.length-take}
-use Rattle.std.proofs.lemmas.{List.take-append-le, List.take-take, List.take_all, Option.same_Some}
 use Rattle.cnf_base.specs.Literals.{Literal, complement, Clause, has, variable}
 use Rattle.cnf_base.proofs.SetLemmas.{has_append_left, has_append_right, has_head}
 use Rattle.cnf_base.proofs.MemberLemmas.{place_in_front}
 use Rattle.theory.specs.Propagation.{Live, Forced}
 use Rattle.propagation.specs.Assumptions.{HasAt}
 use Rattle.trail.specs.Trail.{HasNoVariableTwice}
-use Rattle.trail.proofs.TrailLemmas.{Longer.pushed_each, Truth.places_apart}
 use Rattle.root_literals.specs.Roots.{AreReasoned, FollowsReasons, IsReasonAt}
 use Rattle.root_literals.proofs.RootLemmas.Watched.{front_part}
+use Rattle.std.proofs.lemmas.Bool.{cases_eq, cases_lt}
+use Rattle.std.proofs.lemmas.List.{length-append, length-take, take-append-le, take-take, take_all}
+use Rattle.std.proofs.lemmas.Option.{same_Some}
+use Rattle.trail.proofs.TrailLemmas.Longer.{pushed_each}
+use Rattle.trail.proofs.TrailLemmas.Truth.{places_apart}
 
 -- the literals pass where the complements of the others of each reason let its literal pass
 abbrev AllPass : Live → (Literal → Option ℕ) → (Literal → Bool) → List Literal → Type 0

@@ -3,22 +3,29 @@ use Rattle.std.proofs.Common.{◌≡◌, ◌≢◌, ℕ, zero, suc, ◌+◌, ◌
 use Rattle.std.proofs.Common.{eqb-true, eq-eqb, Option, Some, None, option_map, List, [], ◌∷◌, ◌++◌}
 use Rattle.std.proofs.Common.{length, get_or, take, refl, sym, ap, ◌∙◌, subst, arith, inl, inr}
 use Rattle.std.proofs.Common.{rules}
-use Rattle.std.proofs.lemmas.Bool.{cases_eq, cases_lt, false≢true, or_right, Decides.nat_tests}
-use Rattle.std.proofs.lemmas.List.{length-take, take-take, take_more, Edits.length-remove}
+use Rattle.std.proofs.lemmas.Bool.{cases_eq, cases_lt, false≢true, or_right}
+use Rattle.std.proofs.lemmas.List.{length-take, take-take, take_more}
 use Rattle.std.proofs.lemmas.Grind.{common_steps}
-use Rattle.std.specs.{List.remove, Ordering.nat_cmp, FinMap.FinMap}
 use Rattle.std.specs.FinMap as maps
 use Rattle.cnf_base.specs.Literals.{Literal, Clause, has, variable}
 use Rattle.cnf_base.proofs.MapLemmas.{remove_here, remove_other}
-use Rattle.cnf_base.proofs.{MemberLemmas.place_in_front, SetLemmas.has_cases, SetLemmas.has_head}
 use Rattle.cnf_base.proofs.WalkLemmas.{has_more}
 use Rattle.theory.specs.Propagation.{Live}
 use Rattle.trail.specs.Trail.{HasNoVariableTwice}
-use Rattle.trail.proofs.TrailLemmas.{Truth.places_apart, Without.none_left}
-use Rattle.root_literals.specs.{Order.each_in_order, Uses.AreCounted, Uses.clause_in, Uses.is_in}
-use Rattle.root_literals.specs.{Uses.times, Uses.uses_of, declared.uses.Uses.Uses}
 use Rattle.root_literals.proofs.RootLemmas.Order.{get_ordered, has-in_order}
 use Rattle.root_literals.proofs.RootLemmas.Watched.{front_part}
+use Rattle.std.proofs.lemmas.Bool.Decides.{nat_tests}
+use Rattle.std.proofs.lemmas.List.Edits.{length-remove}
+use Rattle.std.specs.List.{remove}
+use Rattle.std.specs.Ordering.{nat_cmp}
+use Rattle.std.specs.FinMap.{FinMap}
+use Rattle.cnf_base.proofs.MemberLemmas.{place_in_front}
+use Rattle.cnf_base.proofs.SetLemmas.{has_cases, has_head}
+use Rattle.trail.proofs.TrailLemmas.Truth.{places_apart}
+use Rattle.trail.proofs.TrailLemmas.Without.{none_left}
+use Rattle.root_literals.specs.Order.{each_in_order}
+use Rattle.root_literals.specs.Uses.{AreCounted, clause_in, is_in, times, uses_of}
+use Rattle.root_literals.specs.declared.uses.Uses.{Uses}
 
 -- one, if the clause has the literal
 abbrev pub one : Option Clause → Literal → ℕ

@@ -1,13 +1,12 @@
 -- A list whose clauses are visited, after an entry was kept or taken out.
-use Rattle.std.proofs.Common.{◌≡◌, ◌≢◌, ℕ, ◌+◌, ◌<◌, Some, List, length, get_or, set, take}
-use Rattle.std.proofs.Common.{drop, suc, sym, ap, ◌∙◌, subst, arith}
+use Rattle.std.proofs.Common.{◌≡◌, ◌≢◌, ℕ, ◌+◌, ◌<◌, Some, List, length, get_or, set, take, drop}
+use Rattle.std.proofs.Common.{suc, sym, ap, ◌∙◌, subst, arith}
 use Rattle.std.specs.List.{remove}
 use Rattle.std.specs.Ordering.{nat_cmp}
 use Rattle.std.specs.FinMap as maps
 use Rattle.std.specs.FinMap.{FinMap}
 use Rattle.std.proofs.lemmas.List.{get_or-set_same, length-set, length-take-le, set-get_or}
-use Rattle.std.proofs.lemmas.List.{take-append-le}
-use Rattle.std.proofs.lemmas.List.{take-set, take-take}
+use Rattle.std.proofs.lemmas.List.{take-append-le, take-set, take-take}
 use Rattle.std.proofs.lemmas.List.Edits.{length-remove}
 use Rattle.cnf_base.specs.Literals.{Literal, Clause}
 use Rattle.watch_lists.specs.Cursor.{CursorState}

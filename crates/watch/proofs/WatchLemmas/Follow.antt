@@ -1,46 +1,17 @@
 -- Visits of the clauses in a list, one after the other.
 use Rattle.std.proofs.Common.{◌≡◌, ◌≢◌, ℕ, ◌+◌, ◌<◌, ◌≤◌, Bool, true, false, cond, eqb, eq-eqb}
-use Rattle.std.proofs.Common.{eqb-true, ne_eqb, ◌||◌, Option, Some, None, List, [], ◌∷◌, length}
-use Rattle.std.proofs.Common.{get_or, take, refl, sym, ap, ◌∙◌, subst, arith, inl, inr}
-use Rattle.std.proofs.lemmas.Bool.{cases_eq, false≢true}
+use Rattle.std.proofs.Common.{eqb-true, ne_eqb, Option, Some, None, List, [], length, get_or, take}
+use Rattle.std.proofs.Common.{refl, sym, ap, ◌∙◌, subst, arith, inl, inr}
+use Rattle.std.proofs.lemmas.Bool.{cases_eq}
 use Rattle.std.proofs.lemmas.List.{take_all}
-use Rattle.std.proofs.lemmas.List.Sums.{sum_by_more, sum_by_more_le, sum_by-cons}
-use Rattle.cnf_base.specs.Literals.{Literal, Clause, has}
+use Rattle.std.proofs.lemmas.List.Sums.{sum_by_more, sum_by_more_le}
+use Rattle.cnf_base.specs.Literals.{Literal, Clause}
 use Rattle.theory.specs.Propagation.{Live}
-use Rattle.watch_lists.specs.Lists.{entries_of, times_in, unfit_entries}
-use Rattle.clause_db.specs.Store.{is_tautology}
-use Rattle.cnf_base.proofs.SetLemmas.{both_pass}
-use Rattle.root_literals.specs.Watched.{IsPart, watches, entries_for, IsListed, IsMet}
-use Rattle.root_literals.specs.Watched.{IsTautologyList, tautology_for}
+use Rattle.watch_lists.specs.Lists.{entries_of, unfit_entries}
+use Rattle.root_literals.specs.Watched.{IsPart, IsMet}
+use Rattle.watch_lists.specs.Watched.{watches, entries_for, IsListed}
 use Rattle.watch_lists.specs.declared.watcher.Watcher.{Watcher}
 use Rattle.root_literals.proofs.RootLemmas.Watched.{met_more, met_unwatched}
-
--- ---- Slots in a list
-
-pub has_times : (xs : List ℕ) (s : ℕ) → 0 < times_in s xs → has xs s ≡ true
-has_times [] s h = absurd (omega (arith, h))
-has_times (x ∷ xs) s h = by_test (eqb x s) refl (has_times xs s)
-  where
-    by_test : (b : Bool) → eqb x s ≡ b → (0 < times_in s xs → has xs s ≡ true) → (b || has xs s) ≡ true
-    by_test true e rest = refl
-    by_test false e rest =
-        let split = sum_by-cons (λ y. cond (eqb y s) 1 0) x xs in
-        let none = ap (λ b. cond {A = ℕ} b 1 0) e in
-        rest (omega (arith, h, split, none))
-
-pub times_has : (xs : List ℕ) (s : ℕ) → has xs s ≡ true → 0 < times_in s xs
-times_has [] s h = absurd (false≢true h)
-times_has (x ∷ xs) s h = by_test (eqb x s) refl (times_has xs s) h
-  where
-    by_test : (b : Bool) → eqb x s ≡ b → (has xs s ≡ true → 0 < times_in s xs) → (b || has xs s) ≡ true → 0 < times_in s (x ∷ xs)
-    by_test true e rest g =
-        let split = sum_by-cons (λ y. cond (eqb y s) 1 0) x xs in
-        let one = ap (λ b. cond {A = ℕ} b 1 0) e in
-        omega (arith, split, one)
-    by_test false e rest g =
-        let split = sum_by-cons (λ y. cond (eqb y s) 1 0) x xs in
-        let more = rest g in
-        omega (arith, split, more)
 
 entries_one : (o : Option Clause) (l : Literal) → entries_for o l ≤ 1
 entries_one None l = omega arith
@@ -130,17 +101,3 @@ hand_taken lists after l list is others k = by_test (eqb k l) refl
     by_test : (b : Bool) → eqb k l ≡ b → cond b list (after k) ≡ lists k
     by_test true e = is ∙ ap lists (sym (eqb-true k l e))
     by_test false e = others k ∙ ap (λ b. cond b [] (lists k)) e
-
--- ---- Tautologies
-
--- a slot stands in their list where its clause is one
-pub tautology_listed : (live : Live) (list : List ℕ) → IsTautologyList live list → (s : ℕ) (c : Clause) → live s ≡ Some c → has list s ≡ is_tautology c
-tautology_listed live list listed s c here =
-    let count = listed.listed s ∙ ap tautology_for here in
-    both_pass (has list s) (is_tautology c)
-    (λ h. let some = times_has list s h in by_count (is_tautology c) (omega (arith, some, count)))
-    (λ h. has_times list s (let one = ap (λ b. cond {A = ℕ} b 1 0) h in omega (arith, one, count)))
-  where
-    by_count : (b : Bool) → 0 < cond {A = ℕ} b 1 0 → b ≡ true
-    by_count true h = refl
-    by_count false h = absurd (omega (arith, h))

@@ -18,10 +18,10 @@ use Rattle.theory.specs.Propagation.{Live}
 use Rattle.watch_lists.specs.Lists.{entries_of, fits, unfit_entries}
 use Rattle.clause_db.specs.Store.{is_tautology}
 use Rattle.clause_db.proofs.StoreLemmas.Swap.{has_swapped}
-use Rattle.root_literals.specs.Watched.{watches, is_first, is_short, entries_for, short_for, IsListed}
-use Rattle.root_literals.specs.Watched.{IsMet}
-use Rattle.root_literals.proofs.RootLemmas.Watched.{tautology_alike, watches_first}
-use Rattle.root_literals.specs.Watched.{IsWatched}
+use Rattle.watch_lists.specs.Watched.{watches, is_first, is_short, entries_for, short_for, IsListed}
+use Rattle.root_literals.specs.Watched.{IsMet, IsWatched}
+use Rattle.watch_lists.proofs.WatchListsLemmas.Made.{and_false, and_true}
+use Rattle.watch_lists.proofs.WatchListsLemmas.Watched.{tautology_alike, watches_first}
 use Rattle.root_literals.specs.History.{sure_of}
 use Rattle.root_literals.proofs.RootLemmas.Watched.{sure_by, sure_is}
 use Rattle.cnf_base.proofs.MemberLemmas.{has_place, has_front}
@@ -118,14 +118,6 @@ pub places_apart : (c : Clause) (i j : ℕ) (l m : Literal) → size c ≡ lengt
 places_apart c i j l m different low inside l_is m_is same =
     let here = has_front c j i low (omega (arith, low, inside)) in
     true≢false (sym here ∙ ap (has (take j c)) (l_is ∙ same ∙ sym m_is) ∙ distinct_before c j (get_or c j 0) different inside (sym (get_or_default_zero c j (get_or c j 0) inside)))
-
-pub and_true : (b : Bool) → cond {A = ℕ} (b && true) 1 0 ≡ cond b 1 0
-and_true true = refl
-and_true false = refl
-
-pub and_false : (b : Bool) → cond {A = ℕ} (b && false) 1 0 ≡ 0
-and_false true = refl
-and_false false = refl
 
 -- ---- The lists
 

@@ -1,8 +1,8 @@
 -- What holds of watched literals, as assumptions come and go.
-use Rattle.std.proofs.Common.{◌≡◌, ℕ, ◌+◌, ◌*◌, ◌/◌, ◌<◌, ◌≤◌, Bool, true, false}
-use Rattle.std.proofs.Common.{◌&&◌, ◌||◌, not, cond, eqb, Option, Some, None, is_some, nat_le, option_map}
-use Rattle.std.proofs.Common.{drop, slice_index, List, [], ◌∷◌, length, take, refl, sym, ap, ◌∙◌}
-use Rattle.std.proofs.Common.{subst, arith}
+use Rattle.std.proofs.Common.{◌≡◌, ℕ, ◌+◌, ◌*◌, ◌/◌, ◌<◌, ◌≤◌, Bool, true, false, ◌&&◌, ◌||◌, not}
+use Rattle.std.proofs.Common.{cond, eqb, Option, Some, None, is_some, nat_le, option_map, drop}
+use Rattle.std.proofs.Common.{slice_index, List, [], ◌∷◌, length, take, refl, sym, ap, ◌∙◌, subst}
+use Rattle.std.proofs.Common.{arith}
 use Rattle.std.specs.Ordering.{nat_cmp}
 use Rattle.std.specs.FinMap as maps
 use Rattle.std.specs.FinMap.{FinMap}
@@ -14,21 +14,19 @@ use Rattle.propagation.specs.Code.Exact.{AreExact}
 use Rattle.propagation.specs.Code.Scan.{IsHeld}
 use Rattle.theory.specs.Sets.{SameSet}
 use Rattle.trail.specs.Trail.{HasRoomForAll}
-use Rattle.watch_lists.specs.Lists.{entries_in, entries_of, list_at, unfit_entries}
-use Rattle.watch_lists.specs.Lists.{times_in}
+use Rattle.watch_lists.specs.Lists.{entries_in, entries_of, list_at, unfit_entries, times_in}
 use Rattle.root_literals.specs.History.{IsHistory, sure_of}
 use Rattle.root_literals.specs.Order.{each_in_order, in_order}
 use Rattle.root_literals.specs.Roots.{IsKept, IsKnown, IsStanding, is_up_to_date}
 use Rattle.propagation.specs.Code.Closure.{AreForced}
 use Rattle.watch.specs.Code.State.{AddsRoom, AreLists, HaveReasons, IsWatch}
-use Rattle.watch.specs.Code.Visits.{PropagatesTo}
-use Rattle.root_literals.specs.Watched.{IsPart, AreUnchanged, AreWatched, HasEntry, IsListed}
-use Rattle.root_literals.specs.Watched.{AddsFitting, IsShortList, IsTautologyList, IsWatched, is_short}
-use Rattle.root_literals.specs.Watched.{is_unwatched, tautology_for}
+use Rattle.root_literals.specs.Code.Propagated.{PropagatesTo}
+use Rattle.root_literals.specs.Watched.{IsPart, AreWatched, IsWatched}
+use Rattle.watch_lists.specs.Watched.{AreUnchanged, HasEntry, IsListed, AddsFitting, IsShortList}
+use Rattle.watch_lists.specs.Watched.{IsTautologyList, is_short, is_unwatched, tautology_for}
+use Rattle.watch_lists.specs.Watched.{short_for, watched_clauses}
 use Rattle.clause_db.specs.Store.{is_tautology}
-use Rattle.root_literals.specs.Watched.{short_for}
 use Rattle.propagation.specs.Slots.{short_clauses}
-use Rattle.watch.specs.Watched.{watched_clauses}
 use Rattle.propagation.specs.declared.answer.Answer.{Answer}
 use Rattle.propagation.specs.declared.answer.Answer.TheVariants.{Quiet}
 use Rattle.watch_lists.specs.declared.lists.WatchLists.{WatchLists}
@@ -39,12 +37,14 @@ use Rattle.propagation.proofs.PropagationLemmas.Exact.{begins_on, longer_from}
 use Rattle.trail.proofs.TrailLemmas.Longer.{has_begun}
 use Rattle.propagation.proofs.PropagationLemmas.Scan.{held_reserved}
 use Rattle.root_literals.proofs.RootLemmas.Watched.{front_part}
-use Rattle.watch.proofs.WatchLemmas.Lists.{added, is_counted, lists_added, lists_removed, lists_same, removed}
-use Rattle.watch.proofs.WatchLemmas.Lists.{short_weight}
-use Rattle.watch.proofs.WatchLemmas.Kept.{kept_carried, kept_forced, roots_alone, roots_part}
+use Rattle.watch_lists.proofs.WatchListsLemmas.Made.{added, is_counted, removed}
+use Rattle.watch.proofs.WatchLemmas.Lists.{lists_added, lists_removed, lists_same, short_weight}
+use Rattle.root_literals.proofs.RootLemmas.Carried.{kept_carried, kept_forced, roots_alone}
+use Rattle.root_literals.proofs.RootLemmas.Carried.{roots_part}
 use Rattle.root_literals.proofs.RootLemmas.Kept.{kept_nothing, seen_same}
-use Rattle.root_literals.proofs.RootLemmas.Order.{get_ordered, has-in_order, ordered_empty, size-in_order, sum_ordered}
-use Rattle.root_literals.proofs.RootLemmas.Watched.{tautology_alike}
+use Rattle.root_literals.proofs.RootLemmas.Order.{get_ordered, has-in_order, ordered_empty}
+use Rattle.root_literals.proofs.RootLemmas.Order.{size-in_order, sum_ordered}
+use Rattle.watch_lists.proofs.WatchListsLemmas.Watched.{tautology_alike}
 use Rattle.root_literals.proofs.RootLemmas.Reasons.{reasoned_same, reasoned_some}
 use Rattle.root_literals.proofs.RootLemmas.Uses.{counted_in_order, counted_same}
 use Rattle.root_literals.specs.Uses.{times}

@@ -1,8 +1,7 @@
 -- A clause whose first two literals are put in the order in which a given one is the second.
-use Rattle.std.proofs.Common.{◌&&◌, not}
-use Rattle.std.proofs.Common.{◌≡◌, ℕ, zero, suc, ◌+◌, ◌-◌, ◌<◌, ◌≤◌, Bool, true, false, cond, eqb}
-use Rattle.std.proofs.Common.{◌||◌, Option, Some, List, [], ◌∷◌, length, get_or, swap, refl, sym, ap}
-use Rattle.std.proofs.Common.{◌∙◌, arith}
+use Rattle.std.proofs.Common.{◌&&◌, not, ◌≡◌, ℕ, zero, suc, ◌+◌, ◌-◌, ◌<◌, ◌≤◌, Bool, true, false}
+use Rattle.std.proofs.Common.{cond, eqb, ◌||◌, Option, Some, List, [], ◌∷◌, length, get_or, swap}
+use Rattle.std.proofs.Common.{refl, sym, ap, ◌∙◌, arith}
 use Rattle.std.specs.Ordering.{nat_cmp}
 use Rattle.std.specs.FinMap as maps
 use Rattle.std.specs.FinMap.{FinMap}
@@ -14,17 +13,17 @@ use Rattle.cnf_base.proofs.MapLemmas.{insert_here, insert_twice}
 use Rattle.clause_db.proofs.StoreLemmas.Swap.{has_swapped}
 use Rattle.propagation.specs.Assumptions.{AssumptionsState}
 use Rattle.clause_db.specs.Store.{is_tautology}
-use Rattle.root_literals.specs.Watched.{IsListed, is_first, is_short, watches}
-use Rattle.root_literals.proofs.RootLemmas.Watched.{tautology_alike}
+use Rattle.watch_lists.specs.Watched.{IsListed, is_first, is_short, watches}
+use Rattle.watch_lists.proofs.WatchListsLemmas.Watched.{tautology_alike}
 use Rattle.root_literals.proofs.RootLemmas.Order.{ordered_same}
 use Rattle.theory.proofs.PropagationLemmas.Forced.{forced_assumed}
-use Rattle.watch.specs.Code.Visits.{IsExchange, IsExchangeAt, PropagatesTo}
+use Rattle.watch.specs.Code.Visits.{IsExchange, IsExchangeAt}
+use Rattle.root_literals.specs.Code.Propagated.{PropagatesTo}
 use Rattle.watch.specs.declared.visit.Exchange.{Exchange}
 use Rattle.watch_lists.specs.declared.watcher.Watcher.{Watcher}
 use Rattle.root_literals.specs.Order.{each_in_order}
-use Rattle.watch.proofs.WatchLemmas.Moves.{listed_moved, shorts_moved}
-use Rattle.watch.proofs.WatchLemmas.Moves.{watched_moved}
-use Rattle.watch.proofs.WatchLemmas.PropagatesTo.{extends_none}
+use Rattle.watch.proofs.WatchLemmas.Moves.{listed_moved, shorts_moved, watched_moved}
+use Rattle.root_literals.proofs.RootLemmas.Propagated.{extends_none}
 
 or_turned : (a b : Bool) → (b || a) ≡ (a || b)
 or_turned true true = refl

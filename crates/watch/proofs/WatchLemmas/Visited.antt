@@ -9,9 +9,9 @@ use Rattle.cnf_base.specs.Literals.{Literal, Clause, complement, has, variable}
 use Rattle.cnf_base.proofs.LiteralLemmas.{complement-complement}
 use Rattle.cnf_base.proofs.MemberLemmas.{has_place}
 use Rattle.propagation.specs.Assumptions.{AssumptionsState}
-use Rattle.root_literals.specs.Order.{in_order}
-use Rattle.watch.specs.Code.Visits.{CanFollow, CanSet, CanVisit, Followed, IsEntryOf, IsInHand}
-use Rattle.watch.specs.Code.Visits.{IsFound, IsFoundNext, PropagatesTo, Visited}
+use Rattle.watch.specs.Code.Visits.{CanFollow, CanVisit, Followed, IsEntryOf, IsInHand, IsFound}
+use Rattle.watch.specs.Code.Visits.{IsFoundNext, Visited}
+use Rattle.root_literals.specs.Code.Propagated.{PropagatesTo}
 use Rattle.watch.specs.declared.follow.Found.{Found}
 use Rattle.watch.specs.declared.follow.Found.TheVariants.{Unit}
 use Rattle.watch.specs.declared.follow.FoundAt.{FoundAt}
@@ -23,25 +23,9 @@ use Rattle.trail.specs.Trail.{HasNoVariableTwice, TrailState}
 use Rattle.trail.proofs.TrailLemmas.Longer.{has_begun}
 use Rattle.trail.proofs.TrailLemmas.Values.{fits_within}
 use Rattle.watch_lists.proofs.WatchListsLemmas.Lists.{entry_at}
-use Rattle.watch.proofs.WatchLemmas.Kept.{noted_carried}
 use Rattle.watch.proofs.WatchLemmas.Moves.{entry_alive}
-use Rattle.root_literals.proofs.RootLemmas.Order.{has-in_order, seen_there}
-use Rattle.watch.proofs.WatchLemmas.PropagatesTo.{propagates_none, propagates_on}
-
--- there is room for a literal of a clause, and for its reason
-pub room_for : {live : FinMap nat_cmp Clause} {held : AssumptionsState} {reason_of : Literal → Option ℕ} → CanSet live held reason_of → (slot : ℕ) (c : Clause) → maps.get live slot ≡ Some c → (m : Literal) → has c m ≡ true →
-    (has held.trail.reserved (m / 2) ≡ true) × (is_some (reason_of m) ≡ true)
-room_for {live} can slot c here m member =
-    let shown = seen_there live slot c here in
-    let there = has-in_order c m ∙ member in
-    (can.room.each slot (in_order c) shown m there, can.noted.each slot (in_order c) shown m there)
-
--- there still is after visits
-pub can_set_on : {a b : FinMap nat_cmp Clause} {x y : AssumptionsState} {r s : Literal → Option ℕ} → CanSet a x r → PropagatesTo a b x y r s → CanSet b y s
-can_set_on {a} {b} {x} {y} {r} {s} can carried = record {
-  room = record { each = λ k c here l member. carried.extends.reserved (l / 2) ∙ can.room.each k c (ap (λ m. maps.get m k) (sym carried.same) ∙ here) l member };
-  noted = noted_carried a b x y r s carried can.noted;
-}
+use Rattle.root_literals.proofs.RootLemmas.Carried.{can_set_on, room_for}
+use Rattle.root_literals.proofs.RootLemmas.Propagated.{propagates_none, propagates_on}
 
 -- they make no more literals true than there was room for
 pub fits_on : {a b : FinMap nat_cmp Clause} {x y : AssumptionsState} {r s : Literal → Option ℕ} → PropagatesTo a b x y r s → {t : TrailState} → t ≡ y.trail → HasNoVariableTwice t.lits →

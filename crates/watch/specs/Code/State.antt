@@ -3,22 +3,22 @@ use Rattle.std.specs.Coded.{Coded, code_by, coded×, coded_bool, coded_list, cod
 use Rattle.std.specs.FinMap as maps
 use Rattle.std.specs.FinMap.{FinMap}
 use Rattle.std.specs.Ordering.{nat_cmp}
-use Rattle.std.specs.Prelude.{ℕ, List, Bool, true, false, Option, refl, ◌≡◌, ◌*◌, ◌<◌, length}
-use Rattle.std.specs.Prelude.{IsTrue, IsSome}
+use Rattle.std.specs.Prelude.{ℕ, List, Bool, true, false, Option, refl, ◌≡◌, ◌<◌, length, IsTrue}
+use Rattle.std.specs.Prelude.{IsSome}
 use Rattle.cnf_base.specs.Literals.{size, Clause, Literal, has, variable}
 use Rattle.tables.specs.Filled.{at}
 use Rattle.propagation.specs.Assumptions.{Propagation, AssumptionsState, roots_in}
 use Rattle.propagation.specs.Code.Coding.{propagation_code}
 use Rattle.propagation.specs.Code.Scan.{IsHeld}
 use Rattle.propagation.specs.Slots.{short_clauses}
-use Rattle.watch_lists.specs.Lists.{entries_in, list_at}
+use Rattle.watch_lists.specs.Lists.{entries_in}
 use Rattle.root_literals.specs.Order.{each_in_order}
 use Rattle.root_literals.specs.Roots.{IsKept, IsStanding}
 use Rattle.root_literals.specs.Uses.{times}
 use Rattle.propagation.specs.Code.Closure.{AreForced}
-use Rattle.root_literals.specs.Watched.{AreWatched, IsListed, IsShortList}
+use Rattle.root_literals.specs.Watched.{AreWatched}
+use Rattle.watch_lists.specs.Watched.{HasAll, IsShortList}
 use Rattle.watch.specs.State.{WatchState}
-use Rattle.watch.specs.Watched.{watched_clauses}
 use Rattle.watch_lists.specs.declared.lists.WatchLists.{WatchLists}
 use Rattle.root_literals.specs.declared.roots.Roots.{Roots}
 
@@ -72,11 +72,6 @@ pub record AddsRoom (held now : AssumptionsState) (roots roots_now : Roots) : Ty
   pub history : roots_now.history ≡ roots.history
   pub counted : roots_now.uses.counted ≡ roots.uses.counted
   pub times : (k : Literal) → times roots_now.uses k ≡ times roots.uses k
-
--- each clause that is watched stands in the two lists where it should, and nothing else does
-pub record HasAll (live : FinMap nat_cmp Clause) (lists : WatchLists) : Type 0 where
-  pub each : IsListed (maps.get live) (list_at lists)
-  pub two_each : entries_in lists ≡ 2 * watched_clauses live
 
 -- the lists have no entries, and each clause can have some
 pub record HasNone (live : FinMap nat_cmp Clause) (lists : WatchLists) : Type 0 where

@@ -1,16 +1,16 @@
 -- Entries in lists.
 use Rattle.std.proofs.Common.{◌≡◌, ℕ, ◌+◌, ◌-◌, ◌<◌, ◌≤◌, ◌&&◌, not, true, false, Bool, cond, eqb}
-use Rattle.std.proofs.Common.{eq-eqb, ne_eqb, List, length, get_or, drop, take}
-use Rattle.std.proofs.Common.{swap_remove, sum_by, [], ◌∷◌, ◌++◌, refl, sym, ap, ◌∙◌}
-use Rattle.std.proofs.Common.{arith, inl, inr, slice_get, Some, None, subst}
+use Rattle.std.proofs.Common.{eq-eqb, ne_eqb, List, length, get_or, drop, take, swap_remove, sum_by}
+use Rattle.std.proofs.Common.{[], ◌∷◌, ◌++◌, refl, sym, ap, ◌∙◌, arith, inl, inr, slice_get, Some}
+use Rattle.std.proofs.Common.{None, subst}
 use Rattle.std.proofs.lemmas.Bool.{cases_eq}
 use Rattle.std.proofs.lemmas.Bool.Decides.{nat_tests}
 use Rattle.std.proofs.lemmas.Grind.{get_or_default_zero}
 use Rattle.std.proofs.lemmas.List.{drop-take, take-append-drop, take-take, take_all}
 use Rattle.std.proofs.lemmas.Option.{none-some, same_Some, slice_get-get_or, slice_get_cases}
 use Rattle.std.proofs.lemmas.List.Sums.{get_or-le-sum_by, sum_by-append, sum_by-cons}
-use Rattle.std.proofs.lemmas.List.Sums.{sum_by-le-sum_by}
-use Rattle.std.proofs.lemmas.List.Sums.{sum_by-remove, sum_by-swap_remove, sum_by_more, sum_by_push}
+use Rattle.std.proofs.lemmas.List.Sums.{sum_by-le-sum_by, sum_by-remove, sum_by-swap_remove}
+use Rattle.std.proofs.lemmas.List.Sums.{sum_by_more, sum_by_push}
 use Rattle.std.specs.List.{remove}
 use Rattle.cnf_base.specs.Literals.{Clause, has}
 use Rattle.watch_lists.specs.Lists.{entries_of, fits, marked_entries, slot_at, slot_of, times_in}

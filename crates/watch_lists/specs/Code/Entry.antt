@@ -11,4 +11,5 @@ bit_back (suc (suc n)) low = absurd (not-suc-le-zero (le_of_suc-le-suc (le_of_su
 
 -- they give the number back
 pub code_back : (n : ℕ) → 2 * (n / 2) + (if n % 2 == 1 then 1 else 0) ≡ n
-code_back n = ap (λ bit. 2 * (n / 2) + bit) (bit_back (n % 2) (mod-lt n (zero-lt-suc 1))) ∙ div-add-mod n 2
+code_back n =
+    ap (λ bit. 2 * (n / 2) + bit) (bit_back (n % 2) (mod-lt n (zero-lt-suc 1))) ∙ div-add-mod n 2

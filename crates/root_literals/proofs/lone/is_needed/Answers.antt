@@ -1,5 +1,4 @@
 use Rattle.std.proofs.Common.{◌≡◌, ◌<◌, get_or, length, sym, ap, ◌∙◌, arith, inl, inr}
-use Rattle.std.proofs.lemmas.{Bool.cases_lt, Grind.get_or_default_zero}
 use Rattle.cnf_base.specs.Literals.{has}
 use Rattle.clause_db.specs.Store.{copies_with}
 use Rattle.tables.specs.Filled.{at}
@@ -7,6 +6,8 @@ use Rattle.root_literals.specs.Uses.{clause_in, is_in}
 use Rattle.root_literals.proofs.RootLemmas.Lone.{unneeded_none, unneeded_unused}
 use Rattle.root_literals.proofs.lone.is_needed.Goals as goal
 use Rattle.std.specs.FinMap as maps
+use Rattle.std.proofs.lemmas.Bool.{cases_lt}
+use Rattle.std.proofs.lemmas.Grind.{get_or_default_zero}
 
 pub returns-then-count_with-eq0-clause-unneeded : goal.returns-then-count_with-eq0-clause-unneeded
 returns-then-count_with-eq0-clause-unneeded c _ =

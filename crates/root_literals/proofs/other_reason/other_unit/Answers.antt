@@ -1,5 +1,5 @@
-use Rattle.std.proofs.Common.{◌≡◌, ◌<◌, ℕ, true, Option, Some, None, List, [], ◌∷◌, length, slice_index, sym}
-use Rattle.std.proofs.Common.{inl, inr}
+use Rattle.std.proofs.Common.{◌≡◌, ◌<◌, ℕ, true, Option, Some, None, List, [], ◌∷◌, length}
+use Rattle.std.proofs.Common.{slice_index, sym, inl, inr}
 use Rattle.std.specs.FinMap as maps
 use Rattle.std.specs.Option.{IfSome}
 use Rattle.std.proofs.lemmas.Bool.{false≢true}

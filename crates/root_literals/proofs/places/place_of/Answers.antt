@@ -1,6 +1,7 @@
-use Rattle.std.proofs.{Common.◌≤◌, Common.sym, Common.◌∙◌, Common.arith, lemmas.Bool.true≢false}
 use Rattle.root_literals.proofs.RootLemmas.History.{front_in_front}
 use Rattle.root_literals.proofs.places.place_of.Goals as goal
+use Rattle.std.proofs.Common.{◌≤◌, sym, ◌∙◌, arith}
+use Rattle.std.proofs.lemmas.Bool.{true≢false}
 
 pub returns-clause-literal : goal.returns-clause-literal
 returns-clause-literal c =

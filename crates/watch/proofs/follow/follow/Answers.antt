@@ -3,7 +3,7 @@ use Rattle.std.specs.FinMap as maps
 use Rattle.tables.specs.Filled.{at}
 use Rattle.watch_lists.specs.Lists.{entries_in, list_at}
 use Rattle.watch.specs.Code.Visits.{CanVisit, with_list}
-use Rattle.root_literals.specs.Watched.{IsListed}
+use Rattle.watch_lists.specs.Watched.{IsListed}
 use Rattle.watch.proofs.WatchLemmas.Follow.{none_met, hand_taken, listed_alike}
 use Rattle.watch.proofs.WatchLemmas.Visited.{followed_none}
 use Rattle.watch.proofs.follow.follow.Goals as goal

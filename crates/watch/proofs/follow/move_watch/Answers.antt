@@ -1,5 +1,5 @@
-use Rattle.std.proofs.Common.{◌+◌, ◌++◌, ◌∷◌, [], cond, eqb, false, ne_eqb, refl, sym, ap}
-use Rattle.std.proofs.Common.{◌∙◌, length, subst, arith}
+use Rattle.std.proofs.Common.{◌+◌, ◌++◌, ◌∷◌, [], cond, eqb, false, ne_eqb, refl, sym, ap, ◌∙◌}
+use Rattle.std.proofs.Common.{length, subst, arith}
 use Rattle.std.specs.List.{remove, swap}
 use Rattle.std.specs.FinMap as maps
 use Rattle.std.proofs.lemmas.List.Edits.{length-remove, length-swap}
@@ -7,8 +7,9 @@ use Rattle.clause_db.proofs.StoreLemmas.Swap.{has_swapped}
 use Rattle.cnf_base.proofs.MapLemmas.{insert_here, insert_other}
 use Rattle.cnf_base.specs.Literals.{Literal}
 use Rattle.watch_lists.specs.Lists.{list_at}
-use Rattle.watch.specs.Code.Visits.{IsInHand, PropagatesTo, with_list}
-use Rattle.root_literals.specs.Watched.{IsListed}
+use Rattle.watch.specs.Code.Visits.{IsInHand, with_list}
+use Rattle.root_literals.specs.Code.Propagated.{PropagatesTo}
+use Rattle.watch_lists.specs.Watched.{IsListed}
 use Rattle.watch_lists.specs.declared.watcher.Watcher.{Watcher}
 use Rattle.watch.proofs.WatchLemmas.Cursor.{same_cursor}
 use Rattle.watch.proofs.WatchLemmas.Follow.{listed_alike}
@@ -16,9 +17,11 @@ use Rattle.watch_lists.proofs.WatchListsLemmas.Lists.{entries_removed, unfit_rem
 use Rattle.watch.proofs.WatchLemmas.Entries.{longer_fits}
 use Rattle.watch.proofs.WatchLemmas.Moves.{entries_moved, exchanged_back, listed_moved}
 use Rattle.watch.proofs.WatchLemmas.Moves.{places_apart, times_moved, unfit_moved}
-use Rattle.watch.proofs.WatchLemmas.PropagatesTo.{propagates_moved, propagates_on}
-use Rattle.watch.proofs.WatchLemmas.Turned.{exchange_member, turned_at, turned_clause, turned_listed}
-use Rattle.watch.proofs.WatchLemmas.Turned.{turned_live, turned_moved, turned_propagates}
+use Rattle.watch.proofs.WatchLemmas.PropagatesTo.{propagates_moved}
+use Rattle.root_literals.proofs.RootLemmas.Propagated.{propagates_on}
+use Rattle.watch.proofs.WatchLemmas.Turned.{exchange_member, turned_at, turned_clause}
+use Rattle.watch.proofs.WatchLemmas.Turned.{turned_listed, turned_live, turned_moved}
+use Rattle.watch.proofs.WatchLemmas.Turned.{turned_propagates}
 use Rattle.watch.proofs.follow.move_watch.Goals as goal
 
 pub rewatch-requires : goal.rewatch-requires

@@ -5,7 +5,7 @@ use Rattle.tables.specs.Filled.{at}
 use Rattle.theory.specs.Sets.{conflicts}
 use Rattle.trail.proofs.TrailLemmas.MakesFalse.{no_conflict}
 use Rattle.root_literals.specs.Watched.{IsMet}
-use Rattle.watch.proofs.WatchLemmas.CatchUp.{visited_more}
+use Rattle.root_literals.proofs.RootLemmas.Grown.{visited_more}
 use Rattle.watch.proofs.WatchLemmas.Visited.{can_follow_on, false_at, fits_on, followed_none}
 use Rattle.watch.proofs.WatchLemmas.Visited.{followed_on, read_at}
 use Rattle.watch.proofs.follow.propagate.Goals as goal

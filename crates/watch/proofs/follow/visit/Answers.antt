@@ -7,11 +7,11 @@ use Rattle.cnf_base.specs.Literals.{complement, has}
 use Rattle.watch_lists.specs.Lists.{entries_in, fits, list_at}
 use Rattle.watch.specs.Code.Visits.{IsInHand}
 use Rattle.watch_lists.specs.declared.watcher.Watcher.{Watcher}
-use Rattle.root_literals.proofs.RootLemmas.Watched.{watched_apart}
+use Rattle.watch_lists.proofs.WatchListsLemmas.Watched.{watched_apart}
 use Rattle.watch.proofs.WatchLemmas.Entries.{kept_fits}
 use Rattle.watch.proofs.WatchLemmas.Cursor.{kept_fewer, kept_met, put_same, taken_fewer, taken_met}
 use Rattle.watch.proofs.WatchLemmas.Follow.{front_apart}
-use Rattle.watch.proofs.WatchLemmas.PropagatesTo.{propagates_none}
+use Rattle.root_literals.proofs.RootLemmas.Propagated.{propagates_none}
 use Rattle.watch_lists.proofs.WatchListsLemmas.Lists.{entry_at, slot_is}
 use Rattle.watch.proofs.WatchLemmas.Moves.{listed_written}
 use Rattle.watch.proofs.WatchLemmas.Visited.{found_at, next_entry, visited_none}

@@ -10,7 +10,7 @@ use Rattle.root_literals.specs.Roots.{IsFalseAt}
 use Rattle.watch.specs.Code.Visits.{AreMet, IsInHand}
 use Rattle.watch.proofs.WatchLemmas.Cursor.{kept_fewer, kept_met, put_same}
 use Rattle.watch.proofs.WatchLemmas.Follow.{all_met, none_before}
-use Rattle.watch.proofs.WatchLemmas.PropagatesTo.{clashes, propagates_unit}
+use Rattle.root_literals.proofs.RootLemmas.Propagated.{clashes, propagates_unit}
 use Rattle.watch.proofs.WatchLemmas.Visited.{can_visit_on, found_next, room_found, visited_none}
 use Rattle.watch.proofs.WatchLemmas.Visited.{visited_on}
 use Rattle.watch.proofs.WatchLemmas.Visits.{made_true}

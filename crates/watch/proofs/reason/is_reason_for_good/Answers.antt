@@ -7,7 +7,7 @@ use Rattle.trail.specs.Left.{is_one_at_most}
 use Rattle.trail.specs.Trail.{HasNoVariableTwice}
 use Rattle.propagation.proofs.PropagationLemmas.Closing.{no_reason_left, reason_left}
 use Rattle.root_literals.specs.Roots.{IsKept}
-use Rattle.watch.proofs.WatchLemmas.Kept.{all_forced, kept_forced, roots_alone}
+use Rattle.root_literals.proofs.RootLemmas.Carried.{all_forced, kept_forced, roots_alone}
 use Rattle.watch.proofs.WatchLemmas.Shown.{closure_held, closure_shown, forced_held, forced_shown}
 use Rattle.watch.proofs.reason.is_reason_for_good.Goals as goal
 

@@ -1,5 +1,5 @@
-use Rattle.std.proofs.Common.{◌≡◌, ◌+◌, ◌<◌, ◌≤◌, ◌∷◌, [], Some, IfSome, IfNone, length, take}
-use Rattle.std.proofs.Common.{ℕ, cond, refl, sym, ap, ◌∙◌, subst, arith}
+use Rattle.std.proofs.Common.{◌≡◌, ◌+◌, ◌<◌, ◌≤◌, ◌∷◌, [], Some, IfSome, IfNone, length, take, ℕ}
+use Rattle.std.proofs.Common.{cond, refl, sym, ap, ◌∙◌, subst, arith}
 use Rattle.std.specs.FinMap as maps
 use Rattle.std.proofs.lemmas.Bool.{true≢false}
 use Rattle.std.proofs.lemmas.List.{length-append, take_all}
@@ -9,8 +9,9 @@ use Rattle.root_literals.specs.History.{IsHistory, sure_of, visits}
 use Rattle.root_literals.specs.Order.{each_in_order}
 use Rattle.root_literals.specs.Roots.{IsFalseAt, IsKnown, has_clash, is_cut}
 use Rattle.root_literals.specs.Watched.{IsMet, IsWatched}
-use Rattle.watch.proofs.WatchLemmas.CatchUp.{begun_again, history_grown, kept_grown, visited_more}
-use Rattle.watch.proofs.WatchLemmas.Closed.{units_kept}
+use Rattle.root_literals.proofs.RootLemmas.Grown.{begun_again, history_grown, kept_grown}
+use Rattle.root_literals.proofs.RootLemmas.Grown.{visited_more}
+use Rattle.root_literals.proofs.RootLemmas.Closed.{units_kept}
 use Rattle.root_literals.proofs.RootLemmas.History.{history_begun}
 use Rattle.root_literals.proofs.RootLemmas.Watched.{watched_all}
 use Rattle.watch.proofs.WatchLemmas.Visited.{can_follow_on, false_at, fits_on, followed_none}

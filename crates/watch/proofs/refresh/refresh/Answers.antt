@@ -1,5 +1,5 @@
-use Rattle.std.proofs.Common.{◌≡◌, ◌/◌, false, is_some, length, take, refl, sym, ap, ◌∙◌}
-use Rattle.std.proofs.Common.{subst, arith}
+use Rattle.std.proofs.Common.{◌≡◌, ◌/◌, false, is_some, length, take, refl, sym, ap, ◌∙◌, subst}
+use Rattle.std.proofs.Common.{arith}
 use Rattle.std.specs.FinMap as maps
 use Rattle.tables.specs.Filled.{at}
 use Rattle.root_literals.specs.History.{IsRewound}
@@ -8,8 +8,9 @@ use Rattle.root_literals.specs.Roots.{AreNoted, IsKept}
 use Rattle.watch.specs.Code.State.{AddsRoom, HaveReasons}
 use Rattle.root_literals.proofs.RootLemmas.History.{rewound_none}
 use Rattle.root_literals.proofs.RootLemmas.Kept.{kept_nothing}
-use Rattle.watch.proofs.WatchLemmas.CatchUp.{begun_from}
-use Rattle.watch.proofs.WatchLemmas.Kept.{not_clash, noted_carried, nothing_stands, roots_alone}
+use Rattle.root_literals.proofs.RootLemmas.Grown.{begun_from}
+use Rattle.root_literals.proofs.RootLemmas.Carried.{not_clash, noted_carried, nothing_stands}
+use Rattle.root_literals.proofs.RootLemmas.Carried.{roots_alone}
 use Rattle.watch.proofs.WatchLemmas.State.{watch_refreshed, watch_room}
 use Rattle.watch.proofs.refresh.refresh.Goals as goal
 

@@ -8,8 +8,8 @@ use Rattle.root_literals.specs.Order.{each_in_order}
 use Rattle.root_literals.specs.Roots.{IsFalseAt}
 use Rattle.root_literals.specs.Watched.{IsWatched}
 use Rattle.trail.proofs.TrailLemmas.Longer.{has_begun}
-use Rattle.watch.proofs.WatchLemmas.PropagatesTo.{clash_from}
-use Rattle.watch.proofs.WatchLemmas.Closed.{all_closed, all_quiet, units_kept}
+use Rattle.root_literals.proofs.RootLemmas.Propagated.{clash_from}
+use Rattle.root_literals.proofs.RootLemmas.Closed.{all_closed, all_quiet, units_kept}
 use Rattle.watch.proofs.run.run.Goals as goal
 
 pub returns-in-Some-clause-answer : goal.returns-in-Some-clause-answer

@@ -13,7 +13,7 @@ use Rattle.propagation.proofs.PropagationLemmas.Scan.{assumed_none, part_clashes
 use Rattle.propagation.proofs.PropagationLemmas.Scan.{part_exact, scan_after}
 use Rattle.propagation.proofs.PropagationLemmas.Exact.{begins_on, longer_from}
 use Rattle.theory.proofs.PropagationLemmas.Forced.{clash_through}
-use Rattle.watch.proofs.WatchLemmas.Kept.{kept_clash, kept_forced}
+use Rattle.root_literals.proofs.RootLemmas.Carried.{kept_clash, kept_forced}
 use Rattle.std.proofs.lemmas.Bool.{false≢true}
 use Rattle.watch.proofs.WatchLemmas.State.{watch_answered, watch_undone}
 use Rattle.watch.proofs.watch.assume_part.Goals as goal

@@ -3,12 +3,13 @@ use Rattle.std.proofs.Common.{◌++◌, refl, sym, ap, ◌∙◌, subst}
 use Rattle.std.proofs.lemmas.Bool.{not-false}
 use Rattle.cnf_base.specs.Literals.{Literal, has}
 use Rattle.tables.specs.Filled.{at}
-use Rattle.root_literals.specs.{History.IsNoted, Roots.IsArranged, Roots.IsKept}
 use Rattle.root_literals.proofs.RootLemmas.Entered.{Entering, entered_false, entered_idle}
 use Rattle.root_literals.proofs.RootLemmas.Entered.{entered_more, entered_set, entered_taken}
 use Rattle.root_literals.proofs.RootLemmas.Entered.{entered_true}
 use Rattle.root_literals.proofs.roots.Roots.enter.Goals.{After-enter, Else-set_by}
 use Rattle.root_literals.proofs.roots.Roots.enter.Goals as goal
+use Rattle.root_literals.specs.History.{IsNoted}
+use Rattle.root_literals.specs.Roots.{IsArranged, IsKept}
 
 open_is : (b : Bool) → true ≡ not b → b ≡ false
 open_is true e = e

@@ -3,7 +3,7 @@ use Rattle.std.specs.FinMap as maps
 use Rattle.theory.specs.Propagation.{Clash}
 use Rattle.trail.specs.Trail.{HasNoVariableTwice}
 use Rattle.propagation.specs.Assumptions.{roots_in}
-use Rattle.watch.proofs.WatchLemmas.Kept.{kept_clash, kept_forced, no_clash}
+use Rattle.root_literals.proofs.RootLemmas.Carried.{kept_clash, kept_forced, no_clash}
 use Rattle.watch.proofs.watch.Watch.has_root_clash.Goals as goal
 
 pub returns-clause-clash : goal.returns-clause-clash

@@ -3,7 +3,7 @@ use Rattle.std.specs.FinMap as maps
 use Rattle.propagation.specs.Closure.{IsClosure}
 use Rattle.propagation.proofs.PropagationLemmas.Reduced.{unless_refused}
 use Rattle.root_literals.proofs.RootLemmas.Order.{literals_ordered}
-use Rattle.root_literals.specs.Watched.{IsTautologyList}
+use Rattle.watch_lists.specs.Watched.{IsTautologyList}
 use Rattle.watch.specs.Code.State.{IsWatch}
 use Rattle.watch.proofs.watch.Watch.prepare.Goals as goal
 

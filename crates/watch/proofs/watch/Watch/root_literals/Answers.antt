@@ -4,7 +4,7 @@ use Rattle.cnf_base.specs.Literals.{has}
 use Rattle.theory.specs.Propagation.{Forced}
 use Rattle.trail.specs.Trail.{HasNoVariableTwice}
 use Rattle.propagation.specs.Assumptions.{roots_in}
-use Rattle.watch.proofs.WatchLemmas.Kept.{all_forced, kept_forced}
+use Rattle.root_literals.proofs.RootLemmas.Carried.{all_forced, kept_forced}
 use Rattle.watch.proofs.watch.Watch.root_literals.Goals as goal
 
 pub returns-clause-sound : goal.returns-clause-sound

@@ -1,5 +1,5 @@
 use Rattle.std.proofs.Common.{◌*◌, sym, ap, ◌∙◌}
-use Rattle.watch.specs.Watched.{watched_clauses}
+use Rattle.watch_lists.specs.Watched.{watched_clauses}
 use Rattle.watch.proofs.WatchLemmas.Lists.{loaded_all}
 use Rattle.watch.proofs.WatchLemmas.State.{watched_shown}
 use Rattle.watch.proofs.watch.Watch.watch_entries.Goals as goal

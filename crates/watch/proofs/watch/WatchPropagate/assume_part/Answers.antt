@@ -2,7 +2,7 @@ use Rattle.std.proofs.Common.{rules, refl, sym, ap, ◌∙◌, subst}
 use Rattle.std.specs.FinMap as maps
 use Rattle.propagation.specs.Closure.{IsClosure}
 use Rattle.propagation.proofs.PropagationLemmas.Reduced.{unless_refused}
-use Rattle.root_literals.specs.Watched.{IsTautologyList}
+use Rattle.watch_lists.specs.Watched.{IsTautologyList}
 use Rattle.watch.proofs.WatchLemmas.Assumed.{assuming_source, refused_source, source_room}
 use Rattle.watch.proofs.WatchLemmas.Assumed.{source_there}
 use Rattle.root_literals.proofs.RootLemmas.Order.{literals_ordered}

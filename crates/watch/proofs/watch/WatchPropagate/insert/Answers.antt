@@ -8,18 +8,16 @@ use Rattle.root_literals.specs.Order.{each_in_order, in_order}
 use Rattle.root_literals.specs.Roots.{IsArranged, IsKept}
 use Rattle.watch.specs.Code.State.{IsWatch}
 use Rattle.std.proofs.lemmas.Option.{none-some, same_Some}
-use Rattle.root_literals.specs.Watched.{IsTautologyList, short_for, tautology_for}
+use Rattle.watch_lists.specs.Watched.{IsTautologyList, short_for, tautology_for}
 use Rattle.clause_db.specs.Store.{literals_in}
 use Rattle.propagation.proofs.PropagationLemmas.Scan.{room_added}
 use Rattle.propagation.specs.Closure.{IsClosure}
-use Rattle.watch.proofs.WatchLemmas.Follow.{times_has}
+use Rattle.watch_lists.proofs.WatchListsLemmas.Entries.{times_has}
 use Rattle.cnf_base.proofs.MapLemmas.{inserted_is, removed_back}
 use Rattle.root_literals.proofs.RootLemmas.Order.{get_ordered, literals_ordered, ordered_alike}
-use Rattle.root_literals.proofs.RootLemmas.Order.{same-in_order}
-use Rattle.root_literals.proofs.RootLemmas.Order.{seen_there}
-use Rattle.watch.proofs.WatchLemmas.State.{alone_kept, same_state, tautologies_added, tautologies_there}
-use Rattle.watch.proofs.WatchLemmas.State.{watch_added, watch_room}
-use Rattle.watch.proofs.WatchLemmas.State.{watch_same}
+use Rattle.root_literals.proofs.RootLemmas.Order.{same-in_order, seen_there}
+use Rattle.watch.proofs.WatchLemmas.State.{alone_kept, same_state, tautologies_added}
+use Rattle.watch.proofs.WatchLemmas.State.{tautologies_there, watch_added, watch_room, watch_same}
 use Rattle.watch.proofs.watch.WatchPropagate.insert.Goals as goal
 
 pub arrange-arranged-requires : goal.arrange-arranged-requires

@@ -1,0 +1,155 @@
+-- What is kept of the literals that are true with nothing assumed, past a propagation too.
+use Rattle.std.proofs.Common.{◌≡◌, ℕ, ◌/◌, true, false, cond, Option, Some, is_some, List, [], ◌∷◌}
+use Rattle.std.proofs.Common.{length, take, refl, sym, ap, ◌∙◌, subst}
+use Rattle.std.specs.Ordering.{nat_cmp}
+use Rattle.std.specs.FinMap as maps
+use Rattle.std.specs.FinMap.{FinMap}
+use Rattle.std.proofs.lemmas.Bool.{false_from_ne_true, true≢false, false≢true}
+use Rattle.cnf_base.specs.Literals.{Literal, complement, Clause, has, size}
+use Rattle.tables.specs.Filled.{at}
+use Rattle.theory.specs.Propagation.{Clash, Forced}
+use Rattle.propagation.specs.Assumptions.{Assumption, AssumptionsState, roots_in}
+use Rattle.root_literals.specs.History.{IsHistory, sure_of, visits}
+use Rattle.root_literals.specs.Order.{each_in_order, in_order}
+use Rattle.root_literals.specs.Roots.{AreNoted, AreReasoned, HaveUnits, IsKept, IsKnown, IsStanding}
+use Rattle.root_literals.specs.Roots.{is_up_to_date, has_clash, is_cut}
+use Rattle.propagation.specs.Code.Closure.{AreForced}
+use Rattle.root_literals.specs.Code.Propagated.{CanSet, PropagatesTo}
+use Rattle.root_literals.specs.Watched.{IsPart, IsWatched}
+use Rattle.root_literals.specs.declared.history.History.{History}
+use Rattle.root_literals.specs.declared.roots.Kept.{Kept}
+use Rattle.root_literals.specs.declared.roots.Kept.TheVariants.{Cut, Behind, All}
+use Rattle.root_literals.specs.declared.roots.Kept.TheVariants.{Clash as KeptClash}
+use Rattle.root_literals.specs.declared.roots.Roots.{Roots}
+use Rattle.trail.specs.Trail.{HasNoVariableTwice}
+use Rattle.theory.specs.Sets.{conflicts}
+use Rattle.theory.proofs.PropagationLemmas.Forced.{clash_by_false}
+use Rattle.theory.proofs.PropagationLemmas.Conflicts.{conflicts_more}
+use Rattle.trail.proofs.TrailLemmas.MakesFalse.{no_conflict}
+use Rattle.root_literals.proofs.RootLemmas.Closed.{all_closed, all_quiet, units_carried}
+use Rattle.root_literals.proofs.RootLemmas.Order.{has-in_order, seen_there}
+use Rattle.root_literals.proofs.RootLemmas.Watched.{front_part}
+use Rattle.root_literals.proofs.RootLemmas.History.{history_among}
+use Rattle.root_literals.proofs.RootLemmas.Kept.{seen_same}
+use Rattle.root_literals.proofs.RootLemmas.Reasons.{reasoned_forced, reasoned_same}
+use Rattle.root_literals.proofs.RootLemmas.Uses.{counted_in_order}
+use Rattle.root_literals.specs.Uses.{AreCounted}
+
+pub kept_forced : (live : FinMap nat_cmp Clause) (roots : Roots) (lits : List Literal) → IsKept live roots lits → AreForced (maps.get (each_in_order live)) lits
+kept_forced live roots lits kept = reasoned_forced (maps.get (each_in_order live)) (at roots.reasons) lits kept.reasoned
+
+-- ---- What is up to date
+
+-- all that is kept is propagated where it is up to date and no clash
+pub all_known : (live : FinMap nat_cmp Clause) (kept : Kept) (lits : List Literal) → is_up_to_date kept ≡ true → has_clash kept ≡ false → IsKnown live kept lits → IsWatched (maps.get live) lits lits × HaveUnits (maps.get live) lits
+all_known live Cut lits up quiet known = absurd (false≢true up)
+all_known live Behind lits up quiet known = absurd (false≢true up)
+all_known live All lits up quiet known = known
+all_known live (KeptClash slot) lits up quiet known = absurd (true≢false quiet)
+
+-- a clash is one
+pub kept_clash : (live : FinMap nat_cmp Clause) (kept : Kept) (lits : List Literal) → has_clash kept ≡ true → AreForced (maps.get (each_in_order live)) lits → IsKnown live kept lits → Clash (maps.get (each_in_order live)) []
+kept_clash live Cut lits clash forced known = absurd (false≢true clash)
+kept_clash live Behind lits clash forced known = absurd (false≢true clash)
+kept_clash live All lits clash forced known = absurd (false≢true clash)
+kept_clash live (KeptClash slot) lits clash forced known =
+    clash_by_false (maps.get (each_in_order live)) [] slot known.clause known.at (λ k h. forced (complement k) (known.falses k h))
+
+-- what isn't up to date has nothing assumed
+pub nothing_stands : (kept : Kept) (assumptions : List Assumption) → IsStanding kept assumptions → is_up_to_date kept ≡ false → assumptions ≡ []
+nothing_stands kept [] standing up = refl
+nothing_stands kept (last ∷ rest) standing up = absurd (true≢false (sym standing ∙ up))
+
+pub not_clash : (kept : Kept) → is_up_to_date kept ≡ false → has_clash kept ≡ false
+not_clash Cut up = refl
+not_clash Behind up = refl
+not_clash All up = refl
+not_clash (KeptClash slot) up = absurd (true≢false up)
+
+pub roots_alone : (lits : List Literal) (assumptions : List Assumption) (starts : List ℕ) → assumptions ≡ [] → roots_in lits assumptions starts ≡ lits
+roots_alone lits assumptions starts nothing = ap (λ xs. roots_in lits xs starts) nothing
+
+pub roots_part : (lits : List Literal) (assumptions : List Assumption) (starts : List ℕ) → IsPart (roots_in lits assumptions starts) lits
+roots_part lits [] starts l h = h
+roots_part lits (last ∷ rest) [] l h = absurd (false≢true h)
+roots_part lits (last ∷ rest) (start ∷ starts) l h = front_part start lits l (roots_part (take start lits) rest starts l h)
+
+-- where all is kept that follows with nothing assumed
+module _ (live : FinMap nat_cmp Clause) (roots : Roots) (lits : List Literal) (assumptions : List Assumption) (starts : List ℕ) (different : (s : ℕ) (c : Clause) → maps.get live s ≡ Some c → size c ≡ length c) (apart : HasNoVariableTwice lits)
+    (kept : IsKept live roots (roots_in lits assumptions starts)) (up : is_up_to_date roots.kept ≡ true) (quiet : has_clash roots.kept ≡ false) where
+  no_conflict_kept : conflicts (roots_in lits assumptions starts) ≡ false
+  no_conflict_kept = false_from_ne_true (conflicts (roots_in lits assumptions starts)) (λ h.
+      true≢false (sym (conflicts_more (roots_in lits assumptions starts) lits (roots_part lits assumptions starts) h) ∙ no_conflict lits apart))
+
+  pub all_forced : (l : Literal) → Forced (maps.get (each_in_order live)) [] l → has (roots_in lits assumptions starts) l ≡ true
+  all_forced l forced =
+      let known = all_known live roots.kept (roots_in lits assumptions starts) up quiet kept.known in
+      forced.in_each (λ k. has (roots_in lits assumptions starts) k) (all_closed live (roots_in lits assumptions starts) different known.1 known.0 no_conflict_kept) (λ a h. absurd (false≢true h))
+
+  pub no_clash : Clash (maps.get (each_in_order live)) [] → ⊥
+  no_clash clash =
+      let known = all_known live roots.kept (roots_in lits assumptions starts) up quiet kept.known in
+      all_quiet live (roots_in lits assumptions starts) different known.1 known.0 no_conflict_kept [] (λ a h. absurd (false≢true h)) clash
+
+-- ---- What visits leave
+
+module _ (a b : FinMap nat_cmp Clause) (x y : AssumptionsState) (r s : Literal → Option ℕ) (carried : PropagatesTo a b x y r s) where
+  pub noted_carried : AreNoted (maps.get (each_in_order a)) r → AreNoted (maps.get (each_in_order b)) s
+  noted_carried noted = record { each = λ k c is l member. carried.noted l (noted.each k c (ap (λ m. maps.get m k) (sym carried.same) ∙ is) l member) }
+
+  pub known_carried : (kept : Kept) (lits : List Literal) → IsPart lits x.trail.lits → IsKnown a kept lits → IsKnown b kept lits
+  known_carried Cut lits part known = known
+  known_carried Behind lits part known = units_carried a b lits carried.same carried.short known
+  known_carried All lits part known = (carried.kept [] lits lits part part known.0, units_carried a b lits carried.same carried.short known.1)
+  known_carried (KeptClash slot) lits part known = record { clause = known.clause; at = ap (λ m. maps.get m slot) carried.same ∙ known.at; falses = known.falses }
+
+  -- what is watched still is
+  pub front_carried : (doubts : List ℕ) (lits : List Literal) → IsPart lits x.trail.lits → (d p : ℕ) → IsWatched (sure_of doubts (maps.get a)) (take d lits) (take p lits) → IsWatched (sure_of doubts (maps.get b)) (take d lits) (take p lits)
+  front_carried doubts lits part d p = carried.kept doubts (take d lits) (take p lits) (λ l h. part l (front_part d lits l h)) (λ l h. part l (front_part p lits l h))
+
+  pub history_carried : (doubts : List ℕ) (history : History) (lits : List Literal) → IsPart lits x.trail.lits → IsHistory (sure_of doubts (maps.get a)) history lits → IsHistory (sure_of doubts (maps.get b)) history lits
+  history_carried doubts history lits part = history_among (sure_of doubts (maps.get a)) (sure_of doubts (maps.get b)) history lits (λ d p _ _ _. front_carried doubts lits part d p)
+
+  pub visited_carried : (doubts : List ℕ) (n : ℕ) (lits : List Literal) → IsPart lits x.trail.lits → IsWatched (sure_of doubts (maps.get a)) (take n lits) lits → IsWatched (sure_of doubts (maps.get b)) (take n lits) lits
+  visited_carried doubts n lits part = carried.kept doubts (take n lits) lits (λ l h. part l (front_part n lits l h)) part
+
+  pub reasoned_carried : (lits : List Literal) → IsPart lits x.trail.lits → AreReasoned (maps.get (each_in_order a)) r lits → AreReasoned (maps.get (each_in_order b)) s lits
+  reasoned_carried lits part are =
+      subst (λ m. AreReasoned (maps.get m) s lits) (sym carried.same) (reasoned_same (maps.get (each_in_order a)) r lits are s (λ l h. carried.as_before l (part l h)))
+
+  -- the same literals are kept, by the same reasons
+  pub kept_carried : (roots after : Roots) (lits : List Literal) → after.kept ≡ roots.kept → after.history ≡ roots.history → after.uses ≡ roots.uses → ((l : Literal) → at roots.reasons l ≡ r l) → ((l : Literal) → at after.reasons l ≡ s l) → IsPart lits x.trail.lits → IsKept a roots lits → IsKept b after lits
+  kept_carried roots after lits kept_is history_is uses_are before_is after_is part kept = record {
+    noted = record {
+      each = λ k c is l member.
+          ap is_some (after_is l)
+          ∙ carried.noted l (ap is_some (sym (before_is l)) ∙ kept.noted.each k c (ap (λ m. maps.get m k) (sym carried.same) ∙ is) l member);
+    };
+    reasoned =
+        reasoned_same (maps.get (each_in_order b)) s lits
+        (reasoned_carried lits part (reasoned_same (maps.get (each_in_order a)) (at roots.reasons) lits kept.reasoned r (λ l h. sym (before_is l)))) (at after.reasons) (λ l h. after_is l);
+    known = subst (λ k. IsKnown b k lits) (sym kept_is) (known_carried roots.kept lits part kept.known);
+    history = subst (λ h. IsHistory (sure_of h.doubts.items (maps.get b)) h lits) (sym history_is) (history_carried roots.history.doubts.items roots.history lits part kept.history);
+    visited =
+        seen_same (maps.get b) roots after lits kept_is history_is
+        (λ quiet. visited_carried (cond (is_cut roots.kept) roots.history.doubts.items []) (visits roots.history) lits part (kept.visited quiet));
+    counted = subst (AreCounted (maps.get b) (at after.reasons) lits) (sym uses_are)
+        (counted_in_order a b (at roots.reasons) (at after.reasons) lits roots.uses carried.same (λ l h. after_is l ∙ carried.as_before l (part l h) ∙ sym (before_is l)) kept.counted);
+  }
+
+-- ---- Room
+
+-- there is room for a literal of a clause, and for its reason
+pub room_for : {live : FinMap nat_cmp Clause} {held : AssumptionsState} {reason_of : Literal → Option ℕ} → CanSet live held reason_of → (slot : ℕ) (c : Clause) → maps.get live slot ≡ Some c → (m : Literal) → has c m ≡ true →
+    (has held.trail.reserved (m / 2) ≡ true) × (is_some (reason_of m) ≡ true)
+room_for {live} can slot c here m member =
+    let shown = seen_there live slot c here in
+    let there = has-in_order c m ∙ member in
+    (can.room.each slot (in_order c) shown m there, can.noted.each slot (in_order c) shown m there)
+
+-- there still is after visits
+pub can_set_on : {a b : FinMap nat_cmp Clause} {x y : AssumptionsState} {r s : Literal → Option ℕ} → CanSet a x r → PropagatesTo a b x y r s → CanSet b y s
+can_set_on {a} {b} {x} {y} {r} {s} can carried = record {
+  room = record { each = λ k c here l member. carried.extends.reserved (l / 2) ∙ can.room.each k c (ap (λ m. maps.get m k) (sym carried.same) ∙ here) l member };
+  noted = noted_carried a b x y r s carried can.noted;
+}

@@ -1,0 +1,70 @@
+-- The clauses of one literal and of none.
+use Rattle.std.proofs.Common.{◌≡◌, ℕ, ◌+◌, ◌<◌, ◌≤◌, Bool, true, false, not, cond, eqb, eq-eqb}
+use Rattle.std.proofs.Common.{Option, Some, None, List, [], ◌∷◌, ◌++◌, length, get_or, take, refl}
+use Rattle.std.proofs.Common.{sym, ap, ◌∙◌, subst, arith, inl, inr}
+use Rattle.std.proofs.lemmas.Bool.{true≢false, false≢true, not-false}
+use Rattle.std.proofs.lemmas.List.{take_all, take_more}
+use Rattle.std.proofs.lemmas.List.Sums.{get_or-le-sum_by}
+use Rattle.std.proofs.lemmas.Option.{same_Some}
+use Rattle.cnf_base.specs.Literals.{Literal, Clause, has}
+use Rattle.cnf_base.proofs.SetLemmas.{has_append_right, has_cases, has_head}
+use Rattle.theory.specs.Propagation.{Live}
+use Rattle.root_literals.specs.Watched.{IsPart, HasUnit}
+use Rattle.watch_lists.specs.Watched.{is_short, short_for, IsShortList}
+use Rattle.trail.proofs.TrailLemmas.Longer.{pushed_each}
+use Rattle.root_literals.proofs.RootLemmas.Watched.{unit_more}
+use Rattle.watch_lists.proofs.WatchListsLemmas.Entries.{has_times}
+
+-- ---- One clause
+
+pub only_literal : (c : Clause) (l : Literal) → c ≡ l ∷ [] → (k : Literal) → has c k ≡ true → l ≡ k
+only_literal c l is k h = elim (has_cases l [] k (ap (λ d. has d k) (sym is) ∙ h)) [ inl e ↦ e | inr none ↦ absurd (false≢true none) ]
+
+pub no_literal : (c : Clause) → c ≡ [] → (k : Literal) → has c k ≡ true → ⊥
+no_literal c is k h = false≢true (ap (λ d. has d k) (sym is) ∙ h)
+
+unit_long : (c : Clause) (trues : List Literal) → is_short c ≡ false → HasUnit c trues
+unit_long [] trues e = absurd (true≢false e)
+unit_long (a ∷ []) trues e = absurd (true≢false e)
+unit_long (a ∷ b ∷ c) trues e = tt
+
+-- a literal that is set where it was open is true
+pub set_by : (before after : List Literal) (l : Literal) (is_open : Bool) → is_open ≡ not (has before l) → after ≡ cond is_open (before ++ l ∷ []) before → has after l ≡ true
+set_by before after l true was is = ap (λ ls. has ls l) is ∙ has_append_right before (l ∷ []) l (has_head l [])
+set_by before after l false was is = ap (λ ls. has ls l) is ∙ not-false (has before l) (sym was)
+
+-- ---- The list
+
+module _ (live : Live) (slots : List ℕ) (listed : IsShortList live slots) where
+  pub short_alive : (place : ℕ) → place < length slots → (c : Clause) × (live (get_or slots place 0) ≡ Some c) × (is_short c ≡ true)
+  short_alive place inside =
+      let s = get_or slots place 0 in
+      let one = get_or-le-sum_by (λ x. cond (eqb x s) 1 0) slots place 0 inside in
+      let here : cond {A = ℕ} (eqb s s) 1 0 ≡ 1 = ap (λ b. cond {A = ℕ} b 1 0) (eq-eqb s s refl) in
+      let count = listed.listed s in
+      by_clause (live s) refl (omega (arith, one, here, count))
+    where
+      by_length : (c : Clause) (b : Bool) → is_short c ≡ b → 0 < cond {A = ℕ} b 1 0 → is_short c ≡ true
+      by_length c true e h = e
+      by_length c false e h = absurd (omega (arith, h))
+
+      by_clause : (o : Option Clause) → live (get_or slots place 0) ≡ o → 0 < short_for o → (c : Clause) × (live (get_or slots place 0) ≡ Some c) × (is_short c ≡ true)
+      by_clause None is h = absurd (omega (arith, h))
+      by_clause (Some c) is h = (c, is, by_length c (is_short c) refl h)
+
+  pub all_units : (trues : List Literal) (place : ℕ) → length slots ≤ place → ((s : ℕ) → has (take place slots) s ≡ true → (c : Clause) → live s ≡ Some c → HasUnit c trues) →
+      (s : ℕ) (c : Clause) → live s ≡ Some c → HasUnit c trues
+  all_units trues place past set s c is = by_length (is_short c) refl
+    where
+      by_length : (b : Bool) → is_short c ≡ b → HasUnit c trues
+      by_length true e =
+          let count = listed.listed s ∙ ap short_for is ∙ ap (λ b. cond {A = ℕ} b 1 0) e in
+          set s (ap (λ xs. has xs s) (take_all place slots past) ∙ has_times slots s (omega (arith, count))) c is
+      by_length false e = unit_long c trues e
+
+-- one more unit is set
+pub units_more : (live : Live) (slots : List ℕ) (place : ℕ) (trues more : List Literal) → place < length slots → IsPart trues more → (l : Literal) → live (get_or slots place 0) ≡ Some (l ∷ []) → has more l ≡ true →
+    ((s : ℕ) → has (take place slots) s ≡ true → (c : Clause) → live s ≡ Some c → HasUnit c trues) → (s : ℕ) → has (take (place + 1) slots) s ≡ true → (c : Clause) → live s ≡ Some c → HasUnit c more
+units_more live slots place trues more inside part l here set_l set s there =
+    pushed_each (λ x. (c : Clause) → live x ≡ Some c → HasUnit c more) (take place slots) (get_or slots place 0) (λ x h c is. unit_more c trues more part (set x h c is))
+    (λ c is. subst (λ d. HasUnit d more) (same_Some (l ∷ []) c (sym here ∙ is)) set_l) s (ap (λ xs. has xs s) (sym (take_more slots place 0 inside)) ∙ there)

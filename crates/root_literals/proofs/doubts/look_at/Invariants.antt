@@ -1,0 +1,14 @@
+use Rattle.std.proofs.Common.{take}
+use Rattle.std.specs.FinMap as maps
+use Rattle.tables.specs.Filled.{at}
+use Rattle.root_literals.specs.Code.Doubts.{AreSettled}
+use Rattle.root_literals.specs.Code.Propagated.{PropagatesTo}
+use Rattle.root_literals.proofs.doubts.look_at.Given as goal
+
+abbrev pub invariant-loop-place : goal.invariant-loop-place
+invariant-loop-place l = record {
+  settled : AreSettled (maps.get l.store.live) (take l.place l.slots) l.fn.assumptions.trail.lits l.assumptions.trail.lits;
+  propagates :
+      PropagatesTo l.store.live l.store.live l.fn.assumptions l.assumptions (at l.fn.reasons)
+      (at l.reasons);
+}

@@ -1,0 +1,35 @@
+use Rattle.std.proofs.Common.{◌≡◌, length, inl, inr, refl, ap, subst, arith}
+use Rattle.std.specs.FinMap as maps
+use Rattle.root_literals.specs.History.{IsRewound}
+use Rattle.root_literals.specs.Roots.{has_clash}
+use Rattle.root_literals.proofs.RootLemmas.History.{rewound_none}
+use Rattle.root_literals.specs.Code.Doubts.{AreSettled}
+use Rattle.root_literals.proofs.RootLemmas.Grown.{kept_settled, settled_all}
+use Rattle.root_literals.proofs.starting.settle.Goals as goal
+
+pub returns-in-Settled-clause-kept : goal.returns-in-Settled-clause-kept
+returns-in-Settled-clause-kept c =
+    kept_settled c.args.store.now.live c.args.assumptions.now c.look_at.new.assumptions c.args.roots.now _ c.look_at.ensures.propagates c.requires.kept c.requires.cut refl refl refl
+
+pub returns-in-Settled-clause-sure : goal.returns-in-Settled-clause-sure
+returns-in-Settled-clause-sure c =
+    let x = c.args.assumptions.now in
+    let y = c.look_at.new.assumptions in
+    settled_all c.args.store.now.live x y c.args.roots.now (record c.args.roots.now { reasons = c.look_at.new.reasons }) c.look_at.ensures.propagates c.requires.kept (ap has_clash c.requires.cut)
+    (subst (λ xs. AreSettled (maps.get c.args.store.now.live) xs x.trail.lits y.trail.lits) c.as_slice-slots.ensures.value c.in-Settled.ensures.looked)
+
+pub returns-in-Clash-clause-kept : goal.returns-in-Clash-clause-kept
+returns-in-Clash-clause-kept c =
+    kept_settled c.args.store.now.live c.args.assumptions.now c.look_at.new.assumptions c.args.roots.now _ c.look_at.ensures.propagates c.requires.kept c.requires.cut refl refl refl
+
+pub returns-in-Settled-clause-begun : goal.returns-in-Settled-clause-begun
+returns-in-Settled-clause-begun c = inr (refl, c.look_at.ensures.propagates.extends.begins)
+
+pub returns-in-Clash-clause-begun : goal.returns-in-Clash-clause-begun
+returns-in-Clash-clause-begun c = inr (refl, c.look_at.ensures.propagates.extends.begins)
+
+pub returns-in-Open-clause-begun : goal.returns-in-Open-clause-begun
+returns-in-Open-clause-begun c =
+    let fewer = c.cut.ensures.fewer in
+    let zero : length c.cut.new.assumptions.trail.lits ≡ 0 = omega (arith, fewer) in
+    inl (rewound_none (subst (IsRewound c.args.roots.now.history c.cut.new.self.history) zero c.cut.ensures.history))

@@ -1,0 +1,16 @@
+use Rattle.std.proofs.Common.{◌≡◌, ℕ, true, Some, take}
+use Rattle.std.specs.FinMap as maps
+use Rattle.tables.specs.Filled.{at}
+use Rattle.cnf_base.specs.Literals.{Clause, has}
+use Rattle.root_literals.specs.Watched.{HasUnit}
+use Rattle.root_literals.specs.Code.Propagated.{PropagatesTo}
+use Rattle.root_literals.proofs.units.set_units.Given as goal
+
+abbrev pub invariant-loop-place : goal.invariant-loop-place
+invariant-loop-place l = record {
+  units : (s : ℕ) → has (take l.place l.slots) s ≡ true → (c : Clause) →
+      maps.get l.store.live s ≡ Some c → HasUnit c l.assumptions.trail.lits;
+  propagates :
+      PropagatesTo l.store.live l.store.live l.fn.assumptions l.assumptions (at l.fn.reasons)
+      (at l.reasons);
+}

@@ -1,0 +1,3 @@
+-- How the parts of the code fit together. No public contract speaks of it.
+pub mod Doubts
+pub mod Propagated
