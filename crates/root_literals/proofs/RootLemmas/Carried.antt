@@ -1,39 +1,31 @@
 -- What is kept of the literals that are true with nothing assumed, past a propagation too.
-use Rattle.std.proofs.Common.{◌≡◌, ℕ, ◌/◌, true, false, cond, Option, Some, is_some, List, [], ◌∷◌}
-use Rattle.std.proofs.Common.{length, take, refl, sym, ap, ◌∙◌, subst}
-use Rattle.std.specs.Ordering.{nat_cmp}
-use Rattle.std.specs.FinMap as maps
-use Rattle.std.specs.FinMap.{FinMap}
+use Rattle.std.proofs.Common.{arith, rules, ◌≡◌, ℕ, ◌/◌, true, false, Option, Some, is_some, List}
+use Rattle.std.proofs.Common.{[], ◌∷◌, length, take, refl, sym, ap, ◌∙◌, subst}
 use Rattle.std.proofs.lemmas.Bool.{false_from_ne_true, true≢false, false≢true}
+use Rattle.std.specs.{Ordering.nat_cmp, FinMap.FinMap}
 use Rattle.cnf_base.specs.Literals.{Literal, complement, Clause, has, size}
 use Rattle.tables.specs.Filled.{at}
-use Rattle.theory.specs.Propagation.{Clash, Forced}
+use Rattle.theory.specs.{Propagation.Clash, Propagation.Forced, Sets.conflicts}
+use Rattle.theory.proofs.PropagationLemmas.{Forced.clash_by_false, Conflicts.conflicts_more}
 use Rattle.propagation.specs.Assumptions.{Assumption, AssumptionsState, roots_in}
-use Rattle.root_literals.specs.History.{IsHistory, sure_of, visits}
-use Rattle.root_literals.specs.Order.{each_in_order, in_order}
-use Rattle.root_literals.specs.Roots.{AreNoted, AreReasoned, HaveUnits, IsKept, IsKnown, IsStanding}
-use Rattle.root_literals.specs.Roots.{is_up_to_date, has_clash, is_cut}
 use Rattle.propagation.specs.Code.Closure.{AreForced}
-use Rattle.root_literals.specs.Code.Propagated.{CanSet, PropagatesTo}
-use Rattle.root_literals.specs.Watched.{IsPart, IsWatched}
-use Rattle.root_literals.specs.declared.history.History.{History}
-use Rattle.root_literals.specs.declared.roots.Kept.{Kept}
+use Rattle.root_literals.specs.Roots.{AreNoted, AreReasoned, HaveUnits, IsKept, IsKnown, IsStanding}
+use Rattle.root_literals.specs.Roots.{is_up_to_date, has_clash}
 use Rattle.root_literals.specs.declared.roots.Kept.TheVariants.{Cut, Behind, All}
 use Rattle.root_literals.specs.declared.roots.Kept.TheVariants.{Clash as KeptClash}
-use Rattle.root_literals.specs.declared.roots.Roots.{Roots}
-use Rattle.trail.specs.Trail.{HasNoVariableTwice}
-use Rattle.theory.specs.Sets.{conflicts}
-use Rattle.theory.proofs.PropagationLemmas.Forced.{clash_by_false}
-use Rattle.theory.proofs.PropagationLemmas.Conflicts.{conflicts_more}
-use Rattle.trail.proofs.TrailLemmas.MakesFalse.{no_conflict}
-use Rattle.root_literals.proofs.RootLemmas.Closed.{all_closed, all_quiet, units_carried}
-use Rattle.root_literals.proofs.RootLemmas.Order.{has-in_order, seen_there}
-use Rattle.root_literals.proofs.RootLemmas.Watched.{front_part}
-use Rattle.root_literals.proofs.RootLemmas.History.{history_among}
-use Rattle.root_literals.proofs.RootLemmas.Kept.{seen_same}
-use Rattle.root_literals.proofs.RootLemmas.Reasons.{reasoned_forced, reasoned_same}
-use Rattle.root_literals.proofs.RootLemmas.Uses.{counted_in_order}
-use Rattle.root_literals.specs.Uses.{AreCounted}
+use Rattle.root_literals.specs.{History.IsHistory, History.sure_of, Order.each_in_order}
+use Rattle.root_literals.specs.{Code.Propagated.CanSet, Code.Propagated.PropagatesTo}
+use Rattle.root_literals.specs.{Watched.IsPart, Watched.IsWatched, declared.history.History.History}
+use Rattle.root_literals.specs.{declared.roots.Kept.Kept, declared.roots.Roots.Roots}
+use Rattle.root_literals.specs.{Uses.AreCounted}
+use Rattle.root_literals.proofs.RootLemmas.{Closed.all_closed, Closed.all_quiet}
+use Rattle.root_literals.proofs.RootLemmas.{Closed.units_carried, Order.has-in_order}
+use Rattle.root_literals.proofs.RootLemmas.{Order.seen_there, Watched.front_part}
+use Rattle.root_literals.proofs.RootLemmas.{History.history_among, Kept.seen_same}
+use Rattle.root_literals.proofs.RootLemmas.{Reasons.reasoned_forced, Reasons.reasoned_same}
+use Rattle.root_literals.proofs.RootLemmas.{Uses.counted_in_order}
+use Rattle.trail.{specs.Trail.HasNoVariableTwice, proofs.TrailLemmas.MakesFalse.no_conflict}
+use Rattle.std.specs.FinMap as maps
 
 pub kept_forced : (live : FinMap nat_cmp Clause) (roots : Roots) (lits : List Literal) → IsKept live roots lits → AreForced (maps.get (each_in_order live)) lits
 kept_forced live roots lits kept = reasoned_forced (maps.get (each_in_order live)) (at roots.reasons) lits kept.reasoned
@@ -78,8 +70,7 @@ roots_part lits (last ∷ rest) (start ∷ starts) l h = front_part start lits l
 module _ (live : FinMap nat_cmp Clause) (roots : Roots) (lits : List Literal) (assumptions : List Assumption) (starts : List ℕ) (different : (s : ℕ) (c : Clause) → maps.get live s ≡ Some c → size c ≡ length c) (apart : HasNoVariableTwice lits)
     (kept : IsKept live roots (roots_in lits assumptions starts)) (up : is_up_to_date roots.kept ≡ true) (quiet : has_clash roots.kept ≡ false) where
   no_conflict_kept : conflicts (roots_in lits assumptions starts) ≡ false
-  no_conflict_kept = false_from_ne_true (conflicts (roots_in lits assumptions starts)) (λ h.
-      true≢false (sym (conflicts_more (roots_in lits assumptions starts) lits (roots_part lits assumptions starts) h) ∙ no_conflict lits apart))
+  no_conflict_kept = grind (arith, false_from_ne_true, true≢false, conflicts_more, roots_part, no_conflict)
 
   pub all_forced : (l : Literal) → Forced (maps.get (each_in_order live)) [] l → has (roots_in lits assumptions starts) l ≡ true
   all_forced l forced =
@@ -125,14 +116,10 @@ module _ (a b : FinMap nat_cmp Clause) (x y : AssumptionsState) (r s : Literal �
           ap is_some (after_is l)
           ∙ carried.noted l (ap is_some (sym (before_is l)) ∙ kept.noted.each k c (ap (λ m. maps.get m k) (sym carried.same) ∙ is) l member);
     };
-    reasoned =
-        reasoned_same (maps.get (each_in_order b)) s lits
-        (reasoned_carried lits part (reasoned_same (maps.get (each_in_order a)) (at roots.reasons) lits kept.reasoned r (λ l h. sym (before_is l)))) (at after.reasons) (λ l h. after_is l);
+    reasoned = grind (arith, reasoned_same, reasoned_carried);
     known = subst (λ k. IsKnown b k lits) (sym kept_is) (known_carried roots.kept lits part kept.known);
     history = subst (λ h. IsHistory (sure_of h.doubts.items (maps.get b)) h lits) (sym history_is) (history_carried roots.history.doubts.items roots.history lits part kept.history);
-    visited =
-        seen_same (maps.get b) roots after lits kept_is history_is
-        (λ quiet. visited_carried (cond (is_cut roots.kept) roots.history.doubts.items []) (visits roots.history) lits part (kept.visited quiet));
+    visited = search (rules, seen_same, visited_carried);
     counted = subst (AreCounted (maps.get b) (at after.reasons) lits) (sym uses_are)
         (counted_in_order a b (at roots.reasons) (at after.reasons) lits roots.uses carried.same (λ l h. after_is l ∙ carried.as_before l (part l h) ∙ sym (before_is l)) kept.counted);
   }
@@ -144,12 +131,8 @@ pub room_for : {live : FinMap nat_cmp Clause} {held : AssumptionsState} {reason_
     (has held.trail.reserved (m / 2) ≡ true) × (is_some (reason_of m) ≡ true)
 room_for {live} can slot c here m member =
     let shown = seen_there live slot c here in
-    let there = has-in_order c m ∙ member in
-    (can.room.each slot (in_order c) shown m there, can.noted.each slot (in_order c) shown m there)
+    grind (arith, has-in_order)
 
 -- there still is after visits
 pub can_set_on : {a b : FinMap nat_cmp Clause} {x y : AssumptionsState} {r s : Literal → Option ℕ} → CanSet a x r → PropagatesTo a b x y r s → CanSet b y s
-can_set_on {a} {b} {x} {y} {r} {s} can carried = record {
-  room = record { each = λ k c here l member. carried.extends.reserved (l / 2) ∙ can.room.each k c (ap (λ m. maps.get m k) (sym carried.same) ∙ here) l member };
-  noted = noted_carried a b x y r s carried can.noted;
-}
+can_set_on {a} {b} {x} {y} {r} {s} can carried = grind (arith, noted_carried)

@@ -1,27 +1,25 @@
 -- Where all is propagated, nothing more follows.
 use Rattle.std.proofs.Common.{◌≡◌, ◌≢◌, ℕ, Bool, true, false, cond, eqb, eq-eqb, ◌||◌, Some, List}
 use Rattle.std.proofs.Common.{Option, [], ◌∷◌, length, refl, sym, ap, ◌∙◌, subst, arith, inl, inr}
-use Rattle.std.specs.Ordering.{nat_cmp}
-use Rattle.std.specs.FinMap as maps
-use Rattle.std.specs.FinMap.{FinMap}
 use Rattle.std.proofs.lemmas.Bool.{cases_eq, true≢false, false≢true}
+use Rattle.std.specs.{Ordering.nat_cmp, FinMap.FinMap}
 use Rattle.cnf_base.specs.Literals.{Literal, complement, Clause, has, size}
 use Rattle.cnf_base.proofs.SetLemmas.{any_some, has_head, has_tail, has_cases}
+use Rattle.cnf_base.proofs.LiteralLemmas.{complement-complement, complement-other}
+use Rattle.cnf_base.proofs.SizeLemmas.{distinct_parts}
 use Rattle.theory.specs.Propagation.{IsClosed, Clash, by_empty, by_both}
 use Rattle.theory.specs.Sets.{conflicts}
-use Rattle.root_literals.specs.Order.{in_order, each_in_order}
-use Rattle.clause_db.specs.Store.{is_tautology}
-use Rattle.cnf_base.proofs.LiteralLemmas.{complement-complement, complement-other}
-use Rattle.watch_lists.specs.Watched.{is_short, short_for, watches}
-use Rattle.root_literals.specs.Watched.{IsMet, HasUnit, IsWatched}
 use Rattle.theory.proofs.PropagationLemmas.Conflicts.{conflict_from}
+use Rattle.root_literals.specs.{Order.each_in_order, Watched.IsMet, Watched.HasUnit}
+use Rattle.root_literals.specs.{Watched.IsWatched, Code.Propagated.PropagatesTo}
 use Rattle.root_literals.proofs.RootLemmas.Order.{has-in_order, seen_there, there_seen}
 use Rattle.root_literals.proofs.RootLemmas.Watched.{unit_more}
+use Rattle.clause_db.specs.Store.{is_tautology}
+use Rattle.watch_lists.specs.Watched.{is_short, short_for, watches}
 use Rattle.watch_lists.proofs.WatchListsLemmas.Watched.{watches_first}
 use Rattle.trail.proofs.TrailLemmas.Longer.{has_begun}
 use Rattle.propagation.specs.Assumptions.{AssumptionsState}
-use Rattle.root_literals.specs.Code.Propagated.{PropagatesTo}
-use Rattle.cnf_base.proofs.SizeLemmas.{distinct_parts}
+use Rattle.std.specs.FinMap as maps
 
 -- the unit rule of one clause
 pub clause_closed : (c : Clause) (trues : List Literal) → size c ≡ length c → HasUnit c trues → ((l : Literal) → has trues (complement l) ≡ true → IsMet c l trues) →
@@ -111,8 +109,7 @@ pub units_carried : (before after : FinMap nat_cmp Clause) (trues : List Literal
     ((s : ℕ) (c : Clause) → maps.get before s ≡ Some c → HasUnit c trues) → (s : ℕ) (c : Clause) → maps.get after s ≡ Some c → HasUnit c trues
 units_carried before after trues same short units s c is =
     let seen = ap (λ m. maps.get m s) (sym same) ∙ seen_there after s c is in
-    let w = there_seen before s (in_order c) seen in
-    unit_alike w.0 c trues (by_test (is_short c) (is_short w.0) (sym (ap short_for is) ∙ short s ∙ ap short_for w.1)) (λ l. sym (has-in_order c l) ∙ w.2 l) (units s w.0 w.1)
+    grind (arith, there_seen, unit_alike, has-in_order)
   where
     by_test : (a b : Bool) → cond {A = ℕ} a 1 0 ≡ cond b 1 0 → a ≡ b
     by_test true true e = refl

@@ -1,28 +1,23 @@
 -- Looks at doubtful clauses.
-use Rattle.std.proofs.Common.{◌≡◌, ℕ, ◌+◌, ◌<◌, true, Some, List, [], ◌∷◌, length, take, get_or}
-use Rattle.std.proofs.Common.{sym, ap, ◌∙◌, inl, inr}
-use Rattle.std.proofs.lemmas.Bool.{false≢true}
-use Rattle.std.proofs.lemmas.List.{take_more}
-use Rattle.std.proofs.lemmas.Option.{same_Some}
+use Rattle.std.proofs.Common.{arith, ◌≡◌, ℕ, ◌+◌, ◌<◌, true, Some, List, [], ◌∷◌, length, take}
+use Rattle.std.proofs.Common.{get_or, sym, ap, ◌∙◌, inl, inr}
+use Rattle.std.proofs.lemmas.{Bool.false≢true, List.take_more, Option.same_Some}
 use Rattle.cnf_base.specs.Literals.{Literal, Clause, complement, has}
 use Rattle.cnf_base.proofs.SetLemmas.{has_cases, has_head}
 use Rattle.theory.specs.Propagation.{Live, open_literals}
 use Rattle.theory.proofs.PropagationLemmas.Open.{open_cases, open_has}
 use Rattle.trail.specs.Left.{how_many}
 use Rattle.trail.specs.declared.left.Left.TheVariants.{Nothing, One}
-use Rattle.trail.proofs.TrailLemmas.Left.{nothing_is, one_is}
-use Rattle.trail.proofs.TrailLemmas.Longer.{pushed_each}
+use Rattle.trail.proofs.TrailLemmas.{Left.nothing_is, Left.one_is, Longer.pushed_each}
 use Rattle.root_literals.specs.Watched.{IsMet, IsPart}
+use Rattle.root_literals.specs.Code.{Doubts.AreSettled, Propagated.AreFalse, Propagated.IsUnit}
 use Rattle.root_literals.proofs.RootLemmas.Watched.{met_more}
-use Rattle.root_literals.specs.Code.Doubts.{AreSettled}
-use Rattle.root_literals.specs.Code.Propagated.{AreFalse, IsUnit}
 
 -- what is left of a clause
 pub left_unit : (ls : List Literal) (c : Clause) (m : Literal) → One m ≡ how_many (open_literals ls c) → IsUnit ls c m
 left_unit ls c m e =
     let alone = one_is (open_literals ls c) m (sym e) in
-    let one = open_has ls c m alone.0 in
-    (one.0, one.1, λ k h ne. elim (open_cases ls c k h) [ inl left ↦ absurd (ne (alone.1 k left)) | inr is_false ↦ is_false ])
+    grind (arith, open_has, open_cases)
 
 pub left_false : (ls : List Literal) (c : Clause) → Nothing ≡ how_many (open_literals ls c) → AreFalse ls c
 left_false ls c e k h = elim (open_cases ls c k h) [
@@ -32,10 +27,7 @@ left_false ls c e k h = elim (open_cases ls c k h) [
 
 -- the clause in the slot has a literal that is true
 pub met_by : (live : Live) (slot : ℕ) (d : Clause) → live slot ≡ Some d → (m : Literal) → has d m ≡ true → (now : List Literal) → has now m ≡ true → (s : ℕ) → has (slot ∷ []) s ≡ true → (c : Clause) → live s ≡ Some c → (l : Literal) → IsMet c l now
-met_by live slot d here m member now set s among c is l there = elim (has_cases slot [] s among) [
-  | inl e ↦ (m, ap (λ x. has x m) (sym (same_Some d c (sym here ∙ ap live e ∙ is))) ∙ member, set)
-  | inr none ↦ absurd (false≢true none)
-]
+met_by live slot d here m member now set s among c is l there = grind (arith, has_cases, same_Some, false≢true)
 
 -- one more slot
 pub settled_more : (live : Live) (slots : List ℕ) (place : ℕ) → place < length slots → (first before now : List Literal) → IsPart first before → IsPart before now → AreSettled live (take place slots) first before →

@@ -2,8 +2,9 @@
 use Rattle.std.proofs.Common.{◌≡◌, ◌≢◌, ℕ, ◌+◌, ◌<◌, Bool, true, false, cond, eqb, eq-eqb, Option}
 use Rattle.std.proofs.Common.{Some, None, is_some, List, [], ◌∷◌, ◌++◌, length, take, refl, sym, ap}
 use Rattle.std.proofs.Common.{◌∙◌, subst, arith, inl, inr, ◌⊎◌, rules}
-use Rattle.std.proofs.lemmas.List.{length-append, take_all, take-append-le}
-use Rattle.std.specs.FinMap as maps
+use Rattle.std.proofs.lemmas.{List.length-append, List.take_all, List.take-append-le, Bool.cases_eq}
+use Rattle.std.proofs.lemmas.{Bool.true≢false, Bool.false≢true, Option.none-some}
+use Rattle.std.specs.{Ordering.nat_cmp, FinMap.FinMap}
 use Rattle.cnf_base.specs.Literals.{Literal, complement, Clause, has}
 use Rattle.cnf_base.proofs.SetLemmas.{has_append_left, has_append_right, has_head}
 use Rattle.tables.specs.Filled.{at}
@@ -26,14 +27,11 @@ use Rattle.root_literals.proofs.RootLemmas.Order.{has-in_order, seen_has_at, see
 use Rattle.root_literals.proofs.RootLemmas.Reasons.{reasoned_more, reasoned_same, reasoned_some}
 use Rattle.root_literals.proofs.RootLemmas.Reasons.{reasoned_taken}
 use Rattle.root_literals.proofs.RootLemmas.Uses.{counted_among, counted_longer, in_rest_too}
-use Rattle.trail.specs.declared.left.Left.{Left}
-use Rattle.trail.specs.declared.left.Left.TheVariants.{Nothing, One, More}
-use Rattle.std.proofs.lemmas.Bool.{cases_eq, true≢false, false≢true}
-use Rattle.std.proofs.lemmas.Option.{none-some}
-use Rattle.std.specs.Ordering.{nat_cmp}
-use Rattle.std.specs.FinMap.{FinMap}
 use Rattle.root_literals.specs.declared.history.History.{History}
 use Rattle.root_literals.specs.declared.roots.Kept.{Kept}
+use Rattle.trail.specs.declared.left.Left.{Left}
+use Rattle.trail.specs.declared.left.Left.TheVariants.{Nothing, One, More}
+use Rattle.std.specs.FinMap as maps
 
 only_one : (c : Clause) (m : Literal) → length c ≡ 1 → has c m ≡ true → (k : Literal) → has c k ≡ true → k ≡ m
 only_one [] m one there k h = absurd (false≢true h)
@@ -95,10 +93,7 @@ module _ {after : FinMap nat_cmp Clause} {slot : ℕ} {c : Clause} {roots : Root
     where
       by_doubt : visits roots.history ≢ 0 → (b : Bool) → given.is_doubtful ≡ b
           → ((later.floor ≡ roots.history.floor) × ((d p : ℕ) → IsWatched (sure_of roots.history.doubts.items (maps.get (maps.remove after slot))) (take d lits) (take p lits) → IsWatched (sure_of later.doubts.items (maps.get after)) (take d lits) (take p lits))) ⊎ (later.floor ≡ length lits)
-      by_doubt some true e = elim (given.noted_is.settled e some) [
-        | inl noted ↦ inl (noted.1, λ d p. sure (take d lits) (take p lits) (λ none. absurd (true≢false (sym noted.0 ∙ none))))
-        | inr high ↦ inr high
-      ]
+      by_doubt some true e = grind (arith, noted, sure, true≢false)
       by_doubt some false e =
           inl (given.noted_is.floor e, λ d p. sure (take d lits) (take p lits) (λ _. met_sure lits c left given.arranged (given.small e) (take d lits) (take p lits) (front_part d lits)))
 
@@ -194,8 +189,7 @@ module _ {after : FinMap nat_cmp Clause} {slot : ℕ} {c : Clause} {roots : Root
         by_reason k None is there = absurd (false≢true (sym (ap is_some is) ∙ reasoned_some (maps.get (each_in_order (maps.remove after slot))) (at roots.reasons) lits given.kept.reasoned m is_true))
         by_reason k (Some s) is there =
             let w = seen_has_at (maps.remove after slot) m s (given.kept.reasoned.has_it m s is_true is) in
-            let k_is : k ≡ m = only_one c m one first.0 k (ap (λ o. is_in o k) (sym given.here ∙ ap (λ o. clause_in (maps.get after) o) (sym (set_here now set))) ∙ there) in
-            ap (λ o. is_in (clause_in (maps.get (maps.remove after slot)) o) k) is ∙ ap (λ o. is_in o k) w.at ∙ ap (has w.clause) k_is ∙ w.member
+            grind (arith, only_one, set_here)
 
     -- the literal becomes true
     pub entered_set : has_clash roots.kept ≡ false → has lits m ≡ false → (now : Roots) (more : List Literal) → now.kept ≡ cond (is_cut roots.kept) Cut Behind → now.history ≡ later → more ≡ lits ++ m ∷ [] →

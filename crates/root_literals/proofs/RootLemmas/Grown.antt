@@ -1,25 +1,21 @@
 -- What is kept where more follows.
-use Rattle.std.proofs.Common.{◌≡◌, ℕ, ◌+◌, ◌<◌, ◌≤◌, Bool, true, false, cond, Option, Some, ◌∷◌}
+use Rattle.std.proofs.Common.{rules, ◌≡◌, ℕ, ◌+◌, ◌<◌, ◌≤◌, Bool, true, false, Option, Some, ◌∷◌}
 use Rattle.std.proofs.Common.{◌++◌, [], ◌⊎◌, inl, inr, List, length, take, get_or, refl, sym, ap}
 use Rattle.std.proofs.Common.{◌∙◌, subst, arith}
-use Rattle.std.specs.Ordering.{nat_cmp}
-use Rattle.std.specs.FinMap as maps
-use Rattle.std.specs.FinMap.{FinMap}
 use Rattle.std.proofs.lemmas.List.{take-take, take_all, take_more}
+use Rattle.std.specs.{Ordering.nat_cmp, FinMap.FinMap}
 use Rattle.cnf_base.specs.Literals.{Literal, complement, Clause, has}
 use Rattle.tables.specs.Filled.{at}
 use Rattle.propagation.specs.Assumptions.{AssumptionsState}
+use Rattle.propagation.proofs.PropagationLemmas.Exact.{begins_on, longer_from}
 use Rattle.theory.specs.Propagation.{Live}
 use Rattle.root_literals.specs.History.{IsHistory, sure_of, visits, HasGrown}
 use Rattle.root_literals.specs.Roots.{AreReasoned, IsKept, IsKnown, has_clash, is_cut, seen_of}
-use Rattle.root_literals.specs.Code.Doubts.{AreSettled}
-use Rattle.root_literals.specs.Code.Propagated.{PropagatesTo}
+use Rattle.root_literals.specs.Code.{Doubts.AreSettled, Propagated.PropagatesTo}
 use Rattle.root_literals.specs.Watched.{IsPart, IsMet, IsWatched}
 use Rattle.root_literals.specs.declared.history.History.{History}
-use Rattle.root_literals.specs.declared.roots.Roots.{Roots}
-use Rattle.propagation.proofs.PropagationLemmas.Exact.{begins_on, longer_from}
-use Rattle.trail.proofs.TrailLemmas.Longer.{has_begun}
-use Rattle.root_literals.specs.declared.roots.Kept.TheVariants.{Cut}
+use Rattle.root_literals.specs.declared.roots.{Roots.Roots, Kept.TheVariants.Cut}
+use Rattle.root_literals.specs.Uses.{AreCounted}
 use Rattle.root_literals.proofs.RootLemmas.Kept.{seen_same}
 use Rattle.root_literals.proofs.RootLemmas.Watched.{front_part, sure_by, watched_done}
 use Rattle.root_literals.proofs.RootLemmas.Watched.{watched_grown, watched_more, watched_all}
@@ -27,8 +23,9 @@ use Rattle.root_literals.proofs.RootLemmas.Watched.{watched_most}
 use Rattle.root_literals.proofs.RootLemmas.History.{front_in_front, history_longer, watched_nothing}
 use Rattle.root_literals.proofs.RootLemmas.History.{watched_part}
 use Rattle.root_literals.proofs.RootLemmas.Uses.{counted_in_order, counted_longer}
-use Rattle.root_literals.specs.Uses.{AreCounted}
 use Rattle.root_literals.proofs.RootLemmas.Carried.{history_carried, noted_carried, visited_carried}
+use Rattle.trail.proofs.TrailLemmas.Longer.{has_begun}
+use Rattle.std.specs.FinMap as maps
 
 module _ (a b : FinMap nat_cmp Clause) (x y : AssumptionsState) (r s : Literal → Option ℕ) (carried : PropagatesTo a b x y r s) where
   more : IsPart x.trail.lits y.trail.lits
@@ -45,8 +42,7 @@ module _ (a b : FinMap nat_cmp Clause) (x y : AssumptionsState) (r s : Literal �
   pub history_grown : (doubts : List ℕ) (history : History) (n : ℕ) → visits history ≤ n + 1 → IsWatched (sure_of doubts (maps.get a)) (take n x.trail.lits) x.trail.lits → IsHistory (sure_of doubts (maps.get a)) history x.trail.lits →
       IsHistory (sure_of doubts (maps.get b)) history y.trail.lits
   history_grown doubts history n all watched is =
-      history_longer (sure_of doubts (maps.get b)) history x.trail.lits y.trail.lits n carried.extends.begins carried.extends.longer all (visited_carried a b x y r s carried doubts n x.trail.lits (λ l h. h) watched)
-      (history_carried a b x y r s carried doubts history x.trail.lits (λ l h. h) is)
+      search (rules, history_longer, visited_carried, history_carried)
 
   -- one more literal was visited
   pub visited_more : (done : ℕ) → done < length x.trail.lits → IsWatched (maps.get a) (take done x.trail.lits) x.trail.lits →
@@ -66,8 +62,7 @@ kept_grown a b x y roots now carried kept known history visited uses_are = recor
   history = history;
   visited = visited;
   counted = subst (AreCounted (maps.get b) (at now.reasons) y.trail.lits) (sym uses_are)
-      (counted_longer (maps.get b) (at now.reasons) x.trail.lits y.trail.lits roots.uses carried.extends.begins carried.extends.longer
-      (counted_in_order a b (at roots.reasons) (at now.reasons) x.trail.lits roots.uses carried.same carried.as_before kept.counted));
+      (search (rules, counted_longer, counted_in_order));
 }
 
 -- more literals are kept, by clauses that stay as they are
@@ -96,16 +91,14 @@ settled_all live x y roots now carried kept quiet settled =
     let ds = roots.history.doubts.items in
     all_sure (maps.get live) ds (take n y.trail.lits) y.trail.lits
     (λ s among c is l h. settled s among c is l (front_part n x.trail.lits (complement l) (ap (λ ls. has ls (complement l)) (sym (front live live x y (at roots.reasons) (at now.reasons) carried n kept.history.inside)) ∙ h)))
-    (visited_grown live live x y (at roots.reasons) (at now.reasons) carried ds n kept.history.inside
-    (watched_most (maps.get live) ds (is_cut roots.kept) (take n x.trail.lits) x.trail.lits (kept.visited quiet)))
+    (grind (arith, visited_grown, watched_most))
 
 -- and is kept
 pub kept_settled : (live : FinMap nat_cmp Clause) (x y : AssumptionsState) (roots now : Roots) → PropagatesTo live live x y (at roots.reasons) (at now.reasons) → IsKept live roots x.trail.lits → roots.kept ≡ Cut → now.kept ≡ roots.kept → now.history ≡ roots.history →
     now.uses ≡ roots.uses → IsKept live now y.trail.lits
 kept_settled live x y roots now carried kept cut kept_is history_is uses_are =
     kept_started live x y roots now carried kept (ap has_clash cut) history_is (subst (λ k. IsKnown live k y.trail.lits) (sym (kept_is ∙ cut)) tt) uses_are
-    (seen_same (maps.get live) roots now y.trail.lits kept_is history_is
-    (λ quiet. visited_grown live live x y (at roots.reasons) (at now.reasons) carried (cond (is_cut roots.kept) roots.history.doubts.items []) (visits roots.history) kept.history.inside (kept.visited quiet)))
+    (grind (arith, seen_same, visited_grown))
 
 -- all that was visited is propagated among all literals
 pub begun_again : (b : FinMap nat_cmp Clause) (doubts : List ℕ) (n : ℕ) (lits : List Literal) (trues : ℕ) → trues ≡ length lits → IsWatched (maps.get b) (take n lits) lits → (p : ℕ) → trues ≤ p → p ≤ length lits → IsWatched (sure_of doubts (maps.get b)) (take n lits) (take p lits)
@@ -126,7 +119,4 @@ begun_from live roots now before after kept quiet grown p low inside = elim grow
 ]
 
 pub grown_on : (old now : History) (x y z : List Literal) → (visits now ≡ 0) ⊎ HasGrown old now x y → take (length y) z ≡ y → (visits now ≡ 0) ⊎ HasGrown old now x z
-grown_on old now x y z first begins = elim first [
-  | inl none ↦ inl none
-  | inr same ↦ inr (same.0, begins_on x y z same.1 (longer_from x y same.1) begins)
-]
+grown_on old now x y z first begins = grind (arith, begins_on, longer_from)

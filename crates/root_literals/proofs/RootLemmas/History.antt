@@ -1,10 +1,9 @@
 -- When the literals that are kept were propagated.
 use Rattle.std.proofs.Common.{◌≡◌, ◌≢◌, ℕ, ◌+◌, ◌<◌, ◌≤◌, List, [], ◌∷◌, ◌++◌, length, get_or, take}
 use Rattle.std.proofs.Common.{sym, ap, ◌∙◌, subst, arith, inl, inr, ◌⊎◌, rules}
-use Rattle.std.proofs.lemmas.Bool.{cases_eq, cases_lt}
 use Rattle.std.proofs.lemmas.List.{get_or-take, get_or_append_left, length-append, length-take-le}
 use Rattle.std.proofs.lemmas.List.{take-take, take_all}
-use Rattle.std.proofs.Math.Seq.{get_or-append_seam}
+use Rattle.std.proofs.{lemmas.Bool.cases_eq, lemmas.Bool.cases_lt, Math.Seq.get_or-append_seam}
 use Rattle.cnf_base.specs.Literals.{Literal, has}
 use Rattle.theory.specs.Propagation.{Live}
 use Rattle.root_literals.specs.History.{IsHistory, IsRewound, trues_at, visits}
@@ -87,8 +86,7 @@ history_longer live history lits more n begins longer all watched is =
 pub history_one_more : (live : Live) (history : History) (lits more : List Literal) → length more ≡ length lits + 1 → take (length lits) more ≡ lits → IsWatched live (take (visits history) more) more → IsHistory live history lits → IsHistory live history more
 history_one_more live history lits more longer begins watched is =
     history_on live history lits more begins (omega (arith, longer))
-    (λ d p low past. watched_part live (take (visits history) more) (take d more) more (take p more) (front_in_front more d (visits history) (omega (arith, low)))
-    (λ l h. ap (λ ls. has ls l) (take_all p more (omega (arith, past, longer))) ∙ h) watched) is
+    (grind (arith, watched_part, front_in_front, take_all)) is
 
 -- the next visit begins, where those before are propagated among so many literals already, and among more
 pub history_begun : (live : Live) (history begun : History) (lits : List Literal) (trues : ℕ) → visits history < length lits → visits history < trues → begun.visited.items ≡ history.visited.items ++ trues ∷ [] → begun.floor ≡ history.floor →

@@ -1,38 +1,35 @@
 -- What is kept where clauses come and go.
-use Rattle.std.proofs.Common.{◌≡◌, ◌≢◌, ℕ, ◌+◌, ◌<◌, get_or, Bool, true, false, cond, eqb, eq-eqb}
-use Rattle.std.proofs.Common.{ne_eqb, ◌||◌, Option, Some, None, is_some, option_map, List, [], ◌∷◌}
-use Rattle.std.proofs.Common.{rules, length, take, ◌≤◌, refl, sym, ap, ◌∙◌, subst, inl, inr}
-use Rattle.std.specs.FinMap as maps
+use Rattle.std.proofs.Common.{arith, ◌≡◌, ◌≢◌, ℕ, ◌+◌, ◌<◌, get_or, Bool, true, false, cond, eqb}
+use Rattle.std.proofs.Common.{eq-eqb, ne_eqb, ◌||◌, Option, Some, None, is_some, option_map, List}
+use Rattle.std.proofs.Common.{[], ◌∷◌, rules, length, take, ◌≤◌, refl, sym, ap, ◌∙◌, subst, inl}
+use Rattle.std.proofs.Common.{inr}
+use Rattle.std.proofs.lemmas.{Bool.cases_eq, Bool.false≢true, Option.none-some, Option.same_Some}
+use Rattle.std.specs.{Ordering.nat_cmp, FinMap.FinMap}
 use Rattle.cnf_base.specs.Literals.{Literal, complement, Clause, has}
+use Rattle.cnf_base.proofs.{MapLemmas.remove_here, MapLemmas.remove_other, SetLemmas.has_head}
 use Rattle.tables.specs.Filled.{at}
 use Rattle.root_literals.specs.History.{IsHistory, IsRewound, sure_of, visits}
 use Rattle.root_literals.specs.declared.roots.Kept.TheVariants.{Cut, Behind, All}
 use Rattle.root_literals.specs.declared.roots.Kept.TheVariants.{Clash as KeptClash}
+use Rattle.root_literals.specs.declared.roots.{Kept.Kept, Roots.Roots}
+use Rattle.root_literals.specs.declared.history.History.{History}
 use Rattle.root_literals.specs.Roots.{AreNoted, AreReasoned, HasReasons, HaveUnits, IsArranged}
 use Rattle.root_literals.specs.Roots.{IsFalseAt, IsKept, IsKnown, IsReasonAt, has_clash, is_cut}
 use Rattle.root_literals.specs.Roots.{seen_of}
 use Rattle.root_literals.specs.Watched.{IsPart, IsMet, HasUnit, IsWatched}
-use Rattle.root_literals.specs.Uses.{AreCounted, clause_in, is_in, times}
+use Rattle.root_literals.specs.Uses.{AreCounted, clause_in, times}
+use Rattle.root_literals.specs.Order.{in_order, each_in_order}
 use Rattle.root_literals.proofs.RootLemmas.Order.{get_ordered, has-in_order, seen_there}
 use Rattle.root_literals.proofs.RootLemmas.History.{history_cut, history_none, history_noted}
 use Rattle.root_literals.proofs.RootLemmas.History.{watched_cut, watched_none}
-use Rattle.watch_lists.proofs.WatchListsLemmas.Watched.{watched_first}
 use Rattle.root_literals.proofs.RootLemmas.Watched.{watched_sure}
 use Rattle.root_literals.proofs.RootLemmas.Reasons.{reasoned_among, reasoned_cut, reasoned_instead}
 use Rattle.root_literals.proofs.RootLemmas.Uses.{counted_among, counted_instead, in_rest}
+use Rattle.watch_lists.proofs.WatchListsLemmas.Watched.{watched_first}
 use Rattle.theory.specs.Propagation.{Live}
 use Rattle.trail.specs.declared.left.Left.TheVariants.{One, More}
 use Rattle.trail.specs.Trail.{HasNoVariableTwice}
-use Rattle.std.proofs.lemmas.Bool.{cases_eq, false≢true}
-use Rattle.std.proofs.lemmas.Option.{none-some, same_Some}
-use Rattle.std.specs.Ordering.{nat_cmp}
-use Rattle.std.specs.FinMap.{FinMap}
-use Rattle.cnf_base.proofs.MapLemmas.{remove_here, remove_other}
-use Rattle.cnf_base.proofs.SetLemmas.{has_head}
-use Rattle.root_literals.specs.declared.history.History.{History}
-use Rattle.root_literals.specs.declared.roots.Kept.{Kept}
-use Rattle.root_literals.specs.declared.roots.Roots.{Roots}
-use Rattle.root_literals.specs.Order.{in_order, each_in_order}
+use Rattle.std.specs.FinMap as maps
 
 -- ---- One clause more
 
@@ -94,22 +91,13 @@ module _ (trues more : List Literal) (m : Literal) (set : has more m ≡ true) w
 
 pub seen_same : (live : Live) (roots after : Roots) (lits : List Literal) → after.kept ≡ roots.kept → after.history ≡ roots.history → (has_clash roots.kept ≡ false → IsWatched (seen_of roots live) (take (visits roots.history) lits) lits) →
     has_clash after.kept ≡ false → IsWatched (seen_of after live) (take (visits after.history) lits) lits
-seen_same live roots after lits kept_is history_is seen quiet =
-    subst (λ h. IsWatched (sure_of (cond (is_cut after.kept) h.doubts.items []) live) (take (visits h) lits) lits) (sym history_is)
-    (subst (λ k. IsWatched (sure_of (cond (is_cut k) roots.history.doubts.items []) live) (take (visits roots.history) lits) lits) (sym kept_is) (seen (ap has_clash (sym kept_is) ∙ quiet)))
+seen_same live roots after lits kept_is history_is seen quiet = grind arith
 
 -- ---- Another reason
 
 module _ (live : FinMap nat_cmp Clause) (roots after : Roots) (lits : List Literal) (kept_is : after.kept ≡ roots.kept) (history_is : after.history ≡ roots.history) (kept : IsKept live roots lits) where
   with_reasons : AreNoted (maps.get (each_in_order live)) (at after.reasons) → AreReasoned (maps.get (each_in_order live)) (at after.reasons) lits → AreCounted (maps.get live) (at after.reasons) lits after.uses → IsKept live after lits
-  with_reasons noted reasoned counted = record {
-    noted = noted;
-    reasoned = reasoned;
-    known = subst (λ k. IsKnown live k lits) (sym kept_is) kept.known;
-    history = subst (λ h. IsHistory (sure_of h.doubts.items (maps.get live)) h lits) (sym history_is) kept.history;
-    visited = seen_same (maps.get live) roots after lits kept_is history_is kept.visited;
-    counted = counted;
-  }
+  with_reasons noted reasoned counted = grind (arith, seen_same)
 
   -- the same reasons, counted otherwise
   pub kept_counted : after.reasons ≡ roots.reasons → AreCounted (maps.get live) (at after.reasons) lits after.uses → IsKept live after lits
@@ -151,12 +139,7 @@ module _ (live : FinMap nat_cmp Clause) (roots after : Roots) (lits : List Liter
     pub kept_copy : c ≡ m ∷ [] → maps.get live slot ≡ Some (m ∷ []) → after.uses ≡ roots.uses → IsKept live after lits
     kept_copy alone copy same = kept_instead m slot apart by set
         (subst (AreCounted (maps.get live) (at after.reasons) lits) (sym same)
-        (counted_among (maps.get live) (maps.get live) (at roots.reasons) (at after.reasons) lits roots.uses kept.counted (λ k l h is. elim (cases_eq l m) [
-          | inl e ↦
-              let same_clause = ap (clause_in (maps.get live)) was ∙ there ∙ ap Some alone ∙ sym copy ∙ ap (clause_in (maps.get live)) (sym is_now) in
-              ap (λ x. is_in (clause_in (maps.get live) (at roots.reasons x)) k) e ∙ ap (λ o. is_in o k) same_clause ∙ ap (λ x. is_in (clause_in (maps.get live) (at after.reasons x)) k) (sym e) ∙ is
-          | inr ne ↦ ap (λ o. is_in (clause_in (maps.get live) o) k) (sym (others_stay l ne)) ∙ is
-        ])))
+        (counted_among (maps.get live) (maps.get live) (at roots.reasons) (at after.reasons) lits roots.uses kept.counted (grind (arith, cases_eq, is_now, others_stay))))
 
     -- a clause of which the literals are counted in the place of those of the other
     pub kept_exchange : (d : Clause) → maps.get live slot ≡ Some d → (place : ℕ) → place < length lits → get_or lits place 0 ≡ m → (after.uses.counted ≢ 0 → after.uses.counted ≡ roots.uses.counted) →
@@ -171,8 +154,7 @@ pub kept_cut : (live : FinMap nat_cmp Clause) (roots after : Roots) (lits now : 
     AreCounted (maps.get live) (at after.reasons) now after.uses → IsKept live after now
 kept_cut live roots after lits now place kept inside cut rewound reasons is counted = record {
   noted = subst (λ t. AreNoted (maps.get (each_in_order live)) (at t)) (sym reasons) kept.noted;
-  reasoned = subst (λ t. AreReasoned (maps.get (each_in_order live)) (at t) now) (sym reasons)
-      (subst (AreReasoned (maps.get (each_in_order live)) (at roots.reasons)) (sym is) (reasoned_cut (maps.get (each_in_order live)) (at roots.reasons) lits kept.reasoned place));
+  reasoned = grind (arith, reasoned_cut);
   known = subst (λ k. IsKnown live k now) (sym cut) tt;
   history = subst (IsHistory (sure_of after.history.doubts.items (maps.get live)) after.history) (sym is) (elim (cases_eq (visits after.history) 0) [
     | inl none ↦ history_none (sure_of after.history.doubts.items (maps.get live)) after.history (take place lits) none
@@ -205,10 +187,7 @@ module _ (live : FinMap nat_cmp Clause) (slot : ℕ) where
   gone s e = remove_here live slot s e
 
   pub was_there : (s : ℕ) (d : Clause) → maps.get (maps.remove live slot) s ≡ Some d → maps.get live s ≡ Some d
-  was_there s d is = elim (cases_eq s slot) [
-    | inl e ↦ absurd (none-some d (sym (gone s e) ∙ is))
-    | inr ne ↦ sym (elsewhere s ne) ∙ is
-  ]
+  was_there s d is = grind (arith, cases_eq, none-some, gone, elsewhere)
 
   was_seen : (s : ℕ) (d : Clause) → maps.get (each_in_order (maps.remove live slot)) s ≡ Some d → maps.get (each_in_order live) s ≡ Some d
   was_seen s d is = search (rules, cases_eq, none-some, option_map, gone, get_ordered, elsewhere)
@@ -248,9 +227,7 @@ module _ (live : FinMap nat_cmp Clause) (slot : ℕ) where
       history =
           history_noted (sure_of roots.history.doubts.items (maps.get live)) (sure_of later.doubts.items (maps.get (maps.remove live slot))) roots.history later lits visited_is
           (inl (floor_is, λ d p. watched_sure_left roots.history.doubts.items later.doubts.items (take d lits) (take p lits) others)) kept.history;
-      visited = λ quiet.
-          subst (λ v. IsWatched (sure_of (cond (is_cut roots.kept) later.doubts.items []) (maps.get (maps.remove live slot))) (take (length v.items) lits) lits) (sym visited_is)
-          (watched_sure_left (cond (is_cut roots.kept) roots.history.doubts.items []) (cond (is_cut roots.kept) later.doubts.items []) (take (visits roots.history) lits) lits (others_seen (is_cut roots.kept)) (kept.visited quiet));
+      visited = grind (arith, watched_sure_left);
       counted = counted_among (maps.get live) (maps.get (maps.remove live slot)) (at roots.reasons) (at roots.reasons) lits roots.uses kept.counted (λ k l _. in_rest live slot k (at roots.reasons l));
     }
       where

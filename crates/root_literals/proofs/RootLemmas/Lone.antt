@@ -4,51 +4,41 @@ use Rattle.std.proofs.Common.{cond, eq-eqb, Option, Some, List, [], ◌∷◌, l
 use Rattle.std.proofs.Common.{sym, ap, ◌∙◌, subst, arith, inl, inr, ◌⊎◌, rules}
 use Rattle.std.proofs.lemmas.Bool.{cases_eq, cases_lt, false≢true, false_from_ne_true, or_cases}
 use Rattle.std.proofs.lemmas.Bool.{or_left, or_right, true≢false}
-use Rattle.std.proofs.lemmas.List.Edits.{get_or-remove_above, get_or-remove_below, length-remove}
-use Rattle.std.specs.FinMap as maps
+use Rattle.std.proofs.lemmas.{List.Edits.get_or-remove_above, List.Edits.get_or-remove_below}
+use Rattle.std.proofs.lemmas.{List.Edits.length-remove, Grind.get_or_default_zero, Option.same_Some}
+use Rattle.std.specs.{List.remove, Ordering.nat_cmp, FinMap.FinMap}
 use Rattle.cnf_base.specs.Literals.{Literal, complement, Clause, has, variable}
-use Rattle.cnf_base.proofs.LiteralLemmas.{complement-complement}
-use Rattle.cnf_base.proofs.MemberLemmas.{has_front, place_in_front}
+use Rattle.cnf_base.proofs.{LiteralLemmas.complement-complement, MemberLemmas.has_front}
+use Rattle.cnf_base.proofs.{MemberLemmas.place_in_front, SetLemmas.has_cases, SetLemmas.has_head}
+use Rattle.cnf_base.proofs.{SizeLemmas.has_at}
 use Rattle.clause_db.specs.Store.{copies_with}
 use Rattle.tables.specs.Filled.{at}
 use Rattle.propagation.specs.Assumptions.{HasAt}
 use Rattle.propagation.proofs.PropagationLemmas.Counts.{copies_without, none_with}
-use Rattle.trail.specs.Trail.{HasNoVariableTwice}
-use Rattle.trail.proofs.TrailLemmas.Truth.{places_apart}
 use Rattle.trail.proofs.TrailLemmas.Without.{IsFront, front_before, front_still, front_was}
 use Rattle.trail.proofs.TrailLemmas.Without.{none_left, still_there, was_there as was_true}
-use Rattle.root_literals.specs.History.{IsHistory, sure_of, trues_at, visits}
-use Rattle.root_literals.specs.Order.{each_in_order}
+use Rattle.trail.{specs.Trail.HasNoVariableTwice, proofs.TrailLemmas.Truth.places_apart}
 use Rattle.root_literals.specs.Roots.{AreNoted, AreReasoned, FollowsReasons, HaveUnits, IsAbsent}
 use Rattle.root_literals.specs.Roots.{IsKept, IsKnown, IsUnneeded, has_clash, is_cut}
-use Rattle.root_literals.specs.Uses.{AreCounted, clause_in, is_in, times}
-use Rattle.root_literals.specs.Watched.{HasUnit, IsPart, IsWatched}
 use Rattle.root_literals.specs.declared.roots.Kept.TheVariants.{Cut, Behind, All}
 use Rattle.root_literals.specs.declared.roots.Kept.TheVariants.{Clash as KeptClash}
-use Rattle.root_literals.specs.declared.roots.Roots.{Roots}
-use Rattle.root_literals.proofs.RootLemmas.Watched.{front_part, sure_by, sure_is}
-use Rattle.std.proofs.lemmas.Grind.{get_or_default_zero}
-use Rattle.std.proofs.lemmas.Option.{same_Some}
-use Rattle.std.specs.List.{remove}
-use Rattle.std.specs.Ordering.{nat_cmp}
-use Rattle.std.specs.FinMap.{FinMap}
-use Rattle.cnf_base.proofs.SetLemmas.{has_cases, has_head}
-use Rattle.cnf_base.proofs.SizeLemmas.{has_at}
-use Rattle.root_literals.specs.declared.history.History.{History}
-use Rattle.root_literals.specs.declared.roots.Kept.{Kept}
-use Rattle.root_literals.proofs.RootLemmas.History.{front_in_front}
-use Rattle.root_literals.proofs.RootLemmas.Kept.{noted_left, still_seen, was_there}
-use Rattle.root_literals.proofs.RootLemmas.Order.{seen_has_at, there_seen}
-use Rattle.root_literals.proofs.RootLemmas.Uses.{counted_out, in_rest}
+use Rattle.root_literals.specs.{History.IsHistory, History.sure_of, History.trues_at}
+use Rattle.root_literals.specs.{History.visits, Order.each_in_order, Uses.AreCounted}
+use Rattle.root_literals.specs.{Uses.clause_in, Uses.is_in, Uses.times, Watched.HasUnit}
+use Rattle.root_literals.specs.{Watched.IsPart, Watched.IsWatched, declared.roots.Roots.Roots}
+use Rattle.root_literals.specs.{declared.history.History.History, declared.roots.Kept.Kept}
+use Rattle.root_literals.proofs.RootLemmas.{Watched.front_part, Watched.sure_by, Watched.sure_is}
+use Rattle.root_literals.proofs.RootLemmas.{History.front_in_front, Kept.noted_left}
+use Rattle.root_literals.proofs.RootLemmas.{Kept.still_seen, Kept.was_there, Order.seen_has_at}
+use Rattle.root_literals.proofs.RootLemmas.{Order.there_seen, Uses.counted_out, Uses.in_rest}
+use Rattle.std.specs.FinMap as maps
 
 -- one clause has the literal
 pub absent_else : (live : FinMap nat_cmp Clause) (slot : ℕ) (l : Literal) → maps.get live slot ≡ Some (l ∷ []) → 1 ≡ copies_with live l → IsAbsent (maps.get (maps.remove live slot)) l
 absent_else live slot l unit one s c is = false_from_ne_true (has c l) (λ h. none_with (maps.remove live slot) l none_else s (record { clause = c; at = is; member = h }))
   where
     none_else : copies_with (maps.remove live slot) l ≡ 0
-    none_else =
-        let more = copies_without live l slot (record { clause = l ∷ []; at = unit; member = has_head l [] }) in
-        omega (arith, more, one)
+    none_else = grind (arith, copies_without, has_head)
 
 -- no clause has the complement
 pub unneeded_none : (live : FinMap nat_cmp Clause) (reason_of : Literal → Option ℕ) (lits : List Literal) (place : ℕ) (l : Literal) → copies_with live (complement l) ≡ 0 → IsUnneeded (maps.get live) reason_of lits place l
@@ -205,8 +195,7 @@ module _ (live : FinMap nat_cmp Clause) (slot place : ℕ) (l : Literal) (lits :
   not_the_slot : (k : Literal) (s : ℕ) → HasAt (maps.get (each_in_order live)) k s → k ≢ l → s ≢ slot
   not_the_slot k s h ne e =
       let w = seen_has_at live k s h in
-      let same = same_Some (l ∷ []) w.clause (sym unit ∙ ap (maps.get live) (sym e) ∙ w.at) in
-      elim (has_cases l [] k (ap (λ c. has c k) same ∙ w.member)) [ inl is ↦ ne (sym is) | inr none ↦ false≢true none ]
+      grind (arith, same_Some, has_cases, false≢true)
 
   module _ (reason_of : Literal → Option ℕ) (unneeded : IsUnneeded (maps.get live) reason_of lits place l) (are : AreReasoned (maps.get (each_in_order live)) reason_of lits) where
     holds_it : (k : Literal) (s : ℕ) → has lits k ≡ true → k ≢ l → reason_of k ≡ Some s → (c : Clause) → maps.get (each_in_order live) s ≡ Some c → maps.get (each_in_order rest) s ≡ Some c

@@ -2,10 +2,11 @@
 use Rattle.std.proofs.Common.{◌≡◌, ◌≢◌, ℕ, Bool, true, false, cond, eqb, eqb-true, filter, ◌&&◌}
 use Rattle.std.proofs.Common.{◌||◌, T, Option, Some, None, option_map, is_some, List, [], ◌∷◌, map}
 use Rattle.std.proofs.Common.{sum_by, refl, sym, ap, ◌∙◌, subst, arith, rules}
-use Rattle.std.proofs.lemmas.Option.{none-some, same_Some}
-use Rattle.std.specs.Ordering.{nat_cmp, is_lt, eq_by_cmp}
-use Rattle.std.specs.FinMap.{FinMap, find, is_sorted}
-use Rattle.std.specs.FinMap as maps
+use Rattle.std.proofs.lemmas.{Option.none-some, Option.same_Some, Bool.true≢false}
+use Rattle.std.proofs.lemmas.{Bool.Decides.nat_tests, List.Sums.sum_by-cons}
+use Rattle.std.specs.{Ordering.nat_cmp, Ordering.is_lt, Ordering.eq_by_cmp, FinMap.FinMap}
+use Rattle.std.specs.{FinMap.find, FinMap.is_sorted, Cmp.nat_cmp_total, List.list_any}
+use Rattle.std.specs.{FinMap.Entries.below_all}
 use Rattle.cnf_base.specs.Literals.{Literal, Clause, complement, complements, has, same_clause}
 use Rattle.cnf_base.specs.Literals.{size}
 use Rattle.cnf_base.specs.Maps.{sum_over}
@@ -17,12 +18,7 @@ use Rattle.cnf_base.proofs.MapLemmas.{get_insert, get_remove, inserted_is, same_
 use Rattle.propagation.specs.Assumptions.{HasAt}
 use Rattle.clause_db.specs.Store.{IsTouchedAt, literals_in}
 use Rattle.root_literals.specs.Order.{set_of, in_order, each_in_order}
-use Rattle.std.proofs.lemmas.Bool.{true≢false}
-use Rattle.std.proofs.lemmas.Bool.Decides.{nat_tests}
-use Rattle.std.proofs.lemmas.List.Sums.{sum_by-cons}
-use Rattle.std.specs.Cmp.{nat_cmp_total}
-use Rattle.std.specs.List.{list_any}
-use Rattle.std.specs.FinMap.Entries.{below_all}
+use Rattle.std.specs.FinMap as maps
 
 tie_back : (k q : ℕ) → eq_by_cmp nat_cmp k q ≡ eqb q k
 tie_back k q = grind (arith, nat_tests)

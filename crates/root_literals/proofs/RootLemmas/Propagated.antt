@@ -2,41 +2,26 @@
 use Rattle.std.proofs.Common.{◌≡◌, ◌≢◌, ℕ, ◌+◌, Bool, true, false, ◌&&◌, cond, not, eqb, eq-eqb}
 use Rattle.std.proofs.Common.{eqb-true, Option, Some, is_some, [], ◌∷◌, ◌++◌, length, refl, sym, ap}
 use Rattle.std.proofs.Common.{◌∙◌, subst, arith}
-use Rattle.std.specs.Ordering.{nat_cmp}
-use Rattle.std.specs.FinMap as maps
-use Rattle.std.specs.FinMap.{FinMap}
-use Rattle.std.proofs.lemmas.Bool.{true≢false}
-use Rattle.std.proofs.lemmas.List.{take_all}
+use Rattle.std.proofs.lemmas.{Bool.true≢false, List.take_all}
+use Rattle.std.specs.{Ordering.nat_cmp, FinMap.FinMap}
 use Rattle.cnf_base.specs.Literals.{Literal, complement, Clause, has}
-use Rattle.theory.specs.Propagation.{Forced, Clash}
-use Rattle.propagation.specs.Assumptions.{AssumptionsState}
-use Rattle.propagation.specs.Code.Exact.{Extends}
-use Rattle.theory.specs.Sets.{SameSet}
-use Rattle.root_literals.specs.Order.{in_order, each_in_order}
-use Rattle.root_literals.specs.Roots.{AreReasoned, IsFalseAt}
-use Rattle.root_literals.specs.Code.Propagated.{PropagatesTo}
-use Rattle.root_literals.specs.Watched.{IsPart}
-use Rattle.propagation.proofs.PropagationLemmas.Exact.{extends_on, extends_made}
+use Rattle.theory.specs.{Propagation.Forced, Propagation.Clash, Sets.SameSet}
 use Rattle.theory.proofs.PropagationLemmas.Forced.{forced_assumed, forced_unit, forced_through}
 use Rattle.theory.proofs.PropagationLemmas.Forced.{clash_by_false}
-use Rattle.trail.proofs.TrailLemmas.Longer.{has_begun, pushed_each}
+use Rattle.propagation.specs.{Assumptions.AssumptionsState, Code.Exact.Extends}
+use Rattle.propagation.proofs.PropagationLemmas.Exact.{extends_on, extends_made}
+use Rattle.root_literals.specs.{Order.in_order, Order.each_in_order, Roots.AreReasoned}
+use Rattle.root_literals.specs.{Roots.IsFalseAt, Code.Propagated.PropagatesTo, Watched.IsPart}
 use Rattle.root_literals.proofs.RootLemmas.Order.{has-in_order, seen_there}
 use Rattle.root_literals.proofs.RootLemmas.Reasons.{reasoned_more, reasoned_same}
+use Rattle.trail.proofs.TrailLemmas.Longer.{has_begun, pushed_each}
+use Rattle.std.specs.FinMap as maps
 
 pub extends_none : (held : AssumptionsState) → Extends held held
 extends_none held = record { begins = take_all (length held.trail.lits) held.trail.lits (omega arith); longer = omega arith; reserved = λ v. refl; assumptions = refl; starts = refl }
 
 pub propagates_none : (live : FinMap nat_cmp Clause) (held : AssumptionsState) (reason_of : Literal → Option ℕ) → PropagatesTo live live held held reason_of reason_of
-propagates_none live held reason_of = record {
-  same = refl;
-  short = λ s. refl;
-  kept = λ doubts done trues p q w. w;
-  sound = λ l h. forced_assumed (maps.get (each_in_order live)) held.trail.lits l h;
-  extends = extends_none held;
-  noted = λ l h. h;
-  as_before = λ l h. refl;
-  reasoned = λ are. are;
-}
+propagates_none live held reason_of = grind (arith, forced_assumed, extends_none)
 
 pub propagates_on : (a b c : FinMap nat_cmp Clause) (x y z : AssumptionsState) (r s t : Literal → Option ℕ) → PropagatesTo a b x y r s → PropagatesTo b c y z s t → PropagatesTo a c x z r t
 propagates_on a b c x y z r s t first second =
@@ -48,8 +33,7 @@ propagates_on a b c x y z r s t first second =
       extends = extends_on x y z first.extends second.extends;
       noted = λ l h. second.noted l (first.noted l h);
       as_before = λ l h. second.as_before l (more l h) ∙ first.as_before l h;
-      reasoned = λ are.
-          subst (λ m. AreReasoned (maps.get m) t z.trail.lits) first.same (second.reasoned (subst (λ m. AreReasoned (maps.get m) s y.trail.lits) (sym first.same) (first.reasoned are)));
+      reasoned = grind arith;
     }
 
 -- a clause that became false

@@ -1,19 +1,17 @@
 -- Literals that follow from their reasons.
 use Rattle.std.proofs.Common.{◌≡◌, ◌≢◌, ℕ, Bool, true, Option, Some, is_some, List, [], ◌∷◌, ◌++◌}
 use Rattle.std.proofs.Common.{length, take, sym, ap, ◌∙◌, subst, arith, inl, inr, ◌≤◌}
+use Rattle.std.proofs.lemmas.{Bool.cases_eq, Bool.cases_lt, List.length-append, List.length-take}
+use Rattle.std.proofs.lemmas.{List.take-append-le, List.take-take, List.take_all, Option.same_Some}
 use Rattle.cnf_base.specs.Literals.{Literal, complement, Clause, has, variable}
 use Rattle.cnf_base.proofs.SetLemmas.{has_append_left, has_append_right, has_head}
 use Rattle.cnf_base.proofs.MemberLemmas.{place_in_front}
 use Rattle.theory.specs.Propagation.{Live, Forced}
 use Rattle.propagation.specs.Assumptions.{HasAt}
 use Rattle.trail.specs.Trail.{HasNoVariableTwice}
+use Rattle.trail.proofs.TrailLemmas.{Longer.pushed_each, Truth.places_apart}
 use Rattle.root_literals.specs.Roots.{AreReasoned, FollowsReasons, IsReasonAt}
 use Rattle.root_literals.proofs.RootLemmas.Watched.{front_part}
-use Rattle.std.proofs.lemmas.Bool.{cases_eq, cases_lt}
-use Rattle.std.proofs.lemmas.List.{length-append, length-take, take-append-le, take-take, take_all}
-use Rattle.std.proofs.lemmas.Option.{same_Some}
-use Rattle.trail.proofs.TrailLemmas.Longer.{pushed_each}
-use Rattle.trail.proofs.TrailLemmas.Truth.{places_apart}
 
 -- the literals pass where the complements of the others of each reason let its literal pass
 abbrev AllPass : Live → (Literal → Option ℕ) → (Literal → Bool) → List Literal → Type 0
@@ -78,16 +76,9 @@ module _ (live : Live) (reason_of : Literal → Option ℕ) (lits : List Literal
     -- a clause of this literal alone takes over
     pub reasoned_taken : ((k : Literal) → has c k ≡ true → k ≡ m) → ((l : Literal) → l ≢ m → reason_now l ≡ reason_of l) → has lits m ≡ true → AreReasoned live reason_now lits
     reasoned_taken alone same m_true = record {
-      has_it = λ l s member is. elim (cases_eq l m) [
-        | inl e ↦ subst (λ x. HasAt live x s) (sym e)
-            (subst (λ x. HasAt live m x) (same_Some slot s (sym set ∙ ap reason_now (sym e) ∙ is)) (record { clause = c; at = there; member = m_there }))
-        | inr ne ↦ are.has_it l s member (sym (same l ne) ∙ is)
-      ];
+      has_it = grind (arith, cases_eq, same_Some);
       in_each = λ n passes follows.
-          are.in_each n passes (λ l s d member is at others. elim (cases_eq l m) [
-            | inl e ↦ subst (λ x. passes x ≡ true) (sym e) (follows m slot c (ap (has (take n lits)) (sym e) ∙ member) set there (λ k h ne. absurd (ne (alone k h))))
-            | inr ne ↦ follows l s d member (same l ne ∙ is) at others
-          ]);
+          are.in_each n passes (grind (arith, cases_eq));
     }
 
   -- another clause makes a literal true, by those that stand before it
@@ -109,11 +100,7 @@ module _ (live : Live) (reason_of : Literal → Option ℕ) (lits : List Literal
 
     pub reasoned_instead : AreReasoned live reason_now lits
     reasoned_instead = record {
-      has_it = λ l s member is. elim (cases_eq l m) [
-        | inl e ↦ subst (λ x. HasAt live x s) (sym e)
-            (subst (λ x. HasAt live m x) (same_Some slot s (sym set ∙ ap reason_now (sym e) ∙ is)) (record { clause = by.clause; at = by.at; member = by.member }))
-        | inr ne ↦ are.has_it l s member (sym (same l ne) ∙ is)
-      ];
+      has_it = grind (arith, cases_eq, same_Some);
       in_each = λ n passes follows.
           are.in_each n passes (λ l s d member is at others. elim (cases_eq l m) [
             | inl e ↦ subst (λ x. passes x ≡ true) (sym e) (from_front n passes follows (ap (has (take n lits)) (sym e) ∙ member))

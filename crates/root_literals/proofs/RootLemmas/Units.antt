@@ -2,18 +2,16 @@
 use Rattle.std.proofs.Common.{◌≡◌, ℕ, ◌+◌, ◌<◌, ◌≤◌, Bool, true, false, not, cond, eqb, eq-eqb}
 use Rattle.std.proofs.Common.{Option, Some, None, List, [], ◌∷◌, ◌++◌, length, get_or, take, refl}
 use Rattle.std.proofs.Common.{sym, ap, ◌∙◌, subst, arith, inl, inr}
-use Rattle.std.proofs.lemmas.Bool.{true≢false, false≢true, not-false}
-use Rattle.std.proofs.lemmas.List.{take_all, take_more}
-use Rattle.std.proofs.lemmas.List.Sums.{get_or-le-sum_by}
-use Rattle.std.proofs.lemmas.Option.{same_Some}
+use Rattle.std.proofs.lemmas.{Bool.true≢false, Bool.false≢true, Bool.not-false, List.take_all}
+use Rattle.std.proofs.lemmas.{List.take_more, List.Sums.get_or-le-sum_by, Option.same_Some}
 use Rattle.cnf_base.specs.Literals.{Literal, Clause, has}
 use Rattle.cnf_base.proofs.SetLemmas.{has_append_right, has_cases, has_head}
 use Rattle.theory.specs.Propagation.{Live}
 use Rattle.root_literals.specs.Watched.{IsPart, HasUnit}
-use Rattle.watch_lists.specs.Watched.{is_short, short_for, IsShortList}
-use Rattle.trail.proofs.TrailLemmas.Longer.{pushed_each}
 use Rattle.root_literals.proofs.RootLemmas.Watched.{unit_more}
+use Rattle.watch_lists.specs.Watched.{is_short, short_for, IsShortList}
 use Rattle.watch_lists.proofs.WatchListsLemmas.Entries.{has_times}
+use Rattle.trail.proofs.TrailLemmas.Longer.{pushed_each}
 
 -- ---- One clause
 

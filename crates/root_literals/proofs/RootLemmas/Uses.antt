@@ -3,29 +3,21 @@ use Rattle.std.proofs.Common.{◌≡◌, ◌≢◌, ℕ, zero, suc, ◌+◌, ◌
 use Rattle.std.proofs.Common.{eqb-true, eq-eqb, Option, Some, None, option_map, List, [], ◌∷◌, ◌++◌}
 use Rattle.std.proofs.Common.{length, get_or, take, refl, sym, ap, ◌∙◌, subst, arith, inl, inr}
 use Rattle.std.proofs.Common.{rules}
-use Rattle.std.proofs.lemmas.Bool.{cases_eq, cases_lt, false≢true, or_right}
-use Rattle.std.proofs.lemmas.List.{length-take, take-take, take_more}
-use Rattle.std.proofs.lemmas.Grind.{common_steps}
-use Rattle.std.specs.FinMap as maps
+use Rattle.std.proofs.lemmas.{Bool.cases_eq, Bool.cases_lt, Bool.false≢true, Bool.or_right}
+use Rattle.std.proofs.lemmas.{List.length-take, List.take-take, List.take_more, Grind.common_steps}
+use Rattle.std.proofs.lemmas.{Bool.Decides.nat_tests, List.Edits.length-remove}
+use Rattle.std.specs.{List.remove, Ordering.nat_cmp, FinMap.FinMap}
 use Rattle.cnf_base.specs.Literals.{Literal, Clause, has, variable}
-use Rattle.cnf_base.proofs.MapLemmas.{remove_here, remove_other}
-use Rattle.cnf_base.proofs.WalkLemmas.{has_more}
+use Rattle.cnf_base.proofs.{MapLemmas.remove_here, MapLemmas.remove_other, WalkLemmas.has_more}
+use Rattle.cnf_base.proofs.{MemberLemmas.place_in_front, SetLemmas.has_cases, SetLemmas.has_head}
 use Rattle.theory.specs.Propagation.{Live}
 use Rattle.trail.specs.Trail.{HasNoVariableTwice}
+use Rattle.trail.proofs.TrailLemmas.{Truth.places_apart, Without.none_left}
 use Rattle.root_literals.proofs.RootLemmas.Order.{get_ordered, has-in_order}
 use Rattle.root_literals.proofs.RootLemmas.Watched.{front_part}
-use Rattle.std.proofs.lemmas.Bool.Decides.{nat_tests}
-use Rattle.std.proofs.lemmas.List.Edits.{length-remove}
-use Rattle.std.specs.List.{remove}
-use Rattle.std.specs.Ordering.{nat_cmp}
-use Rattle.std.specs.FinMap.{FinMap}
-use Rattle.cnf_base.proofs.MemberLemmas.{place_in_front}
-use Rattle.cnf_base.proofs.SetLemmas.{has_cases, has_head}
-use Rattle.trail.proofs.TrailLemmas.Truth.{places_apart}
-use Rattle.trail.proofs.TrailLemmas.Without.{none_left}
-use Rattle.root_literals.specs.Order.{each_in_order}
-use Rattle.root_literals.specs.Uses.{AreCounted, clause_in, is_in, times, uses_of}
-use Rattle.root_literals.specs.declared.uses.Uses.{Uses}
+use Rattle.root_literals.specs.{Order.each_in_order, Uses.AreCounted, Uses.clause_in, Uses.is_in}
+use Rattle.root_literals.specs.{Uses.times, Uses.uses_of, declared.uses.Uses.Uses}
+use Rattle.std.specs.FinMap as maps
 
 -- one, if the clause has the literal
 abbrev pub one : Option Clause → Literal → ℕ
@@ -146,11 +138,7 @@ module _ (lits : List Literal) (place : ℕ) (l : Literal) (inside : place < len
           let fewer = uses_at_most live live r s k (take n (remove lits place)) (λ m h. same_in k m (not_left n m h)) in
           let split = uses_out live r k lits n place low (omega (arith, within, e)) in
           let split_now = uses_out live s k lits n place low (omega (arith, within, e)) in
-          let a = first_is r before was k in
-          let b = first_is s after is k in
-          let enough = subst (λ c. uses_of live r (take c lits) k ≤ times uses k) e (are.enough k) in
-          let step = exchanged some high k in
-          omega (arith, fewer, split, split_now, a, b, enough, step)
+          grind arith
 
       with_count : (c : ℕ) → uses.counted ≡ c → now.counted ≢ 0 → place < uses.counted → (k : Literal) → uses_of live s (take c lits) k ≤ times now k
       with_count zero e some low k = omega arith
@@ -188,10 +176,7 @@ module _ (lits : List Literal) (place : ℕ) (l : Literal) (inside : place < len
           let split = uses_out live r k lits now.counted place (omega (arith, low, e)) (omega (arith, within, e)) in
           let first : one (clause_in live (r (get_or lits place 0))) k ≡ cond (has (l ∷ []) k) 1 0 = ap (λ x. one (clause_in live (r x)) k) stands ∙ ap (λ o. one o k) unit in
           let next : suc now.counted ≡ uses.counted = omega (arith, e) in
-          let enough = subst (λ c. uses_of live r (take c lits) k ≤ times uses k) (sym next) (are.enough k) in
-          let step = less k in
-          let here = has_it k (eqb k l) refl in
-          omega (arith, most, split, first, enough, step, here)
+          grind arith
 
 -- ---- Clauses
 
@@ -199,10 +184,7 @@ module _ (live : FinMap nat_cmp Clause) (slot : ℕ) where
   -- one clause fewer
   pub in_rest : (k : Literal) (o : Option ℕ) → is_in (clause_in (maps.get (maps.remove live slot)) o) k ≡ true → is_in (clause_in (maps.get live) o) k ≡ true
   in_rest k None h = h
-  in_rest k (Some s) h = elim (cases_eq s slot) [
-    | inl e ↦ absurd (false≢true (sym (ap (λ o. is_in o k) (remove_here live slot s e)) ∙ h))
-    | inr ne ↦ ap (λ o. is_in o k) (sym (remove_other live slot s ne)) ∙ h
-  ]
+  in_rest k (Some s) h = grind (arith, cases_eq, false≢true, remove_here, remove_other)
 
   pub in_rest_too : (k : Literal) (o : Option ℕ) → o ≢ Some slot → is_in (clause_in (maps.get live) o) k ≡ true → is_in (clause_in (maps.get (maps.remove live slot)) o) k ≡ true
   in_rest_too k o h h2 = search (rules, remove_other)

@@ -1,13 +1,10 @@
 -- Clauses of which a literal is true.
 use Rattle.std.proofs.Common.{◌≡◌, ℕ, Bool, true, false, cond, Some, None, List, [], ◌∷◌, ◌++◌}
 use Rattle.std.proofs.Common.{take, drop, sym, ap, ◌∙◌, arith, rules}
-use Rattle.std.proofs.lemmas.Bool.{true≢false}
-use Rattle.std.proofs.lemmas.List.{take-append-drop}
-use Rattle.std.proofs.lemmas.Grind.{common_steps}
-use Rattle.std.proofs.lemmas.Bool.Decides.{nat_tests}
+use Rattle.std.proofs.lemmas.{Bool.true≢false, List.take-append-drop, Grind.common_steps}
+use Rattle.std.proofs.lemmas.{Bool.Decides.nat_tests}
 use Rattle.cnf_base.specs.Literals.{Literal, complement, Clause, has}
-use Rattle.cnf_base.proofs.LiteralLemmas.{complement-complement}
-use Rattle.cnf_base.proofs.SetLemmas.{has_append_left}
+use Rattle.cnf_base.proofs.{LiteralLemmas.complement-complement, SetLemmas.has_append_left}
 use Rattle.theory.specs.Propagation.{Live}
 use Rattle.root_literals.specs.History.{sure_of}
 use Rattle.root_literals.specs.Watched.{IsPart, IsMet, IsWatched, HasUnit}
