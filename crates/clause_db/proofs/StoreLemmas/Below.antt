@@ -1,6 +1,6 @@
 -- The clauses in the slots below a number, as they are passed one after the other.
-use Rattle.std.proofs.Common.{◌≡◌, ◌≢◌, ℕ, ◌+◌, ◌<◌, ◌≤◌, cond, eqb-true, Option, Some, None}
-use Rattle.std.proofs.Common.{is_some, IsSome, nat_lt, refl, sym, ap, ◌∙◌, arith, inl, inr}
+use Rattle.std.proofs.Common.{◌≡◌, ◌≢◌, ℕ, ◌+◌, ◌<◌, ◌≤◌, cond, eqb-true, Some, None, IsSome}
+use Rattle.std.proofs.Common.{nat_lt, sym, ap, ◌∙◌, arith, inl, inr}
 use Rattle.std.specs.Cmp.{unsigned_tied}
 use Rattle.std.specs.Ordering.{nat_cmp, is_eq}
 use Rattle.std.specs.FinMap as maps
@@ -12,44 +12,36 @@ use Rattle.cnf_base.proofs.MapLemmas.{same_maps, inserted_is}
 abbrev pub below : ℕ → FinMap nat_cmp Clause → FinMap nat_cmp Clause
 below n m = maps.retain_keys m (λ s. nat_lt s n)
 
-below_get : (n : ℕ) (m : FinMap nat_cmp Clause) (s : ℕ) → maps.get (below n m) s ≡ cond (nat_lt s n) (maps.get m s) None
-below_get n m s = maps.get-retain_keys m (λ x. nat_lt x n) s (λ x e. ap (λ y. nat_lt y n) (sym (eqb-true s x (sym (unsigned_tied s x) ∙ ap is_eq e))))
+below_get : (n : ℕ) (m : FinMap nat_cmp Clause) (s : ℕ)
+    → maps.get (below n m) s ≡ cond (nat_lt s n) (maps.get m s) None
+below_get n m s = maps.get-retain_keys m (λ x. nat_lt x n) s
+    (λ x e. ap (λ y. nat_lt y n) (sym (eqb-true s x (sym (unsigned_tied s x) ∙ ap is_eq e))))
 
 there : (n : ℕ) (m : FinMap nat_cmp Clause) (s : ℕ) → s < n → maps.get (below n m) s ≡ maps.get m s
-there n m s low = below_get n m s ∙ ap (λ b. cond b (maps.get m s) None) (lt-ltb s n low)
+there n m s low = cc (below_get n m s, lt-ltb s n low)
 
 pub gone : (n : ℕ) (m : FinMap nat_cmp Clause) (s : ℕ) → n ≤ s → maps.get (below n m) s ≡ None
-gone n m s high = below_get n m s ∙ ap (λ b. cond b (maps.get m s) None) (le-ltb s n high)
+gone n m s high = grind (arith, below_get, le-ltb)
 
 -- none is below the first one, and all are below a number that is above them
 pub below_none : (m : FinMap nat_cmp Clause) → below 0 m ≡ maps.empty
 below_none m = same_maps _ _ (λ s. gone 0 m s (omega arith) ∙ sym (maps.get-empty nat_cmp s))
 
-pub below_all : (n : ℕ) (m : FinMap nat_cmp Clause) → ((s : ℕ) → IsSome (maps.get m s) → s < n) → below n m ≡ m
-below_all n m low = same_maps _ _ (λ s. by s (maps.get m s) refl)
-  where
-    by : (s : ℕ) (o : Option Clause) → maps.get m s ≡ o → maps.get (below n m) s ≡ maps.get m s
-    by s (Some c) is = there n m s (low s (ap is_some is))
-    by s None is = elim (cases_lt s n) [
-      | inl lt ↦ there n m s lt
-      | inr le ↦ gone n m s le ∙ sym is
-    ]
+pub below_all : (n : ℕ) (m : FinMap nat_cmp Clause) → ((s : ℕ) → IsSome (maps.get m s) → s < n)
+    → below n m ≡ m
+below_all n m low = grind (arith, same_maps, below, there, cases_lt, gone)
 
 past : (s n : ℕ) → n ≤ s → s ≢ n → n + 1 ≤ s
 past s n le ne = omega (arith, le, ne)
 
 -- a slot more, with a clause or without
-pub below_next : (n : ℕ) (m : FinMap nat_cmp Clause) (c : Clause) → maps.get m n ≡ Some c → below (n + 1) m ≡ maps.insert (below n m) n c
+pub below_next : (n : ℕ) (m : FinMap nat_cmp Clause) (c : Clause) → maps.get m n ≡ Some c
+    → below (n + 1) m ≡ maps.insert (below n m) n c
 below_next n m c is = inserted_is (below n m) (below (n + 1) m) n c (there (n + 1) m n (omega arith) ∙ is) (λ s ne. elim (cases_lt s n) [
   | inl lt ↦ there (n + 1) m s (omega (arith, lt)) ∙ sym (there n m s lt)
   | inr le ↦ gone (n + 1) m s (past s n le ne) ∙ sym (gone n m s le)
 ])
 
-pub below_same : (n : ℕ) (m : FinMap nat_cmp Clause) → maps.get m n ≡ None → below (n + 1) m ≡ below n m
-below_same n m none = same_maps _ _ (λ s. elim (cases_lt s n) [
-  | inl lt ↦ there (n + 1) m s (omega (arith, lt)) ∙ sym (there n m s lt)
-  | inr le ↦ elim (cases_eq s n) [
-    | inl e ↦ there (n + 1) m s (omega (arith, e)) ∙ ap (maps.get m) e ∙ none ∙ sym (gone n m s le)
-    | inr ne ↦ gone (n + 1) m s (past s n le ne) ∙ sym (gone n m s le)
-  ]
-])
+pub below_same : (n : ℕ) (m : FinMap nat_cmp Clause) → maps.get m n ≡ None
+    → below (n + 1) m ≡ below n m
+below_same n m none = grind (arith, same_maps, cases_lt, there, cases_eq, gone, past)
