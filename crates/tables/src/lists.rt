@@ -119,7 +119,7 @@ impl<T: Copy + Drop> Lists<T> {
 
     /// Takes the list of a key out, and leaves an empty one in its place, or none where there was
     /// none.
-    #[inline]
+    #[inline(always)]
     pub fn take_out(&mut self, key: u32) -> Vec<T>
         ensures list { result.items ≡ list_at self.old key }
         ensures others { (k : ℕ) → list_at self.new k ≡

@@ -10,6 +10,8 @@ ghost use Rattle.std.specs.Prelude.{◌≡◌, ◌≢◌, ℕ, ◌+◌, ◌≤�
 ghost use Rattle.std.specs.Prelude.{IsTrue, IsFalse, IfOk, IfSome, IfNone, OnOk};
 ghost use Rattle.std.specs.List.{remove};
 ghost use Rattle.std.specs.FinMap as maps;
+ghost use Rattle.std.specs.FinMap.{FinMap};
+ghost use Rattle.std.specs.Ordering.{nat_cmp};
 ghost use Rattle.cnf_base.specs.Literals.{Clause, Literal, complement, has};
 ghost use Rattle.theory.specs.Sets.{conflicts};
 ghost use Rattle.propagation.specs.Assumptions.{AssumptionsState};
@@ -117,10 +119,6 @@ fn visit(
         entries_left cursor.new ≡ entries_left cursor.old)) }
     ensures slots { store.new.slots ≡ store.old.slots }
 {
-    if trail.is_true_near(near, entry.blocking()) {
-        cursor.keep(entry);
-        return Ok(None);
-    }
     match look_at(store, trail, near, entry, l) {
         Visit::Stays(blocking) => {
             cursor.keep(entry.with_blocking(blocking));
@@ -133,6 +131,27 @@ fn visit(
         Visit::Unit(m) => Ok(Some(Found::Unit(m))),
         Visit::Clash => Ok(Some(Found::Clash)),
     }
+}
+
+/// Keeps the next entries whose blocking literal is true, up to one of which it isn't: that one.
+/// Most visits end here, and a loop of its own has most of its numbers in registers.
+#[inline(always)]
+fn next_unblocked(trail: &Trail, near: &[Value], cursor: &mut Cursor) -> Option<Watcher>
+    requires near { AreNear trail.now.lits near.now }
+    ensures entries { cursor.new.entries ≡ cursor.old.entries }
+    ensures next { result ≡ slice_get cursor.new.entries cursor.new.visited }
+    ensures met { (live : FinMap nat_cmp Clause) (lists : WatchLists) (l : Literal) →
+        IsInHand live lists cursor.old.entries l → AreMet live cursor.old l trail.now.lits →
+        AreMet live cursor.new l trail.now.lits }
+    ensures no_more { entries_left cursor.new ≤ entries_left cursor.old }
+{
+    while let Some(entry) = cursor.next() {
+        if !trail.is_true_near(near, entry.blocking()) {
+            return Some(entry);
+        }
+        cursor.keep(entry);
+    }
+    None
 }
 
 /// Visits the clauses of the next entries, up to one of which something is found.
@@ -158,7 +177,7 @@ fn next_found(
     ensures slots { store.new.slots ≡ store.old.slots }
 {
     let near = trail.near();
-    while let Some(entry) = cursor.next() {
+    while let Some(entry) = next_unblocked(trail, near, cursor) {
         if let Some(found) = visit(store, lists, trail, near, cursor, entry, l)? {
             return Ok(Some(FoundAt { entry, found }));
         }

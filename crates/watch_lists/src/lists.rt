@@ -75,7 +75,7 @@ impl WatchLists {
     }
 
     /// Takes the list of a literal out, and leaves an empty one in its place.
-    #[inline]
+    #[inline(always)]
     pub fn take_out(&mut self, l: Lit) -> Vec<Watcher>
         requires known { IsTrue (has_list_at self.old l) }
         ensures list { result.items ≡ list_at self.old l }

@@ -96,6 +96,11 @@ module _ {a b : FinMap nat_cmp Clause} {lists lists_b : WatchLists} {list list_b
     propagates = propagates_on a b c x y z r s t first.propagates second.propagates;
   }
 
+-- they begin at these entries, which are those
+pub visited_from : {a b : FinMap nat_cmp Clause} {lists lists_b : WatchLists} {list list_a list_b : List Watcher} {x y : AssumptionsState} {r s : Literal → Option ℕ} {l : Literal} → list ≡ list_a →
+    Visited a b lists lists_b list list_b x y r s l → Visited a b lists lists_b list_a list_b x y r s l
+visited_from {a} {b} {lists} {lists_b} {list} {list_a} {list_b} {x} {y} {r} {s} {l} = subst (λ xs. Visited a b lists lists_b xs list_b x y r s l)
+
 -- what was found of the clause of the next entry
 pub found_next : {live : FinMap nat_cmp Clause} {cursor : CursorState} {seen trues : List Literal} {o : Option FoundAt} → IfSome o (λ f. IsFoundNext live cursor seen f.entry f.found) →
     {f : FoundAt} {found : Found} → o ≡ Some f → f.found ≡ found → seen ≡ trues → IsFoundNext live cursor trues f.entry found

@@ -60,33 +60,6 @@ returns-in_ok-move_watch-in-Moves-clause-fewer c =
 pub keep-requires : goal.keep-requires
 keep-requires c = let cursor = c.args.cursor.now in (entry_at cursor.entries cursor.visited c.args.entry c.requires.next).0
 
-pub keep-requires-in-Stays : goal.keep-requires-in-Stays
-keep-requires-in-Stays c = let cursor = c.args.cursor.now in (entry_at cursor.entries cursor.visited c.args.entry c.requires.next).0
-
-pub returns-then-is_true_near : goal.returns-then-is_true_near
-returns-then-is_true_near c =
-    let live = c.args.store.now.live in
-    let cursor = c.args.cursor.now in
-    let e = c.args.entry in
-    let r = entry_at cursor.entries cursor.visited e c.requires.next in
-    let w = next_entry cursor e c.requires.next c.requires.hand in
-    let trues = c.args.trail.now.lits in
-    let kept = c.keep in
-    let same = kept.ensures.entries ∙ put_same cursor.entries cursor.visited e r.1 in
-    let satisfied = ap (has trues) (sym c.blocking.ensures) ∙ sym c.is_true_near.ensures ∙ c.if-is_true_near.true in record {
-      visited = λ held reason_of _. record {
-        hand = subst (λ xs. IsInHand live c.args.lists.now xs c.args.l) (sym same) c.requires.hand;
-        entries = ap (λ xs. entries_in c.args.lists.now + length xs) same;
-        propagates = propagates_none live held reason_of;
-      };
-      met = kept_met live live c.args.l trues trues (λ l h. h) cursor kept.new.self e.slot r.0 c.requires.met (λ s ne. refl) e refl kept.ensures.entries kept.ensures.visited
-          (λ x there _. (e.blocking, ap (λ y. has y e.blocking) (same_Some x w.clause (sym there ∙ w.at)) ∙ (and_parts (has w.clause e.blocking) _ w.fitting).0, satisfied));
-      found = tt;
-      fewer = kept_fewer cursor kept.new.self r.0 e kept.ensures.entries kept.ensures.visited;
-      as_many = tt;
-      slots = refl;
-    }
-
 pub returns-in-Stays : goal.returns-in-Stays
 returns-in-Stays c =
     let live = maps.get c.args.store.now.live in
@@ -97,7 +70,7 @@ returns-in-Stays c =
     let w = next_entry cursor e c.requires.next c.requires.hand in
     let other = c.in-Stays.blocking in
     let entry : Watcher = record { slot = e.slot; blocking = other; is_binary = e.is_binary } in
-    let entries = c.keep-in-Stays.ensures.entries ∙ ap (set list cursor.visited) c.with_blocking.ensures in
+    let entries = c.keep.ensures.entries ∙ ap (set list cursor.visited) c.with_blocking.ensures in
     let trues = c.args.trail.now.lits in
     let stays = c.in-Stays.ensures.visit w.clause w.at in
     let fitting = kept_fits trues c.in-Stays.ensures.different w.clause c.args.l e.blocking other e.is_binary w.fitting c.requires.is_false stays.0 stays.1 in
@@ -112,11 +85,11 @@ returns-in-Stays c =
         entries = ap (λ xs. entries_in c.args.lists.now + length xs) entries ∙ ap (λ n. entries_in c.args.lists.now + n) (length-set list cursor.visited entry);
         propagates = propagates_none c.args.store.now.live held reason_of;
       };
-      met = kept_met c.args.store.now.live c.args.store.now.live c.args.l trues trues (λ l h. h) cursor c.keep-in-Stays.new.self e.slot r.0 c.requires.met (λ s ne. refl)
-          entry refl entries c.keep-in-Stays.ensures.visited
+      met = kept_met c.args.store.now.live c.args.store.now.live c.args.l trues trues (λ l h. h) cursor c.keep.new.self e.slot r.0 c.requires.met (λ s ne. refl)
+          entry refl entries c.keep.ensures.visited
           (λ x there _. (other, ap (λ y. has y other) (same_Some x w.clause (sym there ∙ w.at)) ∙ stays.0, stays.1));
       found = tt;
-      fewer = kept_fewer cursor c.keep-in-Stays.new.self r.0 entry entries c.keep-in-Stays.ensures.visited;
+      fewer = kept_fewer cursor c.keep.new.self r.0 entry entries c.keep.ensures.visited;
       as_many = tt;
       slots = refl;
     }
