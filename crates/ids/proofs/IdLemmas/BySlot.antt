@@ -1,6 +1,6 @@
 -- Identifiers by the slots that they are bound to.
-use Rattle.std.proofs.Common.{◌≡◌, ◌≢◌, ℕ, ◌+◌, ◌-◌, ◌<◌, ◌≤◌, ◌^◌, cond, eqb, eq-eqb, ne_eqb, List, get_or, sym, ap, ◌∙◌}
-use Rattle.std.proofs.Common.{arith, inl, inr, Some, None}
+use Rattle.std.proofs.Common.{◌≡◌, ◌≢◌, ℕ, ◌+◌, ◌-◌, ◌<◌, ◌≤◌, ◌^◌, cond, eqb, eq-eqb, ne_eqb, List}
+use Rattle.std.proofs.Common.{get_or, sym, ap, ◌∙◌, arith, inl, inr, Some}
 use Rattle.std.specs.BTreeMap.{BTreeMap}
 use Rattle.std.specs.FinMap as maps
 use Rattle.std.proofs.lemmas.Bool.{cases_eq, cases_lt}
@@ -20,30 +20,19 @@ module _ (entry : ℕ → ℕ) (before after : List ℕ) (id : ℕ) (some : entr
   elsewhere s apart = is s ∙ ap (λ b. cond b id (get_or before s 0)) (ne_eqb s (entry id - 1) apart)
 
   pub noted_stays : (k : ℕ) → entry k ≢ 0 → entry (get_or before (entry k - 1) 0) ≡ entry k → entry (get_or after (entry k - 1) 0) ≡ entry k
-  noted_stays k there noted = elim (cases_eq (entry k - 1) (entry id - 1)) [
-    | inl same ↦ ap entry (at_slot (entry k - 1) same) ∙ omega (arith, some, there, same)
-    | inr apart ↦ ap entry (elsewhere (entry k - 1) apart) ∙ noted
-  ]
+  noted_stays k there noted = grind (arith, cases_eq, at_slot, elsewhere)
 
   pub noted_here : (k : ℕ) → k ≡ id → entry (get_or after (entry k - 1) 0) ≡ entry k
   noted_here k here = ap entry (at_slot (entry k - 1) (ap (λ n. entry n - 1) here)) ∙ sym (ap entry here)
 
   pub others_stay : (s : ℕ) → entry (get_or after s 0) ≢ s + 1 → get_or after s 0 ≡ get_or before s 0
-  others_stay s other = elim (cases_eq s (entry id - 1)) [
-    | inl same ↦ absurd (other (ap entry (at_slot s same) ∙ omega (arith, some, same)))
-    | inr apart ↦ elsewhere s apart
-  ]
+  others_stay s other = grind (arith, cases_eq, at_slot, elsewhere)
 
   -- in a walk that passes over what has none
   pub noted_next : (from : ℕ) → ((k : ℕ) → from ≤ k → k < id → entry k ≡ 0) → ((k : ℕ) → k < from → entry k ≢ 0 → entry (get_or before (entry k - 1) 0) ≡ entry k) → (k : ℕ) →
       k < id + 1 → entry k ≢ 0 → entry (get_or after (entry k - 1) 0) ≡ entry k
-  noted_next from none noted k low there = elim (cases_eq k id) [
-    | inl here ↦ noted_here k here
-    | inr apart ↦ elim (cases_lt k from) [
-      | inl passed ↦ noted_stays k there (noted k passed there)
-      | inr past ↦ absurd (there (none k past (omega (arith, low, apart))))
-    ]
-  ]
+  noted_next from none noted k low there =
+      grind (arith, cases_eq, noted_here, cases_lt, noted_stays)
 
 -- ---- Those in pages, and then the far ones
 
@@ -67,8 +56,10 @@ module _ (directory : Directory) (pages : Pages) (far : BTreeMap ℕ ℕ) (once 
       | inr there ↦
           let entry_is = sym (entry_for-here directory pages far k there) ∙ at in
           let slot : entry_at directory pages k - 1 ≡ s = omega (arith, entry_is) in
-          let same = ap (entry_at directory pages) (others s not_far) ∙ sym (ap (λ n. entry_at directory pages (get_or paged n 0)) slot) ∙ in_pages k there ∙ entry_is in
-          entry_for-here directory pages far (get_or after s 0) (λ e. absurd (let wrong : ⊥ = omega (arith, same, e) in wrong)) ∙ same
+          grind (
+            arith,
+            ap (entry_at directory pages) (others s not_far) ∙ sym (ap (λ n. entry_at directory pages (get_or paged n 0)) slot) ∙ in_pages k there ∙ entry_is,
+          )
     ]
   ]
 
@@ -82,7 +73,4 @@ module _ (directory : Directory) (pages : Pages) (far : BTreeMap ℕ ℕ) (once 
   ]
     where
       entry_of : (n slot : ℕ) → slot_from n ≡ Some slot → n ≡ slot + 1
-      entry_of n slot from = elim (cases_eq n 0) [
-        | inl none ↦ absurd (none-some slot (sym (ap slot_from none) ∙ from))
-        | inr some ↦ let is = same_Some (n - 1) slot (sym (ap (λ b. cond b None (Some (n - 1))) (ne_eqb n 0 some)) ∙ from) in omega (arith, is, some)
-      ]
+      entry_of n slot from = grind (arith, cases_eq, none-some, same_Some, ne_eqb)

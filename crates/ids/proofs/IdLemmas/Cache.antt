@@ -1,8 +1,7 @@
 -- The lines of a cache.
-use Rattle.std.proofs.Common.{◌≡◌, ◌≢◌, ℕ, ◌<◌, cond, eqb, eq-eqb, ne_eqb, List, length, get_or, set}
-use Rattle.std.proofs.Common.{refl, sym, ap, ◌∙◌, arith, inl, inr, get_or-set_same, get_or-set_other}
-use Rattle.std.proofs.Common.{replicate, bit_and, Bool, true, false}
-use Rattle.std.proofs.Common.{◌+◌, if◌then◌else◌, nat_lt}
+use Rattle.std.proofs.Common.{◌≡◌, ◌≢◌, ℕ, ◌<◌, cond, eqb, eq-eqb, ne_eqb, List, length, get_or}
+use Rattle.std.proofs.Common.{set, sym, ap, ◌∙◌, arith, inl, inr, get_or-set_same, get_or-set_other}
+use Rattle.std.proofs.Common.{replicate, bit_and, ◌+◌, if◌then◌else◌, nat_lt}
 use Rattle.std.proofs.lemmas.Bool.{cases_eq, cases_lt, lt-ltb, le-ltb}
 use Rattle.std.proofs.lemmas.Nat.{and_le_r}
 use Rattle.std.proofs.lemmas.List.{get_or_past, get_or_default, get_or-replicate, length-replicate}
@@ -13,11 +12,7 @@ abbrev free : Line
 free = record { number = 0; page = 0 }
 
 free_has_none : (k : ℕ) → page_of free k ≡ 0
-free_has_none k = by_test (eqb 0 k)
-  where
-    by_test : (b : Bool) → cond {A = ℕ} b 0 0 ≡ 0
-    by_test true = refl
-    by_test false = refl
+free_has_none k = grind arith
 
 page_of-here : (line : Line) (k : ℕ) → line.number ≡ k → page_of line k ≡ line.page
 page_of-here line k is = ap (λ b. cond b line.page 0) (eq-eqb line.number k is)
@@ -27,19 +22,11 @@ page_of-other line k apart = ap (λ b. cond b line.page 0) (ne_eqb line.number k
 
 -- where it has a page, it is of another number
 page_of-unless : (line : Line) (k : ℕ) → (line.page ≢ 0 → line.number ≢ k) → page_of line k ≡ 0
-page_of-unless line k other = elim (cases_eq line.page 0) [
-  | inl none ↦ elim (cases_eq line.number k) [
-    | inl is ↦ page_of-here line k is ∙ none
-    | inr apart ↦ page_of-other line k apart
-  ]
-  | inr some ↦ page_of-other line k (other some)
-]
+page_of-unless line k other = grind (arith, cases_eq, page_of-here, page_of-other)
 
 pub none_in_free : (len mask k : ℕ) → page_among (replicate len free) mask k ≡ 0
-none_in_free len mask k = elim (cases_lt (bit_and k mask) len) [
-  | inl low ↦ ap (λ line. page_of line k) (get_or-replicate len (bit_and k mask) free free low) ∙ free_has_none k
-  | inr past ↦ ap (λ line. page_of line k) (get_or_past (replicate len free) (bit_and k mask) free (let is = length-replicate len free in omega arith)) ∙ free_has_none k
-]
+none_in_free len mask k =
+    grind (arith, cases_lt, get_or-replicate, free, free_has_none, get_or_past, length-replicate)
 
 -- ---- One number, and the line that it has
 
@@ -59,10 +46,7 @@ module _ (lines : List Line) (mask number : ℕ) (has : mask < length lines) (li
 
   -- it has none, so nothing has to be cleared
   pub not_cleared : line.number ≢ number → (k : ℕ) → page_among lines mask k ≡ cond (eqb k number) 0 (page_among lines mask k)
-  not_cleared apart k = elim (cases_eq k number) [
-    | inl is ↦ ap (page_among lines mask) is ∙ among_none apart ∙ ap (λ b. cond b 0 (page_among lines mask k)) (sym (eq-eqb k number is))
-    | inr other ↦ ap (λ b. cond b 0 (page_among lines mask k)) (sym (ne_eqb k number other))
-  ]
+  not_cleared apart k = grind (arith, cases_eq, among_none, eq-eqb, ne_eqb)
 
   pub cleared : line.number ≡ number → (k : ℕ) → page_among (set lines (bit_and number mask) free) mask k ≡ cond (eqb k number) 0 (page_among lines mask k)
   cleared is k = elim (cases_eq (bit_and k mask) (bit_and number mask)) [
@@ -71,14 +55,9 @@ module _ (lines : List Line) (mask number : ℕ) (has : mask < length lines) (li
         ap (λ i. page_of (get_or (set lines (bit_and number mask) free) i free) k) same ∙ ap (λ (l : Line). page_of l k) (get_or-set_same lines (bit_and number mask) free free inside) ∙ free_has_none k in
         elim (cases_eq k number) [
           | inl here ↦ at ∙ ap (λ b. cond b 0 (page_among lines mask k)) (sym (eq-eqb k number here))
-          | inr other ↦
-              at
-              ∙ sym (ap (λ i. page_of (get_or lines i free) k) same ∙ ap (λ (l : Line). page_of l k) (sym line_is) ∙ page_of-other line k (λ e. other (sym e ∙ is)))
-              ∙ ap (λ b. cond b 0 (page_among lines mask k)) (sym (ne_eqb k number other))
+          | inr other ↦ grind (arith, free, line_is, page_of-other, ne_eqb)
         ]
-    | inr apart ↦
-        ap (λ (l : Line). page_of l k) (get_or-set_other lines (bit_and number mask) (bit_and k mask) free free apart)
-        ∙ ap (λ b. cond b 0 (page_among lines mask k)) (sym (ne_eqb k number (λ e. apart (ap (λ n. bit_and n mask) e))))
+    | inr apart ↦ grind (arith, get_or-set_other, free, ne_eqb)
   ]
 
   module _ (page : ℕ) where
@@ -87,21 +66,22 @@ module _ (lines : List Line) (mask number : ℕ) (has : mask < length lines) (li
 
     -- no other number has a page in the line
     pub put_in : (line.page ≢ 0 → line.number ≡ number) → (k : ℕ) → page_among after mask k ≡ cond (eqb k number) page (page_among lines mask k)
-    put_in own k = elim (cases_eq k number) [
-      | inl is ↦
-          ap (page_among after mask) is ∙ ap (λ (l : Line). page_of l number) (get_or-set_same lines (bit_and number mask) (record { number = number; page = page }) free inside)
-          ∙ page_of-here (record { number = number; page = page }) number refl ∙ ap (λ b. cond b page (page_among lines mask k)) (sym (eq-eqb k number is))
-      | inr other ↦ elim (cases_eq (bit_and k mask) (bit_and number mask)) [
-        | inl same ↦
-            ap (λ i. page_of (get_or after i free) k) same ∙ ap (λ (l : Line). page_of l k) (get_or-set_same lines (bit_and number mask) (record { number = number; page = page }) free inside)
-            ∙ page_of-other (record { number = number; page = page }) k (λ e. other (sym e))
-            ∙ sym (ap (λ i. page_of (get_or lines i free) k) same ∙ ap (λ (l : Line). page_of l k) (sym line_is) ∙ page_of-unless line k (λ some e. other (sym e ∙ own some)))
-            ∙ ap (λ b. cond b page (page_among lines mask k)) (sym (ne_eqb k number other))
-        | inr apart ↦
-            ap (λ (l : Line). page_of l k) (get_or-set_other lines (bit_and number mask) (bit_and k mask) (record { number = number; page = page }) free apart)
-            ∙ ap (λ b. cond b page (page_among lines mask k)) (sym (ne_eqb k number other))
-      ]
-    ]
+    put_in own k =
+        grind (
+          arith,
+          cases_eq,
+          after,
+          get_or-set_same,
+          free,
+          inside,
+          page_of-here,
+          eq-eqb,
+          page_of-other,
+          line_is,
+          page_of-unless,
+          ne_eqb,
+          get_or-set_other,
+        )
 
 -- ---- Lines that are moved to a longer cache, up to a place
 
@@ -117,10 +97,7 @@ module _ (lines : List Line) (mask i : ℕ) (line : Line) (low : i < length line
   before_it k at = moved k ∙ ap (λ b. cond b (page_among lines mask k) 0) (le-ltb (bit_and k mask) i (omega arith))
 
   same_test : (k : ℕ) → bit_and k mask ≢ i → nat_lt (bit_and k mask) i ≡ nat_lt (bit_and k mask) (i + 1)
-  same_test k apart = elim (cases_lt (bit_and k mask) i) [
-    | inl before ↦ lt-ltb (bit_and k mask) i before ∙ sym (lt-ltb (bit_and k mask) (i + 1) (omega arith))
-    | inr past ↦ le-ltb (bit_and k mask) i past ∙ sym (le-ltb (bit_and k mask) (i + 1) (omega (arith, past, apart)))
-  ]
+  same_test k apart = grind (arith, cases_lt, lt-ltb, le-ltb)
 
   moved_other : (k : ℕ) → bit_and k mask ≢ i → cached k ≡ moved_to lines mask (i + 1) k
   moved_other k apart = moved k ∙ ap (λ b. cond b (page_among lines mask k) 0) (same_test k apart)
@@ -130,10 +107,7 @@ module _ (lines : List Line) (mask i : ℕ) (line : Line) (low : i < length line
 
   -- the line has none of its own
   pub not_moved : (line.page ≢ 0 → bit_and line.number mask ≢ i) → (k : ℕ) → cached k ≡ moved_to lines mask (i + 1) k
-  not_moved none k = elim (cases_eq (bit_and k mask) i) [
-    | inl at ↦ before_it k at ∙ sym (here k at ∙ page_of-unless line k (λ some e. none some (ap (λ n. bit_and n mask) e ∙ at)))
-    | inr apart ↦ moved_other k apart
-  ]
+  not_moved none k = grind (arith, cases_eq, before_it, here, page_of-unless, moved_other)
 
 pub moved_all : (lines : List Line) (mask i k : ℕ) → mask < i → moved_to lines mask i k ≡ page_among lines mask k
 moved_all lines mask i k past = let most = and_le_r k mask in ap (λ b. cond b (page_among lines mask k) 0) (lt-ltb (bit_and k mask) i (omega arith))

@@ -1,4 +1,4 @@
-use Rattle.std.proofs.Common.{◌≡◌, ◌-◌, ap, ◌∙◌, sym, slice_index, arith, inl, inr}
+use Rattle.std.proofs.Common.{arith, inl, inr}
 use Rattle.std.proofs.lemmas.Bool.{cases_eq}
 use Rattle.ids.specs.Code.Ids.{page_at}
 use Rattle.ids.proofs.IdLemmas.Map.{page_within}
@@ -9,18 +9,14 @@ returns-else-least-clause-some c =
     let d = c.args.directory.now in
     let numbers = c.args.pages.now.numbers.items in
     let found = c.loop-i.invariant.found c.if-least.false in
-    let fits = c.loop-i.invariant.fits in
     record {
       above = omega (arith, found.0);
-      below = omega (arith, fits);
+      below = omega (arith, c.loop-i.invariant.fits);
       there = found.1;
       before = λ k above low. elim (cases_eq (page_at d k) 0) [
         | inl none ↦ none
         | inr some ↦
             let own = (c.requires.owned k some).0 in
-            let within = page_within (page_at d) numbers c.requires.owned k some in
-            let same : slice_index numbers (page_at d k - 1) - 1 ≡ k = omega (arith, own) in
-            let least = c.loop-i.invariant.least (page_at d k - 1) (omega arith) (omega (arith, own, above)) (λ e. some (sym (ap (page_at d) same) ∙ e)) in
-            absurd (let wrong : ⊥ = omega (arith, least, own, low) in wrong)
+            let within = page_within (page_at d) numbers c.requires.owned k some in grind arith
       ];
     }

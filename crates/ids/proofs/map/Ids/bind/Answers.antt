@@ -2,8 +2,8 @@ use Rattle.std.proofs.Common.{cond, eqb, subst, sym, ap, ◌∙◌, arith}
 use Rattle.std.specs.FinMap as maps
 use Rattle.ids.specs.Code.Far.{far_at}
 use Rattle.ids.specs.Code.Ids.{page_at, entry_at, entry_for, IsOwned}
-use Rattle.ids.proofs.IdLemmas.Map.{as_map-insert, unbound_entry, both_none, once-paged}
-use Rattle.ids.proofs.IdLemmas.Map.{page_empty, page_filled, entry_for-far, entry_for-paged}
+use Rattle.ids.proofs.IdLemmas.Map.{as_map-insert, unbound_entry, both_none, once-paged, page_empty}
+use Rattle.ids.proofs.IdLemmas.Map.{page_filled, entry_for-far, entry_for-paged}
 use Rattle.ids.proofs.map.Ids.bind.Goals as goal
 
 pub fill-requires-clause-empty : goal.fill-requires-clause-empty
@@ -38,8 +38,7 @@ returns-then-page-eq0-clause-ok c =
     as_map-insert (entry_for i.directory i.pages i.far) (entry_for d g far) id entry (omega arith) (λ k.
     ap (λ e. cond (eqb e 0) (far_at far k) e) (c.page_for.ensures.same k)
     ∙ entry_for-far i.directory i.pages i.far id entry far c.in_ok-put_far.ensures.ok (both_none (entry_at i.directory i.pages id) (far_at i.far id) none).0 k)
-    c.args.slot c.in_ok-entry.ensures
-    ∙ ap (λ m. maps.insert m id c.args.slot) c.self.view_is
+    c.args.slot c.in_ok-entry.ensures ∙ ap (λ m. maps.insert m id c.args.slot) c.self.view_is
 
 pub returns-clause-ok : goal.returns-clause-ok
 returns-clause-ok c =
@@ -52,5 +51,4 @@ returns-clause-ok c =
     let filled = page_filled i.directory i.pages i.far id none p.new.directory p.new.pages p.ensures.paged p.ensures.same _ c.in_ok-page.ensures.ok c.if-page-eq0.false c.fill.new.self entry c.fill.ensures.entries in
     as_map-insert entries (entry_for p.new.directory c.fill.new.self i.far) id entry (omega arith)
     (entry_for-paged i.directory i.pages i.far id entry p.new.directory c.fill.new.self filled (both_none (entry_at i.directory i.pages id) (far_at i.far id) none).1)
-    c.args.slot c.in_ok-entry.ensures
-    ∙ ap (λ m. maps.insert m id c.args.slot) c.self.view_is
+    c.args.slot c.in_ok-entry.ensures ∙ ap (λ m. maps.insert m id c.args.slot) c.self.view_is

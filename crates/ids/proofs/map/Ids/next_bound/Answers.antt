@@ -20,8 +20,7 @@ returns-clause-first c = λ k above low.
 
 pub returns-in_err-id-clause-none : goal.returns-in_err-id-clause-none
 returns-in_err-id-clause-none c =
-    let i = c.self.inside in
-    let entry = entry_for i.directory i.pages i.far in
+    let entry = entry_for c.self.inside.directory c.self.inside.pages c.self.inside.far in
     if_none_always c.from_residual.result (λ k above.
     ap (λ m. maps.get m k) (sym c.self.view_is)
     ∙ elim (cases_lt k (2 ^ 64)) [

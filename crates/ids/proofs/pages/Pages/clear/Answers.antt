@@ -1,6 +1,5 @@
-use Rattle.std.proofs.Common.{◌-◌, ◌%◌, get_or, arith}
+use Rattle.std.proofs.Common.{◌-◌, ◌%◌, arith}
 use Rattle.std.proofs.lemmas.Grind.{common_steps}
-use Rattle.ids.specs.Code.Ids.{place}
 use Rattle.ids.proofs.IdLemmas.Pages.{counts_some, counted_as-some}
 use Rattle.ids.proofs.pages.Pages.clear.Goals as goal
 
@@ -11,8 +10,4 @@ overflow_sub-count c =
     grind (arith, common_steps, some)
 
 pub write-requires-clause-count : goal.write-requires-clause-count
-write-requires-clause-count c =
-    let pages = c.args.self.now in
-    let some = counts_some pages.entries.items pages.live.items c.requires.page.counted.counts (c.args.page - 1) (c.args.id % 1024) (omega arith) c.requires.bound in
-    let one = counted_as-some (get_or pages.entries.items (place c.args.page c.args.id) 0) c.requires.bound in
-    grind (arith, common_steps, some, one)
+write-requires-clause-count c = grind (arith, counts_some, counted_as-some, common_steps)

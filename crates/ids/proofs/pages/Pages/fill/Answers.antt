@@ -1,6 +1,5 @@
-use Rattle.std.proofs.Common.{◌-◌, get_or, arith}
+use Rattle.std.proofs.Common.{◌-◌, arith}
 use Rattle.std.proofs.lemmas.Grind.{common_steps}
-use Rattle.ids.specs.Code.Ids.{place}
 use Rattle.ids.proofs.IdLemmas.Pages.{counts_most, counted_as-none, counted_as-some}
 use Rattle.ids.proofs.pages.Pages.fill.Goals as goal
 
@@ -11,7 +10,4 @@ overflow_add-count c =
     grind (arith, common_steps, most)
 
 pub write-requires-clause-count : goal.write-requires-clause-count
-write-requires-clause-count c =
-    let none = counted_as-none (get_or c.args.self.now.entries.items (place c.args.page c.args.id) 0) c.requires.empty in
-    let some = counted_as-some c.args.entry (λ e. absurd (let wrong : ⊥ = omega arith in wrong)) in
-    grind (arith, common_steps, none, some)
+write-requires-clause-count c = grind (arith, counted_as-none, counted_as-some, common_steps)

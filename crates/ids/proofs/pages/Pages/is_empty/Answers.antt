@@ -1,10 +1,8 @@
-use Rattle.std.proofs.Common.{◌-◌, arith}
+use Rattle.std.proofs.Common.{arith}
 use Rattle.std.proofs.lemmas.Bool.Decides.{nat_tests}
 use Rattle.std.proofs.lemmas.Grind.{common_steps}
 use Rattle.ids.proofs.IdLemmas.Pages.{counts_none}
 use Rattle.ids.proofs.pages.Pages.is_empty.Goals as goal
 
 pub returns : goal.returns
-returns c = λ is.
-    let pages = c.args.self.now in
-    counts_none pages.entries.items pages.live.items c.requires.counted.counts (c.args.page - 1) (grind (arith, nat_tests, common_steps))
+returns c = grind (arith, counts_none, nat_tests, common_steps)
