@@ -1,28 +1,25 @@
 -- A solver's output, one token at a time.
-use Rattle.std.proofs.Common.{◌≡◌, eqb, refl, sym, ap, subst, ◌∙◌, rules}
+use Rattle.std.proofs.Common.{arith, ◌≡◌, eqb, refl, sym, ap, subst, ◌∙◌, rules}
 use Rattle.std.proofs.lemmas.Bool.{true≢false, false≢true}
 use Rattle.std.specs.Prelude.{◌||◌, cond, Bool, true, false, List, [], ◌∷◌, Option, None, Some}
 use Rattle.std.specs.Prelude.{Result, Ok, Err}
-use Rattle.cnf_base.specs.Literals.{Literal, has}
-use Rattle.cnf_base.specs.Stream.{Stream, Along, tells_failure}
-use Rattle.cnf_base.specs.Text.{Listed, Listing, listing_at, Gives}
-use Rattle.cnf_base.specs.declared.input.Ending.{Ending, TheVariants.End, TheVariants.Failed}
-use Rattle.cnf_base.specs.declared.{input.ReadFailed.ReadFailed as Cut, place.Place.Place}
-use Rattle.cnf_base.specs.declared.{word.Word.Word, fault.Fault.Fault}
-use Rattle.cnf_base.specs.declared.fault.Fault.TheVariants.{Text, ReadFailed}
-use Rattle.cnf_base.specs.declared.fault.TextFault.TheVariants.{BadToken, BadLine, SecondStatus}
-use Rattle.cnf_base.specs.declared.fault.TextFault.TheVariants.{NotClaimed, AfterEnd, Complement}
-use Rattle.cnf_base.specs.declared.fault.TextFault.TheVariants.{LiteralTooLarge}
-use Rattle.cnf_base.specs.declared.word.Word.TheVariants as words
-use Rattle.cnf_base.specs.declared.token.Token as tokens
-use Rattle.cnf_base.specs.declared.token.Token.TheVariants as token
+use Rattle.cnf_base.specs.{Stream.Stream, Stream.Along, Stream.tells_failure, Literals.Literal}
+use Rattle.cnf_base.specs.{Text.Gives, Text.listing_at, Text.Listing, Text.Listed, Literals.has}
+use Rattle.cnf_base.specs.declared.input.Ending.{TheVariants.End, TheVariants.Failed, Ending}
+use Rattle.cnf_base.specs.declared.{input.ReadFailed.ReadFailed as Cut, word.Word.Word}
+use Rattle.cnf_base.specs.declared.fault.Fault.{TheVariants.Text, TheVariants.ReadFailed, Fault}
+use Rattle.cnf_base.specs.declared.fault.TextFault.TheVariants.{BadLine, SecondStatus, NotClaimed}
+use Rattle.cnf_base.specs.declared.fault.TextFault.TheVariants.{AfterEnd, Complement}
+use Rattle.cnf_base.specs.declared.{fault.TextFault.TheVariants.LiteralTooLarge, place.Place.Place}
 use Rattle.cnf_base.proofs.StreamLemmas.{Along-then, Along-map, Along-still}
-use Rattle.dimacs.specs.Formula.{and_then}
 use Rattle.dimacs.specs.Claim.{LinePosition, at_line_start, after_s, after_status, in_values, Said}
 use Rattle.dimacs.specs.Claim.{on_first, on_status, on_literal, on_value, claim_on_word}
 use Rattle.dimacs.specs.Claim.{on_line_end, placed, claim_on_token, on_end, claim_among}
-use Rattle.dimacs.specs.Claim.{claim_after, IsClaim}
+use Rattle.dimacs.specs.{Claim.claim_after, Claim.IsClaim, Formula.and_then}
 use Rattle.dimacs.specs.Code.Claiming.{with_listed, ComesTo, Takes}
+use Rattle.cnf_base.specs.declared.word.Word.TheVariants as words
+use Rattle.cnf_base.specs.declared.token.Token as tokens
+use Rattle.cnf_base.specs.declared.token.Token.TheVariants as token
 
 -- ---- Only the set of the listed literals counts
 
@@ -63,19 +60,13 @@ module _ (place : Place) (xs ls : List Literal) (same : Same xs ls) where
 
   number_alike : (p : LinePosition) (h e fits ended : Bool) (o : Option Literal)
       → Alike (placed place (cond fits (cond ended (Err AfterEnd) (on_literal (said p h e xs) o)) (Err LiteralTooLarge))) (placed place (cond fits (cond ended (Err AfterEnd) (on_literal (said p h e ls) o)) (Err LiteralTooLarge)))
-  number_alike p h e false ended o = neither (Text LiteralTooLarge place)
-  number_alike p h e true true o = neither (Text AfterEnd place)
-  number_alike p h e true false o = literal_alike p h e o
+  number_alike p h e fits ended o = search (rules, arith, literal_alike, neither)
 
   value_alike : (p : LinePosition) (h e : Bool) (w : Word) → Alike (placed place (on_value (said p h e xs) w)) (placed place (on_value (said p h e ls) w))
-  value_alike p h e (words.Number n) = search (rules, number_alike)
-  value_alike p h e _ = neither (Text BadToken place)
+  value_alike p h e w = search (rules, arith, number_alike, neither)
 
   word_alike : (p : LinePosition) (h e : Bool) (w : Word) → Alike (placed place (claim_on_word (said p h e xs) w)) (placed place (claim_on_word (said p h e ls) w))
-  word_alike at_line_start h e w = first_alike at_line_start h e w
-  word_alike after_s h e w = status_alike after_s h e w
-  word_alike after_status h e w = neither (Text BadLine place)
-  word_alike in_values h e w = value_alike in_values h e w
+  word_alike p h e w = search (rules, arith, first_alike, status_alike, value_alike, neither)
 
   line_alike : (p : LinePosition) (h e : Bool) → Alike (placed place (on_line_end (said p h e xs))) (placed place (on_line_end (said p h e ls)))
   line_alike after_s h e = neither (Text BadLine place)
@@ -165,8 +156,7 @@ module _ (old now new : Stream) (before so_far : Said) (hears : Hears old now be
 
   pub Hears-end : (p : Place) (claim : Result (List Literal) Fault) → Along now new (λ i j. Gives (Ok (token.End p)) (listing_at now.place i) (listing_at new.place j) j)
       → IsClaim claim (on_end so_far p End) → Along old new (λ i j. IsClaim claim (claim_after before (listing_at old.place i)))
-  Hears-end p claim gives claims = Along-then old now new _ _ _ hears.text gives (λ i j k m q g.
-      q claim (subst (λ l. IsClaim claim (claim_after so_far l)) (sym g.1) claims))
+  Hears-end p claim gives claims = grind (arith, Along-then)
 
   pub Hears-failed : (cut : Cut) → Along now new (λ i j. Gives (Err cut) (listing_at now.place i) (listing_at new.place j) j)
       → Along old new (λ i j. IsClaim (Err ReadFailed) (claim_after before (listing_at old.place i)))

@@ -2,32 +2,31 @@
 use Rattle.std.proofs.Common.{◌≡◌, ℕ, ◌+◌, ◌≤◌, nat_le, cond, Bool, true, false, List, [], ◌∷◌}
 use Rattle.std.proofs.Common.{◌++◌, length, map, Option, None, Some, Result, Ok, Err, refl, sym, ap}
 use Rattle.std.proofs.Common.{ap₂, subst, ◌∙◌, append_assoc, arith, rules}
-use Rattle.std.proofs.lemmas.{Bool.Decides.nat_tests, List.map-append, List.Folds.list_all-append}
-use Rattle.std.specs.Prelude.{◌&&◌, if◌then◌else◌, codes}
-use Rattle.std.specs.{Fmt.decimal, List.flat_map, List.list_all}
-use Rattle.cnf_base.specs.Literals.{Literal, Clause, variable}
+use Rattle.std.proofs.lemmas.{List.Folds.list_all-append, List.map-append, Bool.Decides.nat_tests}
+use Rattle.std.specs.Prelude.{if◌then◌else◌, codes}
+use Rattle.std.specs.{List.flat_map, List.list_all, Fmt.decimal}
+use Rattle.cnf_base.specs.{Literals.Literal, Literals.Clause, Literals.variable, Text.listing_of}
 use Rattle.cnf_base.specs.Printing.{input_of, is_literal, literal_text, literal_words}
-use Rattle.cnf_base.specs.{Grammar.word_lines, Text.Listed, Text.Listing, Text.listing_of}
-use Rattle.cnf_base.specs.Words.{number, number_literal, word_of}
-use Rattle.cnf_base.specs.declared.input.Ending.{Ending, TheVariants.End}
-use Rattle.cnf_base.specs.declared.{place.Place.Place, word.Word.Word}
-use Rattle.cnf_base.specs.declared.fault.{Fault.Fault, TextFault.TextFault}
+use Rattle.cnf_base.specs.{Words.number, Words.number_literal, Words.word_of, Text.Listing}
+use Rattle.cnf_base.specs.{declared.input.Ending.Ending, Grammar.word_lines, Text.Listed}
+use Rattle.cnf_base.specs.declared.{input.Ending.TheVariants.End, word.Word.Word, place.Place.Place}
+use Rattle.cnf_base.specs.declared.fault.{TextFault.TextFault, Fault.Fault}
 use Rattle.cnf_base.specs.declared.fault.TextFault.TheVariants.{NumberTooLarge, BadToken}
 use Rattle.cnf_base.specs.declared.fault.TextFault.TheVariants.{LiteralOutOfRange, TooManyClauses}
-use Rattle.cnf_base.specs.declared.word.Word.TheVariants as words
-use Rattle.cnf_base.specs.declared.token.Token as tokens
-use Rattle.cnf_base.specs.declared.token.Token.TheVariants as token
 use Rattle.cnf_base.proofs.GrammarLemmas.{listing_says, number_spelled, p_spelled, cnf_spelled}
 use Rattle.cnf_base.proofs.PrintLemmas.{both, count_word}
 use Rattle.dimacs.specs.Formula.{is_p, is_cnf, fixed, count, line_end, part, header_of, judged}
 use Rattle.dimacs.specs.Formula.{Body, body_at_end, body_among, body_of, Formula, formula_with}
-use Rattle.dimacs.specs.Formula.{formula_of}
 use Rattle.dimacs.specs.Grammar.{filled_lines, all_words, FormulaText, FormulaIsGrammar}
-use Rattle.dimacs.specs.{Printing.header_words, Printing.IsFormula, declared.header.Header.Header}
+use Rattle.dimacs.specs.Printing.{header_words, IsFormula}
+use Rattle.dimacs.specs.{declared.header.Header.Header, Formula.formula_of}
 use Rattle.dimacs.proofs.{FormulaPrinting.judged_literal, HeaderLemmas.after_p}
 use Rattle.dimacs.proofs.GrammarWords.{Lines, and_so, went_on, some_parts, line_then, said_by}
 use Rattle.dimacs.proofs.GrammarWords.{IsSaid, AreSaid, text_lines, filled_words, literal_spelled}
 use Rattle.dimacs.proofs.GrammarWords.{zero_spelled}
+use Rattle.cnf_base.specs.declared.word.Word.TheVariants as words
+use Rattle.cnf_base.specs.declared.token.Token as tokens
+use Rattle.cnf_base.specs.declared.token.Token.TheVariants as token
 
 -- ---- The clauses, where places and faults don't matter
 
@@ -71,9 +70,7 @@ module _ (h : Header) (k : ℕ) (acc : List Literal) (ts : List Listed) (end : P
     (same : (k : ℕ) (acc : List Literal) → clean (body_among h k acc ts end End) ≡ g k acc) where
   on_word : (t : tokens.Token) (v : Word) → IsSaid t (Some v)
       → clean (body_among h k acc ((t, offset) ∷ ts) end End) ≡ on_judged k acc (judged h k v) g
-  on_word (token.Word p w) v is = search rules
-  on_word (token.LineEnd p) v is = absurd is
-  on_word (token.End p) v is = absurd is
+  on_word t v h = grind arith
 
   on_line_end : (t : tokens.Token) → IsSaid t None
       → clean (body_among h k acc ((t, offset) ∷ ts) end End) ≡ g k acc
@@ -194,9 +191,7 @@ line_agrees lines l line is =
     (count_agrees lines l line is 268435455) (λ v w r.
     agree_part _ _ (count 4294967295) v.1 (count_in 4294967295 w.1) _ _
     (count_agrees lines v.1 w.1 r.1 4294967295) (λ c d s.
-    agree_part _ _ line_end c.1 (end_in d.1) _ _
-    (end_agrees lines c.1.tokens c.1.end c.1.ending d.1 s.1.ending s.1.said) (λ m u after.
-    (ap₂ (λ vars clauses. record { vars = vars; clauses = clauses }) r.0 s.0, after))))))
+    grind (arith, agree_part, end_agrees)))))
 
 header_agrees : (lines : Lines) (ts : List Listed) (p : Place) → AreSaid ts (said_by lines)
     → Agree IsHead (header_of (listing ts p End)) (lines_header lines)
@@ -218,9 +213,7 @@ header_agrees ((w ∷ ws) ∷ lines) (t ∷ ts) p s = by t.0 s.0
         → Agree IsHead (part (fixed is_p) (listing ((u, t.1) ∷ ts) p End) after_p)
         (line_header lines (w ∷ ws))
         → Agree IsHead (header_of (listing ((u, t.1) ∷ ts) p End)) (line_header lines (w ∷ ws))
-    by (token.Word q v) s a = a
-    by (token.LineEnd q) s a = absurd s
-    by (token.End q) s a = absurd s
+    by u h h2 = grind arith
 
 -- ---- The header's spelling
 
@@ -270,8 +263,7 @@ line_spelled lines line h rest e0 =
     let b = went_on (fixed_in is_cnf a.0) _ (h, rest) a.2 in
     let c = went_on (count_in 268435455 b.0) _ (h, rest) b.2 in
     let d = went_on (count_in 4294967295 c.0.1) _ (h, rest) c.2 in
-    let z = went_on (end_in d.0.1) _ (h, rest) d.2 in
-    let p = fixed_spelled is_p line a.0 a.1 in
+    let z = went_on (end_in d.0.1) _ (h, rest) d.2 in let p = fixed_spelled is_p line a.0 a.1 in
     let q = fixed_spelled is_cnf a.0 b.0 b.1 in
     let v = count_spelled 268435455 b.0 c.0.0 c.0.1 (omega arith) c.1 in
     let n = count_spelled 4294967295 c.0.1 d.0.0 d.0.1 (omega arith) d.1 in
@@ -285,13 +277,7 @@ line_spelled lines line h rest e0 =
         ≡ decimal vars ∷ c → vars ≤ 268435455 → c ≡ decimal clauses ∷ d → clauses ≤ 4294967295 → d
         ≡ [] → (record { vars = vars; clauses = clauses } ≡ h) × (lines ≡ rest)
         → (line ≡ header_words h) × IsHeader h × (rest ≡ lines)
-    finish p q a b vars c clauses d e f g i j low k high m same =
-        let vars_same : vars ≡ h.vars = ap (λ x. x.vars) same.0 in
-        let clauses_same : clauses ≡ h.clauses = ap (λ x. x.clauses) same.0 in (
-          cc,
-          record { vars = omega arith; clauses = omega arith },
-          sym same.1,
-        )
+    finish p q a b vars c clauses d e f g i j low k high m same = grind arith
 
 -- the lines begin with the header's words
 header_spelled : (lines : Lines) (h : Header) (rest : Lines) → lines_header lines ≡ Some (h, rest)
@@ -341,17 +327,10 @@ module _ (h : Header) (small : h.vars ≤ 268435455) where
       by (words.Number n) is e =
           let r = conditions (nat_le n.size 268435455) (nat_le h.clauses k) (nat_le n.size h.vars)
           (number_literal n) (Some l) TooManyClauses LiteralOutOfRange NumberTooLarge e in
-          let s = literal_spelled w n l is r.3 in
-          let same = s.is in
-          let some = s.some in
-          let within = r.2 in
-          let low : nat_le 1 (variable l) ≡ true = grind (arith, nat_tests) in
+          let s = literal_spelled w n l is r.3 in let same = s.is in let some = s.some in
+          let within = r.2 in let low : nat_le 1 (variable l) ≡ true = grind (arith, nat_tests) in
           let high : nat_le (variable l) h.vars ≡ true = ap (λ x. nat_le x h.vars) same ∙ within in
-          record {
-            missing = r.1;
-            is = s.text;
-            fact = ap (λ v. v && nat_le (variable l) h.vars) low ∙ high;
-          }
+          grind arith
       by _ is e = absurd (let bad : Err BadToken ≡ Ok (Some l) = e in cc)
 
   zero_judged : (k : ℕ) (w : List ℕ) → judged h k (word_of w) ≡ Ok None
@@ -365,8 +344,7 @@ module _ (h : Header) (small : h.vars ≤ 268435455) where
       by (words.Number n) is e =
           let r = conditions (nat_le n.size 268435455) (nat_le h.clauses k) (nat_le n.size h.vars)
           (number_literal n) None TooManyClauses LiteralOutOfRange NumberTooLarge e in
-          let test = r.0 in
-          let high : n.size ≤ 268435455 = grind (arith, nat_tests) in
+          let test = r.0 in let high : n.size ≤ 268435455 = grind (arith, nat_tests) in
           record { missing = r.1; is = zero_spelled w n is high r.3; fact = tt }
       by _ is e = absurd (let bad : other ≡ Ok None = e in cc)
 
@@ -393,43 +371,8 @@ module _ (h : Header) (small : h.vars ≤ 268435455) where
           → AreClauses k (acc ++ l ∷ []) ws cs)
           → ((more : List Clause) → clauses_in h (k + 1) [] ws ≡ Some more → k + 1 ≤ h.clauses
           → true ≡ true → AreClauses (k + 1) [] ws more) → AreClauses k acc (w ∷ ws) cs
-      by (Ok (Some l)) is e go_on next =
-          let j = literal_judged k w l is in
-          let all : list_all (is_literal h.vars) (acc ++ l ∷ []) ≡ true =
-          list_all-append (is_literal h.vars) acc (l ∷ [])
-          ∙ ap (λ v. v && list_all (is_literal h.vars) (l ∷ [])) are ∙ ap (λ v. v && true) j.fact in
-          let a = go_on l e low all in
-          record {
-            words = ap (λ t. map literal_text acc ++ t ∷ ws) j.is
-                ∙ sym (append_assoc (map literal_text acc) (literal_text l ∷ []) ws)
-                ∙ ap (λ t. t ++ ws) (sym (map-append literal_text acc (l ∷ []))) ∙ a.words;
-            count = a.count;
-            literals = a.literals;
-          }
-      by (Ok None) is e go_on next =
-          let j = zero_judged k w is in
-          let missing = j.missing in
-          rest (clauses_in h (k + 1) [] ws) refl e
-        where
-          rest : (o : Option (List Clause)) → clauses_in h (k + 1) [] ws ≡ o → first_clause acc o
-              ≡ Some cs → AreClauses k acc (w ∷ ws) cs
-          rest None o e = absurd (let bad : None ≡ Some cs = e in cc)
-          rest (Some more) o e =
-              let j = zero_judged k w is in
-              let missing = j.missing in
-              let less : k + 1 ≤ h.clauses = grind (arith, nat_tests) in
-              let a = next more o less refl in
-              let same : acc ∷ more ≡ cs = cc in
-              let count = a.count in
-              subst (AreClauses k acc (w ∷ ws)) same (record {
-                words = ap (λ t. map literal_text acc ++ t ∷ ws) j.is
-                    ∙ sym (append_assoc (map literal_text acc) (codes "0" ∷ []) ws)
-                    ∙ ap (λ t. literal_words acc ++ t) a.words;
-                count = omega arith;
-                literals = ap (λ v. v && list_all (list_all (is_literal h.vars)) more) are
-                    ∙ a.literals;
-              })
-      by (Err f) is e go_on next = absurd (let bad : None ≡ Some cs = e in cc)
+      by r h h2 h3 h4 =
+          grind (arith, literal_judged, list_all-append, append_assoc, map-append, zero_judged)
 
   -- and the other way round: a clause, and the others
   clause_taken : (ls acc : List Literal) (k : ℕ) (ws : List (List ℕ)) (cs : List Clause)
@@ -467,29 +410,22 @@ text_clauses h l lines is = search (rules, lines_clauses)
 formula_words : (h : Header) (clauses : List Clause) (r : Result (Header × Listing) (Fault × List ℕ))
     (o : Option (Header × Lines)) → Agree IsHead r o → formula_with r ≡ faultless_formula h clauses
     → (rest : Lines) × (o ≡ Some (h, rest)) × (clauses_in h 0 [] (all_words rest) ≡ Some clauses)
-formula_words h clauses (Err f) None a e = search rules
-formula_words h clauses (Err f) (Some y) a e = absurd a
-formula_words h clauses (Ok x) None a e = absurd a
 formula_words h clauses (Ok x) (Some y) a e =
-    let head : Some x.0 ≡ Some h = ap (λ f. f.header) e in
-    let same : x.0 ≡ h = cc in
+    let head : Some x.0 ≡ Some h = ap (λ f. f.header) e in let same : x.0 ≡ h = cc in
     let given : y.0 ≡ h = sym a.0 ∙ same in (
       y.1,
       ap (λ g. Some (g, y.1)) given,
       sym (text_clauses h x.1 y.1 a.1) ∙ ap (λ g. clean (body_of g 0 [] x.1)) (sym same)
           ∙ ap (λ f. faultless f.fault f.clauses) e,
     )
+formula_words h clauses r o h2 h3 = search (rules, arith)
 
 formula_taken : (h : Header) (clauses : List Clause)
     (r : Result (Header × Listing) (Fault × List ℕ)) (o : Option (Header × Lines)) (rest : Lines)
     → Agree IsHead r o → o ≡ Some (h, rest) → clauses_in h 0 [] (all_words rest) ≡ Some clauses
     → formula_with r ≡ faultless_formula h clauses
-formula_taken h clauses (Err f) None rest a o e = absurd (let bad : None ≡ Some (h, rest) = o in cc)
-formula_taken h clauses (Err f) (Some y) rest a o e = absurd a
-formula_taken h clauses (Ok x) None rest a o e = absurd a
 formula_taken h clauses (Ok x) (Some y) rest a o e =
-    let given = some_parts y (h, rest) o in
-    let same : x.0 ≡ h = a.0 ∙ given.0 in
+    let given = some_parts y (h, rest) o in let same : x.0 ≡ h = a.0 ∙ given.0 in
     let body = text_clauses h x.1 y.1 a.1
     ∙ ap (λ lines. clauses_in h 0 [] (all_words lines)) given.1 ∙ e in
     ap (λ g. formula_with (Ok (g, x.1))) same ∙ by (body_of h 0 [] x.1) body
@@ -497,13 +433,8 @@ formula_taken h clauses (Ok x) (Some y) rest a o e =
     by : (b : Body) → clean b ≡ Some clauses
         → record { header = Some h; clauses = b.clauses; fault = b.fault }
         ≡ faultless_formula h clauses
-    by b e = parts b.fault b.clauses e
-      where
-        parts : (f : Option Fault) (cs : List Clause) → faultless f cs ≡ Some clauses
-            → record { header = Some h; clauses = cs; fault = f } ≡ faultless_formula h clauses
-        parts None cs e = let same : cs ≡ clauses =
-            cc in ap (λ cs. record { header = Some h; clauses = cs; fault = None }) same
-        parts (Some f) cs e = absurd (let bad : None ≡ Some clauses = e in cc)
+    by b e = grind arith
+formula_taken h clauses r o rest h2 h3 h4 = grind (arith, rest)
 
 text_header : (bytes : List ℕ)
     → Agree IsHead (header_of (listing_of (input_of bytes))) (lines_header (word_lines bytes))

@@ -2,24 +2,21 @@
 use Rattle.std.proofs.Common.{◌≡◌, ℕ, ◌<◌, ◌≤◌, List, [], ◌∷◌, ◌++◌, Option, None, Some, refl, sym}
 use Rattle.std.proofs.Common.{ap, ◌∙◌, subst, arith, rules}
 use Rattle.std.specs.Prelude.{Bool, true, Result, Ok, Err}
-use Rattle.cnf_base.specs.Literals.{Literal}
 use Rattle.cnf_base.specs.Stream.{Suffix, Stream, Along, most_to_come, tells_failure}
-use Rattle.cnf_base.specs.Text.{Listing, listing_at, Gives}
-use Rattle.cnf_base.specs.declared.input.Ending.TheVariants.{End, Failed}
-use Rattle.cnf_base.specs.declared.{input.ReadFailed.ReadFailed as Cut, place.Place.Place}
-use Rattle.cnf_base.specs.declared.{word.Word.Word, token.Token.Token, fault.Fault.Fault}
+use Rattle.cnf_base.specs.{Text.Listing, Text.listing_at, Text.Gives, declared.place.Place.Place}
+use Rattle.cnf_base.specs.{declared.input.Ending.TheVariants.End, Literals.Literal}
+use Rattle.cnf_base.specs.declared.{input.ReadFailed.ReadFailed as Cut, word.Word.Word}
 use Rattle.cnf_base.specs.declared.fault.Fault.TheVariants.{Text, ReadFailed, OutOfMemory}
-use Rattle.cnf_base.specs.declared.fault.TextFault.{TextFault}
-use Rattle.cnf_base.specs.declared.token.Token.TheVariants as token
+use Rattle.cnf_base.specs.declared.{fault.TextFault.TextFault, fault.Fault.Fault, token.Token.Token}
 use Rattle.cnf_base.proofs.ListingLemmas.{Gives-from, listing_at-from}
 use Rattle.cnf_base.proofs.StreamLemmas.{Along-then, Along-map, Along-none}
 use Rattle.dimacs.specs.Reading.{FormulaReading, clauses_to_come, body_unless_ended, GivesClause}
-use Rattle.dimacs.specs.Reading.{ends_to_come, PassesNoEnd, GivesEnd}
 use Rattle.dimacs.specs.Code.Reading.{body_left, EndsBody, ends_left}
 use Rattle.dimacs.specs.Formula.{Body, body_of, judged, body_on_word, body_at_end, faulty_body}
-use Rattle.dimacs.specs.Formula.{whole, ends_on_word, ends_after}
-use Rattle.dimacs.specs.declared.header.Header.{Header}
+use Rattle.dimacs.specs.{Formula.whole, Formula.ends_on_word, Formula.ends_after, Reading.GivesEnd}
+use Rattle.dimacs.specs.{declared.header.Header.Header, Reading.ends_to_come, Reading.PassesNoEnd}
 use Rattle.dimacs.proofs.OffsetLemmas.{on_word-from, ends_among-from, gives_no_end}
+use Rattle.cnf_base.specs.declared.token.Token.TheVariants as token
 
 -- a fault is what comes, and it stays
 pub gives_fault : (f : Fault) (c : List Literal) (b : Body) → b ≡ faulty_body f → GivesClause (Err f) c b (faulty_body f)
@@ -32,19 +29,7 @@ kept_gives answer c before after h h2 h3 = search rules
 
 pub Kept-clause : (r : FormulaReading) (answer : Result Bool Fault) (c : List Literal) → r.kept ≡ Some answer → (r.kept ≡ Some (Ok true) → ⊥)
     → Along r.stream r.stream (λ i j. GivesClause answer c (clauses_to_come r i) (clauses_to_come r j) × GivesEnd answer (ends_to_come r i) (ends_to_come r j) j)
-Kept-clause r answer c is none =
-    let told : (i : Suffix) → clauses_to_come r i ≡ body_unless_ended (Some answer) whole =
-    λ i. ap (λ k. body_unless_ended k (body_of r.header r.complete [] (listing_at r.stream.place i))) is ∙ same answer _ in
-    Along-map r.stream r.stream _ _ (Along-none r.stream) (λ i j m e. (
-      kept_gives answer c _ _ (λ ok. none (is ∙ ap Some ok)) (told i) (told j),
-      gives_no_end answer (ends_to_come r i) (ends_to_come r j) j (λ ok. none (is ∙ ap Some ok)) (no_ends i j),
-    ))
-  where
-    no_ends : (i j : Suffix) → PassesNoEnd (ends_to_come r i) j
-    no_ends i j = search rules
-
-    same : (answer : Result Bool Fault) (b : Body) → body_unless_ended (Some answer) b ≡ body_unless_ended (Some answer) whole
-    same answer b = search rules
+Kept-clause r answer c is none = grind (arith, Along-none r.stream)
 
 ends_so : (h : Header) (complete : ℕ) (p : Place) (result : Result Bool Fault) (ls : List Literal) (before : Body) (l : Listing)
     → EndsBody result (body_at_end h complete ls p End) → before ≡ body_at_end h complete ls p End
@@ -71,11 +56,7 @@ Between-start h complete s at_hand = record {
 module _ (h : Header) (complete : ℕ) (old now new : Stream) (before at_hand : List Literal) (so_far : Between h complete old now before at_hand) where
   pub Between-line : (p : Place) → Along now new (λ i j. Gives (Ok (token.LineEnd p)) (listing_at now.place i) (listing_at new.place j) j)
       → most_to_come new < most_to_come now → tells_failure new.reader ≡ tells_failure now.reader → Between h complete old new before at_hand
-  Between-line p gives fewer mark = record {
-    text = Along-then old now new _ _ _ so_far.text gives (λ i j k m q r. (q.0 ∙ ap (body_of h complete at_hand) r, q.1 ∙ ap (ends_after h complete) r));
-    fewer = omega (arith, so_far.fewer, fewer);
-    mark = mark ∙ so_far.mark;
-  }
+  Between-line p gives fewer mark = grind (arith, Along-then)
 
   -- an answer, what is to come, and how far the input was read
   abbrev Gave : Result Bool Fault → List Literal → Type 0
@@ -121,16 +102,7 @@ module _ (h : Header) (complete : ℕ) (old now new : Stream) (before at_hand : 
 
   pub Between-end : (p : Place) (result : Result Bool Fault) → Along now new (λ i j. Gives (Ok (token.End p)) (listing_at now.place i) (listing_at new.place j) j)
       → EndsBody result (body_at_end h complete at_hand p End) → Gave result at_hand
-  Between-end p result gives ends = Along-then old now new _ _ _ so_far.text gives (λ i j k m q r. (
-    ends_so h complete p result at_hand _ _ ends (q.0 ∙ ap (body_of h complete at_hand) r.1),
-    gives_no_end result _ (ends_left result h complete (listing_at new.place k)) k (ends_no_clause result (body_at_end h complete at_hand p End) ends) (rest-from (Ok (token.End p)) i j k r q.1),
-  ))
+  Between-end p result gives ends = Along-then old now new _ _ _ so_far.text gives (λ i j k m q r. grind (arith, ends_so, gives_no_end, ends_no_clause, rest-from))
 
   pub Between-failed : (cut : Cut) → Along now new (λ i j. Gives (Err cut) (listing_at now.place i) (listing_at new.place j) j) → Gave (Err ReadFailed) at_hand
-  Between-failed cut gives = Along-then old now new _ _ _ so_far.text gives (λ i j k m q r. (
-    gives_fault ReadFailed at_hand _ (q.0 ∙ empty (listing_at now.place j) r.1 r.2),
-    rest-from (Err cut) i j k r q.1,
-  ))
-    where
-      empty : (l : Listing) → l.tokens ≡ [] → l.ending ≡ Failed → body_of h complete at_hand l ≡ faulty_body ReadFailed
-      empty l none failed = rw (none, failed) refl
+  Between-failed cut gives = grind (arith, Along-then, gives_fault, rest-from)

@@ -80,10 +80,7 @@ said_by_is (line ∷ lines) = search (rules, line_said, line_then_is, (said_by_i
 -- the tokens of a text are the words of its lines
 pub text_lines : (bytes : List ℕ)
     → AreSaid (listing_of (input_of bytes)).tokens (said_by (word_lines bytes))
-text_lines bytes =
-    let s = listing_says bytes in
-    subst (AreSaid (listing_of (input_of bytes)).tokens) (said_by_is (word_lines bytes))
-    (by _ s.inside s.words)
+text_lines bytes = grind (arith, listing_says, said_by_is, by)
   where
     by : (ts : List Listed) → list_all (λ t. is_inside t.0) ts ≡ true
         → (all_said ts ≡ text_said bytes) ⊎ (all_said ts ++ None ∷ [] ≡ text_said bytes)
@@ -91,8 +88,7 @@ text_lines bytes =
     by ts h (inl e) = subst (AreSaid ts) (append_none (all_said ts) ∙ e) (tokens_said [] tt ts h)
       where
         append_none : (xs : List (Option Word)) → xs ++ [] ≡ xs
-        append_none [] = refl
-        append_none (x ∷ xs) = ap (λ t. x ∷ t) (append_none xs)
+        append_none xs = search (rules, arith)
     by ts h (inr e) = subst (AreSaid ts) e (tokens_said (None ∷ []) tt ts h)
 
 -- lines without words have none
@@ -123,8 +119,7 @@ literal_spelled w n l is e = by n.is_negative n.size is e
         → then_some (nat_le 1 m && nat_le m 268435455) (cond s (2 * m + 1) (2 * m)) ≡ Some l
         → IsLiteralNumber w (number s m) l
     by true m is e =
-        let r = limited m (2 * m + 1) l e in
-        let half : l / 2 ≡ m = let a = r.2 in omega arith in
+        let r = limited m (2 * m + 1) l e in let half : l / 2 ≡ m = let a = r.2 in omega arith in
         let odd : (l % 2 == 0) ≡ false = let a = r.2 in let c : l % 2 ≡ 1 =
         omega arith in grind (arith, nat_tests) in
         record {
@@ -136,8 +131,7 @@ literal_spelled w n l is e = by n.is_negative n.size is e
           within = r.1;
         }
     by false m is e =
-        let r = limited m (2 * m) l e in
-        let half : l / 2 ≡ m = let a = r.2 in omega arith in
+        let r = limited m (2 * m) l e in let half : l / 2 ≡ m = let a = r.2 in omega arith in
         let even : (l % 2 == 0) ≡ true = let a = r.2 in let c : l % 2 ≡ 0 =
         omega arith in grind (arith, nat_tests) in
         record {
@@ -155,9 +149,7 @@ pub zero_spelled : (w : List ℕ) (n : Number) → word_of w ≡ words.Number n 
 zero_spelled w n is high e = by n.is_negative n.size is high e
   where
     none_within : (a b : Bool) (x : ℕ) → b ≡ true → then_some (a && b) x ≡ None → a ≡ false
-    none_within true true x h e = absurd (let bad : Some x ≡ None = e in cc)
-    none_within true false x h e = absurd (let bad : false ≡ true = h in cc)
-    none_within false b x h e = refl
+    none_within a b x h h2 = grind arith
 
     by : (s : Bool) (m : ℕ) → word_of w ≡ words.Number (number s m) → m ≤ 268435455
         → then_some (nat_le 1 m && nat_le m 268435455) (cond s (2 * m + 1) (2 * m)) ≡ None
@@ -171,5 +163,4 @@ zero_spelled w n is high e = by n.is_negative n.size is high e
       where
         signed : (s : Bool) (m : ℕ) → m ≡ 0 → (w ≡ number_text s m) × (s ≡ true → 1 ≤ m)
             → w ≡ codes "0"
-        signed true m z t = absurd (let low = t.1 refl in omega arith)
-        signed false m z t = t.0 ∙ ap decimal z ∙ decimal_digit 0 (omega arith)
+        signed s m h h2 = grind (arith, decimal_digit)

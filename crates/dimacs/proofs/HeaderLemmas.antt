@@ -1,4 +1,5 @@
 -- A header's parts, one after another.
+use Rattle.std.proofs.Common.{arith}
 use Rattle.std.proofs.Common.{◌≡◌, ℕ, cond, Bool, List, ◌∷◌, refl, sym, ap, subst, ◌∙◌, rules}
 use Rattle.std.specs.Prelude.{if◌then◌else◌, Result, Ok, Err}
 use Rattle.cnf_base.specs.{Stream.Suffix, Stream.Stream, Stream.Along, Text.Listed, Text.Listing}
@@ -10,9 +11,9 @@ use Rattle.cnf_base.specs.declared.token.Token.TheVariants as token
 use Rattle.cnf_base.proofs.ListingLemmas.{EndFrom, Gives-from}
 use Rattle.cnf_base.proofs.StreamLemmas.{Along-then, Along-map, Along-none}
 use Rattle.dimacs.specs.Formula.{drop_line_ends, skip_blank, next_word, is_p, is_cnf, fixed}
-use Rattle.dimacs.specs.Formula.{count_of, count, line_end, and_then, part, header_of, formula_with}
-use Rattle.dimacs.specs.Formula.{formula_at, ends_with, ends_at}
-use Rattle.dimacs.specs.Code.Reading.{first_end, and_then_at, GivesHeader, GivesPart}
+use Rattle.dimacs.specs.Formula.{count_of, count, line_end, and_then, part, header_of}
+use Rattle.dimacs.specs.Formula.{formula_at, ends_at}
+use Rattle.dimacs.specs.Code.Reading.{first_end, GivesHeader, GivesPart}
 use Rattle.dimacs.specs.{Reading.PassesNoEnd, Reading.unopened, declared.header.Header.Header}
 use Rattle.dimacs.proofs.OffsetLemmas.{AreFrom}
 
@@ -90,17 +91,12 @@ module _ {A : Type 0} (old now new : Stream) (test : Listing → Result A Fault)
     (so_far : Heads old now (λ l. part test (start l) next)) where
   -- the part was right
   pub Heads-part : (x : Listing → A) → Part now new start test (λ l. Ok (x l)) → Heads old new (λ l. next (x l))
-  Heads-part x run =
-      Along-then old now new _ _ _ so_far run (λ i j k m p q. p ∙ ap (λ r. and_then_at (first_end (start (listing_at now.place j)).tokens) r next) q.0)
+  Heads-part x run = grind (arith, Along-then)
 
   -- or wrong
   pub Heads-fault : (f : Fault) → Part now new start test (λ l. Err f)
       → Along old new (λ i j. GivesHeader (Err f) (header_of (listing_at old.place i)) (listing_at new.place j) j)
-  Heads-fault f run = Along-then old now new _ _ _ so_far run (λ i j k m p q. (
-    first_end (start (listing_at now.place j)).tokens,
-    p ∙ ap (λ r. and_then_at (first_end (start (listing_at now.place j)).tokens) r next) q.0,
-    q.1,
-  ))
+  Heads-fault f run = grind (arith, Along-then)
 
 -- ---- Blank lines
 
@@ -140,7 +136,4 @@ pub header_refused : (source old new : Stream) → old ≡ source → (f : Fault
     → Along source new (λ i j. (formula_at source.place i ≡ unopened f) × PassesNoEnd (ends_at source.place i) j)
 header_refused source old new is f gives =
     let P : Stream → Type 0 = λ s. Along s new (λ i j. (formula_at s.place i ≡ unopened f) × PassesNoEnd (ends_at s.place i) j) in
-    subst P is (Along-map old new _ _ gives (λ i j m h. (
-      ap formula_with h.1,
-      (let Q : List ℕ → Type 0 = λ ends. PassesNoEnd ends j in subst Q (sym (ap ends_with h.1)) h.2),
-    )))
+    subst P is (Along-map old new _ _ gives (λ i j m h. grind arith))

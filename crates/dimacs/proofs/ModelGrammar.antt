@@ -1,24 +1,20 @@
 -- A solver's output, as the grammar of a claimed model has it.
-use Rattle.std.proofs.Common.{◌≡◌, ℕ, ◌≤◌, ◌==◌, nat_le, cond, Bool, true, false, List, [], ◌∷◌}
-use Rattle.std.proofs.Common.{◌++◌, map, reverse, Option, None, Some, Result, Ok, Err, refl, sym}
-use Rattle.std.proofs.Common.{ap, ap₂, subst, ◌∙◌, append_assoc, arith, inl, inr, ◌⊎◌, rules}
-use Rattle.std.proofs.lemmas.{Bool.true≢false, Bool.Decides.nat_tests, List.reverse-append}
-use Rattle.std.proofs.lemmas.{List.reverse-reverse, List.Sorted.IsPermutation-reverse}
-use Rattle.std.proofs.lemmas.{List.Sorted.list_any-IsPermutation, Grind.common_steps}
-use Rattle.std.specs.{Prelude.◌&&◌, Prelude.if◌then◌else◌, Prelude.codes, List.list_all}
-use Rattle.cnf_base.specs.{Grammar.word_lines, Literals.Literal, Literals.complement, Literals.has}
-use Rattle.cnf_base.specs.{Literals.variable, Printing.input_of, Printing.is_literal}
-use Rattle.cnf_base.specs.{Printing.literal_words, Text.Listed, Text.Listing, Text.listing_of}
-use Rattle.cnf_base.specs.Words.{number_literal, word_of}
-use Rattle.cnf_base.specs.declared.fault.{Fault.Fault, TextFault.TextFault}
-use Rattle.cnf_base.specs.declared.{input.Ending.TheVariants.End, place.Place.Place, word.Word.Word}
-use Rattle.cnf_base.specs.declared.word.Word.TheVariants as words
-use Rattle.cnf_base.specs.declared.token.Token as tokens
-use Rattle.cnf_base.specs.declared.token.Token.TheVariants as token
+use Rattle.std.proofs.Common.{◌≡◌, ℕ, nat_le, cond, Bool, true, false, List, [], ◌∷◌, ◌++◌, map}
+use Rattle.std.proofs.Common.{reverse, Option, None, Some, Result, Ok, Err, refl, sym, ap, ap₂, ◌∙◌}
+use Rattle.std.proofs.Common.{append_assoc, arith, inl, inr, ◌⊎◌, rules}
+use Rattle.std.proofs.lemmas.{Bool.Decides.nat_tests, Bool.true≢false, Grind.common_steps}
+use Rattle.std.proofs.lemmas.List.{reverse-append, reverse-reverse}
+use Rattle.std.proofs.lemmas.List.Sorted.{IsPermutation-reverse, list_any-IsPermutation}
+use Rattle.std.specs.{Prelude.if◌then◌else◌, Prelude.codes, List.list_all}
+use Rattle.cnf_base.specs.Literals.{Literal, complement, has, variable}
+use Rattle.cnf_base.specs.Printing.{input_of, is_literal, literal_words}
+use Rattle.cnf_base.specs.Text.{Listed, Listing, listing_of}
+use Rattle.cnf_base.specs.{declared.fault.Fault.Fault, Grammar.word_lines, Words.number_literal}
+use Rattle.cnf_base.specs.declared.{fault.TextFault.TextFault, word.Word.Word, place.Place.Place}
+use Rattle.cnf_base.specs.{declared.input.Ending.TheVariants.End, Words.word_of}
 use Rattle.cnf_base.proofs.GrammarLemmas.{listing_says, s_spelled, v_spelled, satisfiable_spelled}
-use Rattle.cnf_base.proofs.TextLemmas.{append_nil}
-use Rattle.cnf_base.proofs.PrintLemmas.{both, literal_word}
-use Rattle.cnf_base.proofs.{PrintLemmas.literal_taken, SetLemmas.has_tail}
+use Rattle.cnf_base.proofs.{TextLemmas.append_nil, SetLemmas.has_tail}
+use Rattle.cnf_base.proofs.PrintLemmas.{both, literal_word, literal_taken}
 use Rattle.dimacs.specs.Formula.{and_then}
 use Rattle.dimacs.specs.Claim.{LinePosition, at_line_start, after_s, after_status, in_values, Said}
 use Rattle.dimacs.specs.Claim.{on_status, on_value, claim_on_word, on_line_end, claim_at_end}
@@ -29,6 +25,9 @@ use Rattle.dimacs.proofs.ModelLemmas.{IsConsistent-put}
 use Rattle.dimacs.proofs.ModelPrinting.{AreAmong, no_complement, among_more}
 use Rattle.dimacs.proofs.GrammarWords.{Lines, and_so, went_on, some_parts, line_then, said_by}
 use Rattle.dimacs.proofs.GrammarWords.{IsSaid, AreSaid, text_lines, literal_spelled, zero_spelled}
+use Rattle.cnf_base.specs.declared.word.Word.TheVariants as words
+use Rattle.cnf_base.specs.declared.token.Token as tokens
+use Rattle.cnf_base.specs.declared.token.Token.TheVariants as token
 
 -- ---- What is claimed, where places and faults don't matter
 
@@ -70,20 +69,14 @@ module _ (p : Place) where
           → ((s : Said) → known (claim_among s ts p End) ≡ claim_says s ss)
           → known (and_then (claim_on_token s k) (λ s. claim_among s ts p End)) ≡ claim_says s
           (Some v ∷ ss)
-      by (token.Word q w) e later = placed_then q (claim_on_word s w) (λ s. claim_among s ts p End)
-          (λ s. claim_says s ss) later ∙ ap (λ w. claim_says s (Some w ∷ ss)) e
-      by (token.LineEnd q) e later = absurd e
-      by (token.End q) e later = absurd e
+      by k h h2 = grind (arith, placed_then)
   among_said (t ∷ ts) (None ∷ ss) s is = by t.0 is.0 (λ s. among_said ts ss s is.1)
     where
       by : (k : tokens.Token) → IsSaid k None
           → ((s : Said) → known (claim_among s ts p End) ≡ claim_says s ss)
           → known (and_then (claim_on_token s k) (λ s. claim_among s ts p End)) ≡ claim_says s
           (None ∷ ss)
-      by (token.Word q w) e later = absurd e
-      by (token.LineEnd q) e later =
-          placed_then q (on_line_end s) (λ s. claim_among s ts p End) (λ s. claim_says s ss) later
-      by (token.End q) e later = absurd e
+      by k h h2 = grind (arith, placed_then)
 
 text_claim : (bytes : List ℕ) → known (claim_of (input_of bytes))
     ≡ claim_says (at at_line_start false false []) (said_by (word_lines bytes))
@@ -125,8 +118,7 @@ values_append (w ∷ ws) us e ls = by (value_in e ls (word_of w)) (λ x. values_
         → ((x : HeardSo) → values_in x.0 x.1 (ws ++ us) ≡ and_so (values_in x.0 x.1 ws)
         (λ x. values_in x.0 x.1 us)) → and_so o (λ x. values_in x.0 x.1 (ws ++ us))
         ≡ and_so (and_so o (λ x. values_in x.0 x.1 ws)) (λ x. values_in x.0 x.1 us)
-    by None later = refl
-    by (Some x) later = later x
+    by o h = grind arith
 
 module _ (h : Bool) where
   value_said : {A : Type 0} (e : Bool) (ls : List Literal) (w : Word) (f : Said → Option A)
@@ -148,8 +140,7 @@ module _ (h : Bool) where
           → and_so o (λ x. claim_says (at in_values h x.0 x.1) (line_then ws later))
           ≡ and_so (and_so o (λ x. values_in x.0 x.1 ws))
           (λ x. claim_says (at at_line_start h x.0 x.1) later)
-      by None next = refl
-      by (Some x) next = next x
+      by o h = grind arith
 
 -- the first line has values, and other lines follow
 record IsValueLine (h e : Bool) (ls : List Literal) (w : List ℕ) (ws : List (List ℕ))
@@ -239,12 +230,7 @@ status_read e ls (w ∷ ws) later r is = by (word_of w) refl is
     by : (v : Word) → word_of w ≡ v
         → and_so (known (on_status (at after_s false e ls) v))
         (λ s. claim_says s (line_then ws later)) ≡ Some r → IsStatus e ls (w ∷ ws) later r
-    by words.Satisfiable v is =
-        let x = alone ws is in
-        record { words = ap₂ (λ w ws. w ∷ ws) (satisfiable_spelled w v) x.0; later_says = x.1 }
-    by words.Unsatisfiable v is = absurd (let bad : None ≡ Some r = is in cc)
-    by words.Unknown v is = absurd (let bad : None ≡ Some r = is in cc)
-    by _ v is = absurd (let bad : None ≡ Some r = is in cc)
+    by v h h2 = grind (arith, alone, satisfiable_spelled)
 
 record IsOutput (lines : Lines) (e : Bool) (ls r : List Literal) : Type 0 where
   pub before : Lines
@@ -338,9 +324,7 @@ values_spelled (w ∷ ws) acc r ok is = by (word_of w) refl is (λ l. values_spe
         literal l true apart e is = absurd (none_given (true, r) is)
         literal l false apart e is =
             let x = next l (IsConsistent-put acc (l ∷ acc) l ok apart (λ k. refl)) is in
-            let s = literal_spelled w n l v e in
-            let same = s.is in
-            let some = s.some in
+            let s = literal_spelled w n l v e in let same = s.is in let some = s.some in
             let high = s.within in
             let one : nat_le 1 (variable l) ≡ true = grind (arith, nat_tests) in
             let two : nat_le (variable l) 268435455 ≡ true = grind (arith, nat_tests) in
@@ -348,9 +332,7 @@ values_spelled (w ∷ ws) acc r ok is = by (word_of w) refl is (λ l. values_spe
               literals = l ∷ x.literals;
               words = ap₂ (λ w ws. w ∷ ws) s.text x.words;
               listed = x.listed ∙ reverse_cons l x.literals acc;
-              within = ap (λ v. (v && nat_le (variable l) 268435455) && list_all
-                  (is_literal 268435455) x.literals) one
-                  ∙ ap (λ v. v && list_all (is_literal 268435455) x.literals) two ∙ x.within;
+              within = grind arith;
               consistent = x.consistent;
             }
 
@@ -358,16 +340,7 @@ values_spelled (w ∷ ws) acc r ok is = by (word_of w) refl is (λ l. values_spe
             ≡ o → and_so (cond b (literal_in acc o) None) (λ x. values_in x.0 x.1 ws)
             ≡ Some (true, r) → AreLiterals acc (w ∷ ws) r
         number false o t e is = absurd (none_given (true, r) is)
-        number true None t e is =
-            let x = ended_values ws acc r is in
-            let high : n.size ≤ 268435455 = grind (arith, nat_tests) in
-            record {
-              literals = [];
-              words = ap₂ (λ w ws. w ∷ ws) (zero_spelled w n v high e) x.0;
-              listed = sym x.1;
-              within = refl;
-              consistent = subst IsConsistent x.1 ok;
-            }
+        number true None t e is = search (rules, arith, ended_values, zero_spelled)
         number true (Some l) t e is = literal l (has acc (complement l)) refl e is
     by _ v is next = absurd (none_given (true, r) is)
 
@@ -388,8 +361,7 @@ module _ (whole : List Literal) (consistent : IsConsistent whole) where
 -- ---- A whole output
 
 has_reverse : (ls : List Literal) (l : Literal) → has (reverse ls) l ≡ has ls l
-has_reverse ls l =
-    sym (list_any-IsPermutation (λ k. k == l) ls (reverse ls) (IsPermutation-reverse ls))
+has_reverse ls l = grind (arith, list_any-IsPermutation, IsPermutation-reverse)
 
 consistent_reverse : (ls : List Literal) → IsConsistent (reverse ls) → IsConsistent ls
 consistent_reverse ls ok l h = search (rules, has_reverse)

@@ -1,7 +1,6 @@
 -- A set of literals, where none is there with its complement.
 use Rattle.std.proofs.Common.{◌≡◌, ℕ, eqb, false, cond, Option, Some, is_some, List, ◌∷◌, ne_eqb}
-use Rattle.std.proofs.Common.{rules}
-use Rattle.std.proofs.lemmas.Bool.{both_ways, or_from}
+use Rattle.std.proofs.{lemmas.Bool.both_ways, lemmas.Bool.or_from, Common.rules}
 use Rattle.cnf_base.specs.Literals.{Literal, complement, has}
 use Rattle.cnf_base.proofs.LiteralLemmas.{complement-complement, complement-other}
 use Rattle.cnf_base.proofs.SetLemmas.{has_cases}

@@ -2,7 +2,7 @@
 use Rattle.std.proofs.Common.{[], ◌∷◌, rules}
 use Rattle.std.specs.Fmt.{digits}
 use Rattle.cnf_base.specs.Literals.{complement}
-use Rattle.dimacs.specs.{Claim.IsConsistent, Printing.FormulasLookSo}
+use Rattle.dimacs.specs.{Printing.FormulasLookSo, Claim.IsConsistent}
 
 consistent : IsConsistent (2 ∷ 5 ∷ 25 ∷ [])
 unfolding complement

@@ -1,23 +1,19 @@
 -- A formula and a model that were printed are read back, since their lines are the grammar's.
-use Rattle.std.proofs.Common.{◌≡◌, ℕ, ◌≤◌, ◌==◌, true, false, List, [], ◌∷◌, ◌++◌, map, filter}
-use Rattle.std.proofs.Common.{refl, sym, ap, ◌∙◌, append_assoc, subst, arith}
-use Rattle.std.proofs.lemmas.Bool.Decides.{nat_tests}
-use Rattle.std.proofs.lemmas.List.{append-nil, map-append, Folds.list_all-append}
+use Rattle.std.proofs.Common.{rules, ◌≡◌, ℕ, ◌≤◌, ◌==◌, true, false, List, [], ◌∷◌, ◌++◌, map}
+use Rattle.std.proofs.Common.{filter, refl, sym, ap, ◌∙◌, append_assoc, subst, arith}
+use Rattle.std.proofs.lemmas.List.{append-nil, map-append}
+use Rattle.std.proofs.lemmas.{List.Folds.list_all-append, Bool.Decides.nat_tests}
 use Rattle.std.specs.{Prelude.codes, Fmt.decimal}
-use Rattle.std.specs.List.{concat, flat_map, list_all, slice_split, onto_first}
-use Rattle.cnf_base.specs.Grammar.{is_word, words_in, word_lines}
-use Rattle.cnf_base.specs.Literals.{Literal, Clause}
+use Rattle.std.specs.List.{concat, flat_map, list_all, slice_split}
+use Rattle.cnf_base.specs.{Grammar.is_word, Grammar.words_in, Grammar.word_lines, Literals.Clause}
 use Rattle.cnf_base.specs.Printing.{words_line, is_literal, literal_text, literal_words}
-use Rattle.cnf_base.specs.Text.{is_separator, is_comment, lines_of}
-use Rattle.cnf_base.proofs.TextLemmas.{append_nil}
-use Rattle.cnf_base.proofs.PrintLemmas.{after_word, words_line-cons, IsPlain, fixed_plain, both}
-use Rattle.cnf_base.proofs.PrintLemmas.{decimal_plain, zero_plain, literal_plain}
-use Rattle.cnf_base.proofs.PrintLemmas.{literal_no_comment}
-use Rattle.cnf_base.proofs.TextLemmas.{Each, none, more, split-append}
+use Rattle.cnf_base.specs.{Text.is_separator, Text.is_comment, Text.lines_of, Literals.Literal}
+use Rattle.cnf_base.proofs.TextLemmas.{append_nil, Each, none, more, split-append}
+use Rattle.cnf_base.proofs.PrintLemmas.{decimal_plain, zero_plain, literal_plain, after_word, both}
+use Rattle.cnf_base.proofs.PrintLemmas.{literal_no_comment, words_line-cons, IsPlain, fixed_plain}
 use Rattle.dimacs.specs.Grammar.{filled_lines, all_words}
-use Rattle.dimacs.specs.Printing.{header_words, clause_line, formula_text, status_words}
-use Rattle.dimacs.specs.Printing.{value_words, value_line, literals_line, model_text}
-use Rattle.dimacs.specs.Printing.{FormulaIsReadBack, ModelIsReadBack}
+use Rattle.dimacs.specs.Printing.{clause_line, formula_text, value_words, value_line, literals_line}
+use Rattle.dimacs.specs.Printing.{model_text, FormulaIsReadBack, ModelIsReadBack}
 use Rattle.dimacs.proofs.{FormulaGrammar.formula_grammar, ModelGrammar.model_grammar}
 
 -- ---- A line of words
@@ -39,20 +35,16 @@ after_line : (ws : List (List ℕ)) (rest : List ℕ) → ArePlain ws
     → lines_of (after_word ws rest) ≡ spaced ws ∷ lines_of rest
 after_line [] rest plain = refl
 after_line (w ∷ ws) rest (one_more _ _ p plain) =
-    ap (onto_first 32) (split-append (λ b. b == 10) w (after_word ws rest) (spaced ws) (lines_of rest)
-    (no_feed w p.each) (after_line ws rest plain))
+    grind (arith, split-append, after_word, no_feed, after_line ws rest plain)
 
 split_spaced : (ws : List (List ℕ)) → ArePlain ws → slice_split is_separator (spaced ws) ≡ [] ∷ ws
 split_spaced [] plain = refl
 split_spaced (w ∷ ws) (one_more _ _ p plain) =
-    ap (λ x. [] ∷ x) (split-append is_separator w (spaced ws) [] ws p.each (split_spaced ws plain)
-    ∙ ap (λ x. x ∷ ws) (append_nil w))
+    cc (split-append is_separator w (spaced ws) [] ws p.each (split_spaced ws plain), append_nil w)
 
 split_first : (w : List ℕ) (ws : List (List ℕ)) → IsPlain w → ArePlain ws
     → slice_split is_separator (w ++ spaced ws) ≡ w ∷ ws
-split_first w ws p plain =
-    split-append is_separator w (spaced ws) [] ws p.each (split_spaced ws plain)
-    ∙ ap (λ x. x ∷ ws) (append_nil w)
+split_first w ws p plain = grind (arith, split-append, split_spaced, append_nil)
 
 kept_words : (ws : List (List ℕ)) → ArePlain ws → filter is_word ws ≡ ws
 kept_words [] plain = refl
@@ -92,9 +84,7 @@ clause_words : (greatest : ℕ) (c : Clause) (rest : List ℕ) → greatest ≤ 
     → word_lines (clause_line c ++ rest) ≡ literal_words c ∷ word_lines rest
 clause_words greatest [] rest small are = line_words (codes "0") [] rest refl zero_plain no_words
 clause_words greatest (l ∷ ls) rest small are =
-    let r = both (is_literal greatest l) (list_all (is_literal greatest) ls) are in
-    line_words (literal_text l) (literal_words ls) rest (literal_no_comment greatest l small r.0)
-    (literal_plain greatest l small r.0) (literals_plain greatest ls _ small r.1 ended)
+    grind (arith, both, line_words, literal_no_comment, literal_plain, literals_plain, ended)
 
 clauses_lines : (greatest : ℕ) (clauses : List Clause) → greatest ≤ 268435455
     → list_all (list_all (is_literal greatest)) clauses ≡ true
@@ -125,9 +115,7 @@ formula_read h clauses f =
     (one_more _ _ (decimal_plain h.clauses (omega arith)) no_words)) in
     formula_grammar.written_is_read (formula_text h clauses) h clauses f (record {
       body = map literal_words clauses;
-      header_first = ap filled_lines (line_words (codes "p") _ (flat_map clause_line clauses) refl
-          (fixed_plain 112 [] refl) counts)
-          ∙ ap (λ x. header_words h ∷ x) (clauses_lines h.vars clauses f.vars f.literals);
+      header_first = search (rules, arith, line_words, fixed_plain, clauses_lines);
       clauses_after = mapped_words clauses;
     })
 
@@ -163,19 +151,13 @@ values_lines (ls ∷ lines) last are =
 printed_words : (lines : List (List Literal)) (last : List Literal)
     → all_words (printed lines last) ≡ literal_words (concat lines ++ last)
 printed_words [] last = append-nil (literal_words last)
-printed_words (ls ∷ lines) last = ap (λ x. map literal_text ls ++ x) (printed_words lines last)
-    ∙ sym (append_assoc (map literal_text ls) (map literal_text (concat lines ++ last)) _)
-    ∙ ap (λ x. x ++ codes "0" ∷ []) (sym (map-append literal_text ls (concat lines ++ last)))
-    ∙ ap literal_words (sym (append_assoc ls (concat lines) last))
+printed_words (ls ∷ lines) last = grind (arith, append_assoc, map-append, printed_words lines last)
 
 pub model_read : ModelIsReadBack
 model_read lines last fits =
     model_grammar.written_is_read (model_text lines last) (concat lines ++ last) fits (record {
       before = [];
       after = printed lines last;
-      one_status = ap filled_lines (line_words (codes "s") (codes "SATISFIABLE" ∷ [])
-          (flat_map literals_line lines ++ value_line (literal_words last)) refl
-          (fixed_plain 115 [] refl) (one_more _ _ (fixed_plain 83 (codes "ATISFIABLE") refl) no_words))
-          ∙ ap (λ x. status_words ∷ x) (values_lines lines last fits.literals);
+      one_status = grind (arith, line_words, fixed_plain, values_lines);
       values = printed_words lines last;
     })

@@ -1,21 +1,16 @@
 -- A word, or the end, after blank lines.
-use Rattle.std.proofs.Common.{rules}
+use Rattle.std.proofs.Common.{arith, rules}
 use Rattle.std.specs.Prelude.{Ok, Err}
 use Rattle.cnf_base.specs.declared.fault.Fault.TheVariants.{Text, ReadFailed}
-use Rattle.cnf_base.specs.{declared.fault.TextFault.TheVariants.BadHeader, Text.listing_at}
-use Rattle.cnf_base.specs.declared.token.Token.TheVariants as token
+use Rattle.cnf_base.specs.declared.fault.TextFault.TheVariants.{BadHeader}
 use Rattle.cnf_base.proofs.{StreamLemmas.Along-still, TokenLemmas.told}
-use Rattle.dimacs.specs.Formula.{skip_blank}
 use Rattle.dimacs.proofs.HeaderLemmas.{Blank-line, Blank-first, first_word, first_end_of_input}
 use Rattle.dimacs.proofs.HeaderLemmas.{first_failed}
+use Rattle.cnf_base.specs.declared.token.Token.TheVariants as token
 use Rattle.dimacs.proofs.header.first_word.Goals as goal
 
 pub loop-place-init : goal.loop-place-init
-loop-place-init g c = record {
-  text = Along-still _ (λ i. skip_blank (listing_at c.args.scanner.now.place i));
-  fewer = search rules;
-  mark = search rules;
-}
+loop-place-init g c = search (rules, arith, Along-still)
 
 pub returns-in-Ok-Word-clause-text : goal.returns-in-Ok-Word-clause-text
 returns-in-Ok-Word-clause-text g c =

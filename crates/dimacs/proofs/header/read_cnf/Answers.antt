@@ -1,7 +1,7 @@
 -- The word that has to stand there.
 use Rattle.std.proofs.Common.{rules, ◌≡◌, refl, cond}
 use Rattle.std.specs.Prelude.{Ok, Err}
-use Rattle.cnf_base.specs.declared.fault.{Fault.TheVariants.Text, TextFault.TheVariants.BadHeader}
+use Rattle.cnf_base.specs.declared.fault.{TextFault.TheVariants.BadHeader, Fault.TheVariants.Text}
 use Rattle.dimacs.specs.Formula.{and_then, next_word, is_cnf}
 use Rattle.dimacs.proofs.HeaderLemmas.{Part-map, fixed_word, fixed_told}
 use Rattle.dimacs.proofs.header.read_cnf.Goals as goal
@@ -14,8 +14,7 @@ returns-in_err-place-clause-text g c =
 
 pub returns-clause-text : goal.returns-clause-text
 returns-clause-text g c =
-    let place = c.in_ok-place.place in
-    let word = c.in_ok-place.word in
+    let place = c.in_ok-place.place in let word = c.in_ok-place.word in
     let is : c.wanted.result ≡ cond (is_cnf word) (Ok tt) (Err (Text BadHeader place)) = search rules in
     rw is (Part-map _ _ (λ l. l) next_word (λ l. Ok (place, word, l)) (fixed_word is_cnf) (λ l. and_then (cond (is_cnf word) (Ok tt) (Err (Text BadHeader place))) (λ u. Ok l))
     c.in_ok-place.ensures.text (fixed_told (is_cnf word) place))

@@ -13,8 +13,7 @@ returns-in_err-place-clause-text g c =
 
 pub returns-clause-text : goal.returns-clause-text
 returns-clause-text g c =
-    let place = c.in_ok-place.place in
-    let word = c.in_ok-place.number in
+    let place = c.in_ok-place.place in let word = c.in_ok-place.number in
     let is : c.count_of.result ≡ count_of c.args.limit place word = search rules in
     rw is (Part-map _ _ before_count next_word (λ l. Ok (place, word, l)) (counted_word c.args.limit) (λ l. and_then (count_of c.args.limit place word) (λ n. Ok (n, l)))
     c.in_ok-place.ensures.text (λ l. refl))
