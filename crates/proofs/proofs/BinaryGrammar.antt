@@ -1,21 +1,20 @@
 -- The steps of a binary DRAT proof, both ways.
-use Rattle.std.proofs.Common.{◌≡◌, ℕ, suc, ◌+◌, ◌*◌, ◌/◌, ◌%◌, ◌<◌, ◌≤◌, ◌==◌, ◌&&◌, nat_le, cond}
+use Rattle.std.proofs.Common.{◌≡◌, ℕ, suc, ◌+◌, ◌*◌, ◌%◌, ◌<◌, ◌≤◌, ◌==◌, ◌&&◌, nat_le, cond}
 use Rattle.std.proofs.Common.{Bool, true, false, List, [], ◌∷◌, ◌++◌, length, map, Option, None}
 use Rattle.std.proofs.Common.{Some, refl, sym, ap, ◌∙◌, append_assoc, subst, arith, rules}
 use Rattle.std.proofs.lemmas.{Bool.Decides.nat_tests, Grind.flat_map-append}
-use Rattle.std.proofs.lemmas.List.{append-nil, Elements.All-cons}
-use Rattle.std.specs.{Prelude.All, List.flat_map, List.list_all, Option.option_map}
+use Rattle.std.proofs.lemmas.List.{Elements.All-cons, append-nil}
+use Rattle.std.specs.{Option.option_map, Prelude.All, List.flat_map, List.list_all}
 use Rattle.cnf_base.specs.Printing.{input_of, is_literal}
-use Rattle.cnf_base.specs.{Stream.next_count, declared.input.Ending.TheVariants.End}
+use Rattle.cnf_base.specs.{declared.input.Ending.TheVariants.End, Stream.next_count}
 use Rattle.cnf_base.proofs.PrintLemmas.{both}
-use Rattle.proofs.specs.declared.step_end.StepEnd.TheVariants.{Byte}
-use Rattle.proofs.specs.{Steps.Step, Steps.named, Steps.with_literal, Reading.PlacedStep}
+use Rattle.proofs.specs.{declared.step_end.StepEnd.TheVariants.Byte, Reading.PlacedStep}
+use Rattle.proofs.specs.{Steps.Step, Steps.named, Steps.with_literal, Grammar.BinaryIsGrammar}
 use Rattle.proofs.specs.Binary.{groups_value, BinarySpot, at_tag, in_step, in_number, BinaryMove}
 use Rattle.proofs.specs.Binary.{goes, completes, faults, tag_move, group_move, binary_number_move}
 use Rattle.proofs.specs.Binary.{binary_move_of, on_binary_move, binary_steps_among, binary_steps}
 use Rattle.proofs.specs.Printing.{ReadStep, read_of, printed_steps, seven_bit_groups, group_bytes}
 use Rattle.proofs.specs.Printing.{number_bytes, tag_bytes, binary_step, IsDratStep}
-use Rattle.proofs.specs.Grammar.{BinaryIsGrammar}
 use Rattle.proofs.proofs.BinaryPrinting.{groups_step, groups_are, group_bytes-cons, binary_read}
 use Rattle.proofs.proofs.GrammarText.{none_some, bare, bare-ReadsAs, bare-with_step, all_more}
 
@@ -35,8 +34,7 @@ number_spelled : (bytes : List ℕ) (b : ℕ) → list_all is_marked bytes ≡ t
 number_spelled [] b marked some small =
     search (rules, groups_value, number_bytes, group_bytes, groups_step, seven_bit_groups)
 number_spelled (c ∷ bytes) b marked some small =
-    let r = both (is_marked c) (list_all is_marked bytes) marked in
-    let byte = marked_range c r.0 in
+    let r = both (is_marked c) (list_all is_marked bytes) marked in let byte = marked_range c r.0 in
     step (groups_value (bytes ++ b ∷ [])) (value_some bytes b some small) byte.0 byte.1
     (number_spelled bytes b r.1 some small)
   where
@@ -46,14 +44,7 @@ number_spelled (c ∷ bytes) b marked some small =
     step : (m : ℕ) → 0 < m → 128 ≤ c → c ≤ 255 → number_bytes m ≡ bytes ++ b ∷ []
         → number_bytes (c % 128 + 128 * m) ≡ c ∷ bytes ++ b ∷ []
     step m some low high later =
-        let lowest : (c % 128 + 128 * m) % 128 ≡ c % 128 = omega arith in
-        let above : (c % 128 + 128 * m) / 128 ≡ m = omega arith in
-        let whole : 128 + c % 128 ≡ c = omega arith in
-        ap group_bytes (groups_step (c % 128 + 128 * m) (omega arith))
-        ∙ ap (λ g. group_bytes (g ∷ seven_bit_groups ((c % 128 + 128 * m) / 128))) lowest
-        ∙ ap (λ g. group_bytes (c % 128 ∷ seven_bit_groups g)) above
-        ∙ group_bytes-cons m (c % 128) (seven_bit_groups m) (groups_are m m (omega arith) some)
-        ∙ ap (λ g. g ∷ number_bytes m) whole ∙ ap (λ bs. c ∷ bs) later
+        grind (arith, group_bytes, groups_step, seven_bit_groups, group_bytes-cons, groups_are, number_bytes)
 
 -- ---- The bytes of a step so far
 
@@ -89,38 +80,15 @@ tag_spelled s at b start = search rules
 last_spelled : (s : Step) (first : ℕ) (bytes : List ℕ) (b : ℕ) → HasLiterals s
     → list_all is_marked bytes ≡ true → b < 128 → Spells (step_bytes s ++ bytes) b
     (binary_number_move s first b (groups_value (bytes ++ b ∷ [])))
-last_spelled s first bytes b has marked small = search (
-  rules,
-  nat_le,
-  groups_value,
-  faults,
-  goes,
-  in_step,
-  with_literal,
-  all_more,
-  tag_bytes,
-  flat_map-append,
-  number_bytes,
-  append-nil,
-  number_spelled,
-  append_assoc,
-)
+last_spelled s first bytes b has marked small =
+    grind (arith, groups_value, faults, goes, in_step, with_literal, all_more, tag_bytes, flat_map-append, number_bytes, append-nil, number_spelled, append_assoc)
 
 -- one more byte of a number
 group_spelled : (s : Step) (first : ℕ) (bytes : List ℕ) (b : ℕ) → HasLiterals s
     → list_all is_marked bytes ≡ true → b < 256
     → Spells (step_bytes s ++ bytes) b (group_move s first bytes b)
-group_spelled s first bytes b has marked byte = search (
-  rules,
-  nat_le,
-  goes,
-  in_number,
-  binary_number_move,
-  groups_value,
-  all_more,
-  append_assoc,
-  last_spelled,
-)
+group_spelled s first bytes b has marked byte =
+    grind (arith, goes, in_number, binary_number_move, groups_value, all_more, append_assoc, last_spelled)
 
 byte_moves : (spot : BinarySpot) (s : Step) (at b : ℕ) → b < 256 → Fits spot s
     → Spells (so_far spot s) b (binary_move_of spot s at b)
@@ -129,11 +97,7 @@ byte_moves in_step s at b byte fits = by (b == 0) refl
   where
     by : (v : Bool) → (b == 0) ≡ v
         → Spells (step_bytes s) b (cond v (completes s) (group_move s at [] b))
-    by true e =
-        let is : b ≡ 0 = grind (arith, nat_tests) in (
-          record { id = fits.id; hints = fits.hints; literals = fits.literals },
-          ap (λ x. step_bytes s ++ x ∷ []) (sym is),
-        )
+    by true e = grind arith
     by false e = subst (λ bs. Spells bs b (group_move s at [] b)) (append-nil (step_bytes s))
         (group_spelled s at [] b fits refl byte)
 byte_moves (in_number first bytes) s at b byte fits = search (rules, group_spelled)
@@ -147,9 +111,6 @@ AreSpelled spot s bs steps =
 bytes_spelled : (bs : List ℕ) (spot : BinarySpot) (s : Step) (at offset : ℕ) (steps : List Step)
     → All (λ b. b < 256) bs → Fits spot s
     → bare (binary_steps_among spot s at offset bs End) ≡ Some steps → AreSpelled spot s bs steps
-bytes_spelled [] at_tag s at offset steps are fits e = search rules
-bytes_spelled [] in_step s at offset steps are fits e = absurd (none_some steps e)
-bytes_spelled [] (in_number first bytes) s at offset steps are fits e = absurd (none_some steps e)
 bytes_spelled (b ∷ bs) spot s at offset steps are fits e =
     by (binary_move_of spot s at b) (byte_moves spot s at b (are 0 b (omega arith)) fits)
     (λ spot s at offset steps. bytes_spelled bs spot s at offset steps (λ k d l. are (suc k) d (omega arith))) e
@@ -170,10 +131,7 @@ bytes_spelled (b ∷ bs) spot s at offset steps are fits e =
     completed t step bytes later (Some ss) is_some e =
         let same : t ∷ ss ≡ steps = cc in
         let r = later at_tag (named 0) (next_count at) (suc offset) ss refl is_some in
-        subst (AreSpelled spot s (b ∷ bs)) same (
-          All-cons IsDratStep t ss step r.0,
-          onto (binary_step t) bytes ∙ ap (λ bs. binary_step t ++ bs) r.1,
-        )
+        grind (arith, All-cons, step, onto, binary_step)
 
     by : (m : BinaryMove) → Spells (so_far spot s) b m → IsSo
         → bare (on_binary_move at (suc offset) m
@@ -186,6 +144,7 @@ bytes_spelled (b ∷ bs) spot s at offset steps are fits e =
         completed t m.0 m.1 later (bare rest) refl
         (sym (bare-with_step t (Byte at) (suc offset) rest) ∙ e)
     by (faults f first) m later e = absurd (none_some steps e)
+bytes_spelled bs spot s at offset steps h h2 h3 = grind (arith, none_some)
 
 -- steps that are read back are read
 read_steps : (offset : ℕ) (steps : List Step) → map (λ r. r.step) (printed_steps [] binary_step offset steps) ≡ steps

@@ -3,19 +3,18 @@ use Rattle.std.proofs.Common.{◌≡◌, ℕ, ◌<◌, ◌≤◌, [], ◌∷◌,
 use Rattle.std.proofs.Common.{◌∙◌, subst, arith, rules}
 use Rattle.std.specs.Prelude.{Bool, true, Result, Ok, Err, slice_index}
 use Rattle.cnf_base.specs.Stream.{Suffix, Stream, Along, IsLook, bumped, next_count, most_to_come}
-use Rattle.cnf_base.specs.Stream.{tells_failure}
-use Rattle.cnf_base.specs.{Readers.Keeps, declared.input.Ending.TheVariants.End}
-use Rattle.cnf_base.specs.{declared.input.Ending.TheVariants.Failed, declared.fault.Fault.Fault}
+use Rattle.cnf_base.specs.{Stream.tells_failure, Readers.Keeps}
+use Rattle.cnf_base.specs.declared.input.Ending.TheVariants.{End, Failed}
 use Rattle.cnf_base.specs.declared.fault.Fault.TheVariants.{Binary, ReadFailed, OutOfMemory}
-use Rattle.cnf_base.specs.declared.fault.BinaryFault.{BinaryFault}
+use Rattle.cnf_base.specs.declared.fault.{BinaryFault.BinaryFault, Fault.Fault}
 use Rattle.cnf_base.proofs.StreamLemmas.{Splits-first, Splits-byte, Along-then, Along-map}
 use Rattle.cnf_base.proofs.StreamLemmas.{Along-look, Along-bumped, Along-still, shown_end}
 use Rattle.cnf_base.proofs.StreamLemmas.{most_to_come-bumped, most_to_come-look, IsLook-still}
-use Rattle.proofs.specs.declared.step_end.StepEnd.{StepEnd, TheVariants.Byte}
-use Rattle.proofs.specs.declared.{moved.Moved.Moved, drat_binary.part.BinaryPart.BinaryPart}
-use Rattle.proofs.specs.{declared.drat_binary.stopped.Stopped.Stopped, Steps.Step, Steps.named}
-use Rattle.proofs.specs.Reading.{Proof, GivesStep, PassesNoEnd}
-use Rattle.proofs.specs.Code.{Reading.proof_unless_ended, TextMoves.EndsProof, Whole.RunsOn}
+use Rattle.proofs.specs.{declared.step_end.StepEnd.StepEnd, Steps.Step, Steps.named, Reading.Proof}
+use Rattle.proofs.specs.declared.{step_end.StepEnd.TheVariants.Byte, moved.Moved.Moved}
+use Rattle.proofs.specs.{declared.drat_binary.part.BinaryPart.BinaryPart, Reading.GivesStep}
+use Rattle.proofs.specs.{declared.drat_binary.stopped.Stopped.Stopped, Reading.PassesNoEnd}
+use Rattle.proofs.specs.Code.{Reading.proof_unless_ended, Whole.RunsOn, TextMoves.EndsProof}
 use Rattle.proofs.specs.Code.Binary.{binary_steps_from, binary_steps_at}
 use Rattle.proofs.specs.Code.BinaryMoves.{MovesBinary, binary_left}
 use Rattle.proofs.specs.Binary.{BinarySpot, at_tag, BinaryMove, goes, completes, faults}
@@ -67,8 +66,7 @@ module _ (old now new : Stream) (spot : BinarySpot) (s : Step) (so_far : Between
 
     -- whatever the byte did, nothing that was to come ends before what is left
     follows-from : (j : Suffix) (move : BinaryMove) → PassesNoEnd (follows j move) j
-    follows-from j move =
-        search (rules, on_binary_move-from, binary_steps_among-from)
+    follows-from j move = search (rules, arith, on_binary_move-from, binary_steps_among-from)
 
     pub Between-byte : (next : BinarySpot) (t : Step) → binary_move_of spot s new.byte_no b ≡ goes next t → tells_failure new.reader ≡ tells_failure now.reader
         → Between old (bumped new) next t
@@ -78,10 +76,7 @@ module _ (old now new : Stream) (spot : BinarySpot) (s : Step) (so_far : Between
     gave : (result : Result Bool Fault) (end : Option StepEnd) (t : Step)
         → ((i j : Suffix) → binary_steps_at old.byte_no i ≡ follows j (binary_move_of spot s new.byte_no b)
         → GivesStep result end t (binary_steps_at old.byte_no i) (binary_left result (bumped new).byte_no j) j) → Gave (bumped new) result end t
-    gave result end t gives = Along-map old (bumped new) _ _ byte_text (λ i j m q. (
-      gives i j q,
-      passes _ (follows j (binary_move_of spot s new.byte_no b)) j q (follows-from j (binary_move_of spot s new.byte_no b)),
-    ))
+    gave result end t gives = Along-map old (bumped new) _ _ byte_text (λ i j m q. grind (arith, passes, binary_move_of, follows-from))
 
     pub Between-step : (end : Option StepEnd) → end ≡ Some (Byte new.byte_no) → (t : Step) → binary_move_of spot s new.byte_no b ≡ completes t
         → Gave (bumped new) (Ok true) end t
@@ -108,11 +103,7 @@ module _ (old now new : Stream) (spot : BinarySpot) (s : Step) (so_far : Between
 
 -- literals were taken at once
 pub Between-on : (old now new : Stream) (spot : BinarySpot) (s t : Step) → Between old now spot s → RunsOn spot now new s t → Between old new spot t
-Between-on old now new spot s t so_far on = record {
-  text = Along-then old now new _ _ _ so_far.text on.text (λ i j k m q r. q ∙ r);
-  fewer = let less = on.fewer in omega (arith, so_far.fewer, less);
-  mark = on.mark ∙ so_far.mark;
-}
+Between-on old now new spot s t so_far on = grind (arith, Along-then)
 
 -- memory was refused there
 pub Between-out : (old now : Stream) (spot : BinarySpot) (s t : Step) → Between old now spot s

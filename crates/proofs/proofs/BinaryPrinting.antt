@@ -45,8 +45,7 @@ groups_are (suc most) n le some = by (nat_le 128 n) refl (groups_are most (n / 1
         let is : n % 128 + 128 * (n / 128) ≡ n = omega arith in
         subst (IsGroups n) (sym (groups_step n some)) (subst (λ m. IsGroups m (n % 128 ∷ seven_bit_groups (n / 128))) is groups)
     by false e later =
-        let small : n < 128 = grind (arith, nat_tests) in
-        let none : n / 128 ≡ 0 = omega arith in
+        let small : n < 128 = grind (arith, nat_tests) in let none : n / 128 ≡ 0 = omega arith in
         let is : n % 128 ≡ n = omega arith in
         subst (IsGroups n) (sym (groups_step n some ∙ ap (λ m. n % 128 ∷ seven_bit_groups m) none ∙ ap (λ m. m ∷ []) is))
         (last n some small)
@@ -94,18 +93,8 @@ groups_read _ _ (more n g gs small groups) whole before rest first at offset end
 groups_begin : (n : ℕ) (gs : List ℕ) → IsGroups n gs → (rest : List ℕ) (at offset : ℕ) (s : Step)
     → binary_steps_among in_step s at offset (group_bytes gs ++ rest) End
     ≡ binary_steps_among (in_number at []) s at offset (group_bytes gs ++ rest) End
-groups_begin _ _ (last n some small) rest at offset s = search rules
-groups_begin _ _ (more n g gs small groups) rest at offset s = search (
-  rules,
-  group_bytes-cons,
-  binary_steps_among,
-  in_step,
-  on_binary_move,
-  completes,
-  group_move,
-  group_bytes,
-  in_number,
-)
+groups_begin n gs h rest at offset s =
+    grind (arith, group_bytes-cons, binary_steps_among, in_step, on_binary_move, completes, group_move, group_bytes, in_number)
 
 -- a literal, and what follows it
 literal_read : (l : ℕ) (rest : List ℕ) (at offset : ℕ) (s : Step) (result : ReadProof) → is_literal 268435455 l ≡ true
@@ -164,8 +153,7 @@ steps_read : (steps : List Step) (at offset : ℕ) → All IsDratStep steps
     → read_of (binary_steps_among at_tag (named 0) at offset (flat_map binary_step steps) End) ≡ printed_from [] binary_step offset steps
 steps_read [] at offset are = refl
 steps_read (s ∷ ss) at offset are =
-    let f : IsDratStep s = are 0 s (omega arith) in
-    let end : ℕ = offset + length (binary_step s) in
+    let f : IsDratStep s = are 0 s (omega arith) in let end : ℕ = offset + length (binary_step s) in
     let later : ReadProof = printed_from [] binary_step end ss in
     step_read s.kind s.lits (flat_map binary_step ss) at offset end later refl f.literals
     (λ at. steps_read ss at end (λ k d l. are (suc k) d (omega arith)))

@@ -1,21 +1,20 @@
 -- The steps of a DRAT text, both ways.
 use Rattle.std.proofs.Common.{◌≡◌, ℕ, true, List, [], ◌∷◌, ◌++◌, map, fold, refl, ap, ◌∙◌}
-use Rattle.std.proofs.Common.{append_assoc, rules}
-use Rattle.std.proofs.lemmas.List.{map-append}
-use Rattle.std.specs.{Prelude.codes, List.list_all, Option.option_map}
-use Rattle.cnf_base.specs.{Literals.Literal, Printing.is_literal, Printing.literal_text}
-use Rattle.cnf_base.specs.{Printing.literal_words, Words.word_of, declared.word.Word.Word}
-use Rattle.cnf_base.specs.declared.word.Word.TheVariants as words
-use Rattle.cnf_base.proofs.{PrintLemmas.both, GrammarLemmas.IsSpelled, GrammarLemmas.word_spelled}
-use Rattle.proofs.specs.declared.step_buf.StepKind.{StepKind, TheVariants.Add, TheVariants.Delete}
-use Rattle.proofs.specs.Steps.{Step, named, with_literal}
+use Rattle.std.proofs.{Common.append_assoc, Common.rules, Common.arith, lemmas.List.map-append}
+use Rattle.std.specs.{List.list_all, Prelude.codes, Option.option_map}
+use Rattle.cnf_base.specs.{Literals.Literal, Words.word_of, declared.word.Word.Word}
+use Rattle.cnf_base.specs.Printing.{is_literal, literal_text, literal_words}
+use Rattle.cnf_base.proofs.{GrammarLemmas.IsSpelled, GrammarLemmas.word_spelled, PrintLemmas.both}
+use Rattle.proofs.specs.{declared.step_buf.StepKind.StepKind, Grammar.DratIsGrammar, Steps.Step}
+use Rattle.proofs.specs.declared.step_buf.StepKind.TheVariants.{Add, Delete}
 use Rattle.proofs.specs.TextSteps.{goes, completes, move_of}
 use Rattle.proofs.specs.Drat.{DratSpot, at_start, in_literals, drat, is_start}
-use Rattle.proofs.specs.{Printing.drat_words, Printing.IsDratStep, Grammar.DratIsGrammar}
+use Rattle.proofs.specs.{Printing.drat_words, Printing.IsDratStep, Steps.named, Steps.with_literal}
 use Rattle.proofs.proofs.PrintedText.{with_literals, drat_step, drat_step_is}
 use Rattle.proofs.proofs.DratPrinting.{literal_move}
 use Rattle.proofs.proofs.GrammarText.{on_word, word_steps, Spelling, Spells, IsSpelling}
 use Rattle.proofs.proofs.GrammarText.{text_both_ways, all_more, list_words, literal_cases}
+use Rattle.cnf_base.specs.declared.word.Word.TheVariants as words
 
 -- ---- The words of a step so far
 
@@ -58,8 +57,7 @@ d_spelled part s run h h2 = search rules
 word_moves : (part : DratSpot) (s : Step) (run : List ℕ) → Fits part s → (w : Word) → IsSpelled w run
     → Spells spelling part s run (move_of drat part s w)
 word_moves part s run fits (words.Number n) spelled =
-    literal_cases (Spells spelling part s run) in_literals completes s n run spelled tt
-    (taken part s run fits) (ended part s run fits)
+    grind (arith, literal_cases (Spells spelling part s run) in_literals completes s n run spelled tt (taken part s run fits) (ended part s run fits))
 word_moves part s run fits words.D spelled = d_spelled part s run fits spelled
 word_moves part s run fits _ spelled = tt
 
@@ -70,17 +68,14 @@ literals_read : (ls : List Literal) (rest : List (List ℕ)) (s : Step)
     → word_steps drat in_literals s (map word_of (literal_words ls ++ rest))
     ≡ option_map (λ ss. fold with_literal s ls ∷ ss)
     (word_steps drat at_start (named 0) (map word_of rest))
-literals_read ls rest s are = ap (λ ws. word_steps drat in_literals s (map word_of ws))
-    (append_assoc (map literal_text ls) (codes "0" ∷ []) rest)
-    ∙ list_words drat literal_text (is_literal 268435455) with_literal in_literals
-    (literal_move in_literals) ls (codes "0" ∷ rest) s are
+literals_read ls rest s are =
+    cc (append_assoc (map literal_text ls) (codes "0" ∷ []) rest, list_words drat literal_text (is_literal 268435455) with_literal in_literals (literal_move in_literals) ls (codes "0" ∷ rest) s are)
 
 words_read : (kind : StepKind) (ls : List Literal) (rest : List (List ℕ))
     → list_all (is_literal 268435455) ls ≡ true
     → word_steps drat at_start (named 0) (map word_of (drat_words kind ls ++ rest))
     ≡ option_map (λ ss. drat_step kind ls ∷ ss) (word_steps drat at_start (named 0) (map word_of rest))
-words_read Delete ls rest are =
-    simp (literals_read, drat_step, word_steps, named, with_literals)
+words_read Delete ls rest are = simp (literals_read, drat_step, word_steps, named, with_literals)
 words_read Add [] rest are = refl
 words_read Add (l ∷ ls) rest are =
     let r = both (is_literal 268435455 l) (list_all (is_literal 268435455) ls) are in
@@ -91,19 +86,8 @@ words_read Add (l ∷ ls) rest are =
     (with_literals (drat_step Add (l ∷ [])) ls)
 
 is_spelling : IsSpelling drat spelling
-is_spelling = search (
-  rules,
-  word_moves,
-  word_spelled,
-  words_read,
-  word_steps,
-  drat,
-  at_start,
-  named,
-  drat_step_is,
-  is_start,
-  in_literals,
-)
+is_spelling =
+    grind (arith, word_moves, word_spelled, words_read, word_steps, drat, at_start, named, drat_step_is, is_start, in_literals)
 
 pub drat_both_ways : DratIsGrammar
 drat_both_ways = text_both_ways drat spelling is_spelling

@@ -1,20 +1,17 @@
 -- A DRAT proof that was printed as text, as it is read.
 use Rattle.std.proofs.Common.{◌≡◌, ℕ, suc, ◌+◌, ◌-◌, ◌<◌, true, List, [], ◌∷◌, ◌++◌, length, fold}
 use Rattle.std.proofs.Common.{refl, ap, ◌∙◌, arith}
-use Rattle.std.specs.{Prelude.codes, Prelude.All, List.flat_map, List.list_all}
-use Rattle.cnf_base.specs.Literals.{Literal}
+use Rattle.std.specs.{List.flat_map, List.list_all, Prelude.codes, Prelude.All}
+use Rattle.cnf_base.specs.{Literals.Literal, Stream.suffix, Words.word_of, Code.Text.col_along}
 use Rattle.cnf_base.specs.Printing.{input_of, is_literal, literal_text, literal_words, words_line}
-use Rattle.cnf_base.specs.{Stream.suffix, Code.Text.col_along, Code.Text.line_after, Words.word_of}
-use Rattle.cnf_base.specs.declared.fault.TextFault.TheVariants.{LiteralTooLarge}
-use Rattle.cnf_base.specs.declared.{input.Ending.TheVariants.End, place.Place.Place}
+use Rattle.cnf_base.specs.declared.{fault.TextFault.TheVariants.LiteralTooLarge, place.Place.Place}
+use Rattle.cnf_base.specs.{declared.input.Ending.TheVariants.End, Code.Text.line_after}
 use Rattle.cnf_base.proofs.PrintLemmas.{line_from, end_of_line, end_of_line-first, along_from_one}
-use Rattle.cnf_base.proofs.PrintLemmas.{next_line, first_word, both, fixed_plain, zero_plain}
-use Rattle.cnf_base.proofs.PrintLemmas.{literal_word, literal_plain, literal_no_comment}
-use Rattle.cnf_base.proofs.PrintLemmas.{literal_taken}
-use Rattle.proofs.specs.declared.step_buf.StepKind.{StepKind, TheVariants.Add, TheVariants.Delete}
-use Rattle.proofs.specs.Steps.{Step, named, with_literal}
+use Rattle.cnf_base.proofs.PrintLemmas.{literal_word, literal_plain, literal_no_comment, next_line}
+use Rattle.cnf_base.proofs.PrintLemmas.{literal_taken, first_word, both, fixed_plain, zero_plain}
+use Rattle.proofs.specs.declared.step_buf.StepKind.{TheVariants.Add, TheVariants.Delete, StepKind}
+use Rattle.proofs.specs.{Steps.Step, Steps.named, Steps.with_literal, Code.TextSteps.steps_at}
 use Rattle.proofs.specs.TextSteps.{goes, completes, faults, literal_or_end, move_of, steps_from}
-use Rattle.proofs.specs.Code.TextSteps.{steps_at}
 use Rattle.proofs.specs.Drat.{DratSpot, at_start, in_literals, drat, drat_steps}
 use Rattle.proofs.specs.Printing.{ReadProof, read_of, proof_of, drat_words, drat_line, IsDratStep}
 use Rattle.proofs.proofs.PrintedText.{with_literals, with_read, drat_step, drat_step_is, word_goes}
@@ -78,8 +75,7 @@ line_read : (s : Step) → IsDratStep s → (rest : List ℕ) (result : ReadProo
     → ((q : Place) → 0 < q.col → read_of (steps_at drat q (suffix (n + length (drat_line s)) rest End)) ≡ result) → (p : Place) → 0 < p.col
     → read_of (steps_at drat p (suffix n (drat_line s ++ rest) End)) ≡ with_read s (n + length (drat_line s) - 1) result
 line_read s f rest result n later p from_one =
-    step_read rest result (n + length (drat_line s)) later s.kind s.lits p n refl from_one f.literals
-    ∙ ap (λ x. with_read x (n + length (drat_line s) - 1) result) (drat_step_is s f)
+    grind (arith, step_read rest result (n + length (drat_line s)) later s.kind s.lits p n refl from_one f.literals, drat_line s, drat_step_is s f)
 
 -- a printed proof is read back
 pub drat_read : (steps : List Step) → All IsDratStep steps

@@ -1,26 +1,25 @@
 -- The steps of a text by its words alone, in whatever format.
-use Rattle.std.proofs.Common.{◌≡◌, ℕ, suc, ◌+◌, ◌*◌, ◌≤◌, nat_le, cond, Bool, true, false, List, []}
-use Rattle.std.proofs.Common.{◌∷◌, ◌++◌, map, fold, Option, None, Some, refl, sym, ap, ◌∙◌}
-use Rattle.std.proofs.Common.{append_assoc, subst, arith, rules}
-use Rattle.std.proofs.lemmas.{Fmt.decimal_digit, List.Elements.All-cons, List.Folds.list_all-append}
-use Rattle.std.specs.{Prelude.All, Prelude.codes, List.flat_map, List.filter_map, List.cons_option}
-use Rattle.std.specs.{List.list_all, Option.option_map}
-use Rattle.cnf_base.specs.{Grammar.text_words, Printing.input_of, Printing.is_literal}
-use Rattle.cnf_base.specs.{Printing.literal_text, Text.Listed, Text.listing_of, Words.word_of}
-use Rattle.cnf_base.specs.declared.{input.Ending.TheVariants.End, place.Place.Place}
-use Rattle.cnf_base.specs.declared.{word.Number.Number, word.Word.Word, fault.Fault.Fault}
-use Rattle.cnf_base.specs.{declared.fault.TextFault.TheVariants.LiteralTooLarge, Literals.Literal}
-use Rattle.cnf_base.specs.declared.word.Word.TheVariants as words
-use Rattle.cnf_base.specs.declared.token.Token as tokens
-use Rattle.cnf_base.specs.declared.token.Token.TheVariants as token
+use Rattle.std.proofs.Common.{◌≡◌, ℕ, suc, ◌+◌, ◌*◌, ◌≤◌, nat_le, cond, Bool, true, List, [], ◌∷◌}
+use Rattle.std.proofs.Common.{◌++◌, map, fold, Option, None, Some, refl, sym, ap, ◌∙◌, append_assoc}
+use Rattle.std.proofs.lemmas.{List.Elements.All-cons, Fmt.decimal_digit}
+use Rattle.std.proofs.{lemmas.List.Folds.list_all-append, Common.arith, Common.rules}
+use Rattle.std.specs.{Prelude.All, Prelude.codes, Option.option_map}
+use Rattle.std.specs.List.{flat_map, filter_map, cons_option, list_all}
+use Rattle.cnf_base.specs.{Grammar.text_words, Words.word_of, Literals.Literal, Text.Listed}
+use Rattle.cnf_base.specs.Printing.{input_of, is_literal, literal_text}
+use Rattle.cnf_base.specs.{declared.input.Ending.TheVariants.End, Text.listing_of}
+use Rattle.cnf_base.specs.declared.{fault.Fault.Fault, place.Place.Place, word.Number.Number}
+use Rattle.cnf_base.specs.declared.{fault.TextFault.TheVariants.LiteralTooLarge, word.Word.Word}
 use Rattle.cnf_base.proofs.GrammarLemmas.{said, number_text, IsSpelled, listing_says, listing_words}
 use Rattle.cnf_base.proofs.PrintLemmas.{both}
-use Rattle.proofs.specs.Steps.{Step, named, with_literal}
-use Rattle.proofs.specs.Reading.{Proof, PlacedStep, with_step}
+use Rattle.proofs.specs.{Reading.Proof, Reading.PlacedStep, Reading.with_step, Steps.with_literal}
 use Rattle.proofs.specs.TextSteps.{Move, goes, completes, faults, Format, move_of, on_move}
 use Rattle.proofs.specs.TextSteps.{literal_or_end, literal_or_fault, steps_among, steps_of}
 use Rattle.proofs.specs.Grammar.{ReadsAs, IsTextOf, IsGrammar}
-use Rattle.proofs.specs.declared.step_end.StepEnd.{StepEnd}
+use Rattle.proofs.specs.{declared.step_end.StepEnd.StepEnd, Steps.Step, Steps.named}
+use Rattle.cnf_base.specs.declared.word.Word.TheVariants as words
+use Rattle.cnf_base.specs.declared.token.Token as tokens
+use Rattle.cnf_base.specs.declared.token.Token.TheVariants as token
 use Rattle.proofs.specs.declared.step_end.StepEnd.TheVariants as ends
 
 -- ---- The steps of a proof without a fault
@@ -38,9 +37,6 @@ bare p = unless_faulty p.fault (bare_steps p.steps)
 
 pub none_some : (steps : List Step) → None ≡ Some steps → ⊥
 none_some steps e = cc
-
-pub ReadsAs-bare : (p : Proof) (steps : List Step) → bare p ≡ Some steps → ReadsAs p steps
-ReadsAs-bare p steps e = search rules
 
 pub bare-ReadsAs : (p : Proof) (steps : List Step) → ReadsAs p steps → bare p ≡ Some steps
 bare-ReadsAs p steps reads = cc
@@ -80,18 +76,12 @@ module _ {Part : Type 0} (format : Format Part) where
       moved : IsSo → (at : Place) (m : Move Part)
           → bare (on_move format at t.1 m (λ part s. steps_among format part s ts p End))
           ≡ on_word m (λ part s. word_steps part s words)
-      moved later at (goes part s) = later part s
-      moved later at (completes s) = bare-with_step s (ends.Text at) t.1
-          (steps_among format format.start (named 0) ts p End)
-          ∙ ap (option_map (λ ss. s ∷ ss)) (later format.start (named 0))
-      moved later at (faults f) = refl
+      moved h at m = grind (arith, bare-with_step, steps_among, named)
 
       by : IsSo → (token : tokens.Token)
           → bare (steps_among format part s ((token, t.1) ∷ ts) p End)
           ≡ word_steps part s (cons_option (said token) words)
-      by later (token.Word at w) = moved later at (move_of format part s w)
-      by later (token.LineEnd at) = later part s
-      by later (token.End at) = later part s
+      by h token = grind (arith, moved, move_of)
 
   -- a text is read as its words are
   pub text_bare : (bytes : List ℕ) → bare (steps_of format (input_of bytes))
@@ -152,8 +142,7 @@ module _ {Part : Type 0} (format : Format Part) (g : Spelling Part) (is : IsSpel
 
       onto : (before : List (List ℕ)) → before ≡ g.so_far part s ++ run ∷ []
           → g.so_far part s ++ run ∷ runs ≡ before ++ runs
-      onto before e = sym (append_assoc (g.so_far part s) (run ∷ []) runs)
-          ∙ ap (λ ws. ws ++ runs) (sym e)
+      onto before e = grind (arith, append_assoc)
 
       completed : (t : Step) → g.IsStep t → g.whole t ≡ g.so_far part s ++ run ∷ [] → IsSo
           → (later : Option (List Step))
@@ -162,20 +151,14 @@ module _ {Part : Type 0} (format : Format Part) (g : Spelling Part) (is : IsSpel
       completed t step words later None is_none e = absurd (none_some steps e)
       completed t step words later (Some ss) is_some e =
           let same : t ∷ ss ≡ steps = cc in
-          let r = later format.start (named 0) ss is.begins is_some in
-          subst (AreSpelled part s (run ∷ runs)) same (
-            All-cons g.IsStep t ss step r.0,
-            onto (g.whole t) words
-                ∙ ap (λ ws. g.whole t ++ ws) (ap (λ ws. ws ++ runs) (sym is.none) ∙ r.1),
-          )
+          let r = later format.start (named 0) ss is.begins is_some in grind (arith, All-cons, onto)
 
       by : (m : Move Part) → Spells g part s run m → IsSo
           → on_word format m (λ part s. word_steps format part s (map word_of runs)) ≡ Some steps
           → AreSpelled part s (run ∷ runs) steps
       by (goes next t) m later e =
           let r = later next t steps m.0 e in (r.0, onto (g.so_far next t) m.1 ∙ r.1)
-      by (completes t) m later e = completed t m.0 m.1 later
-          (word_steps format format.start (named 0) (map word_of runs)) refl e
+      by (completes t) m later e = grind (arith, completed, named)
       by (faults f) m later e = absurd (none_some steps e)
 
   -- and the words of steps are read
@@ -190,18 +173,13 @@ module _ {Part : Type 0} (format : Format Part) (g : Spelling Part) (is : IsSpel
       → ReadsAs (steps_of format (input_of bytes)) steps
       → All g.IsStep steps × (text_words bytes ≡ flat_map g.whole steps)
   text_spelled bytes steps reads =
-      let r = words_spelled (text_words bytes) format.start (named 0) steps is.begins
-      (sym (text_bare format bytes)
-      ∙ bare-ReadsAs (steps_of format (input_of bytes)) steps reads) in
-      (r.0, ap (λ ws. ws ++ text_words bytes) (sym is.none) ∙ r.1)
+      grind (arith, words_spelled (text_words bytes) format.start (named 0) steps is.begins (sym (text_bare format bytes) ∙ bare-ReadsAs (steps_of format (input_of bytes)) steps reads))
 
   -- and one that has their words is read as them
   text_read : (bytes : List ℕ) (steps : List Step) → All g.IsStep steps
       → text_words bytes ≡ flat_map g.whole steps → ReadsAs (steps_of format (input_of bytes)) steps
-  text_read bytes steps are words = ReadsAs-bare (steps_of format (input_of bytes)) steps
-      (text_bare format bytes
-      ∙ ap (λ ws. word_steps format format.start (named 0) (map word_of ws)) words
-      ∙ words_read steps are)
+  text_read bytes steps are words =
+      grind (arith, steps_of format (input_of bytes), text_bare format bytes, named 0, words_read steps are)
 
   -- so a text is read as steps exactly where its words are theirs
   pub text_both_ways : IsGrammar (steps_of format) (IsTextOf g.IsStep g.whole)
@@ -236,8 +214,7 @@ list_words format printed fits with part moves (x ∷ xs) runs s are =
 literal_is : (is_negative : Bool) (size : ℕ) → 1 ≤ size → size ≤ 268435455
     → (is_literal 268435455 (cond is_negative (2 * size + 1) (2 * size)) ≡ true)
     × (number_text is_negative size ≡ literal_text (cond is_negative (2 * size + 1) (2 * size)))
-literal_is false size low high = search rules
-literal_is true size low high = search rules
+literal_is is_negative size h h2 = grind arith
 
 -- the number 0
 pub zero_text : (is_negative : Bool) (size : ℕ) (run : List ℕ) → run ≡ number_text is_negative size

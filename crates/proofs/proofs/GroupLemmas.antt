@@ -7,10 +7,7 @@ use Rattle.proofs.specs.{Code.BinaryMoves.KeepsGroups, declared.drat_binary.grou
 
 value-last : (bs : List ℕ) (b : ℕ) → groups_value (bs ++ b ∷ []) ≡ groups_value bs + b % 128 * 128 ^ length bs
 value-last [] b = omega arith
-value-last (x ∷ xs) b =
-    let earlier = value-last xs b in
-    let power : 128 ^ suc (length xs) ≡ 128 ^ length xs * 128 = pow-suc 128 (length xs) in
-    step x (groups_value xs) (groups_value (xs ++ b ∷ [])) (b % 128) (128 ^ length xs) (128 ^ suc (length xs)) earlier power
+value-last (x ∷ xs) b = search (rules, arith, pow-suc, step, groups_value, value-last xs b)
   where
     step : (x v n g w w' : ℕ) → n ≡ v + g * w → w' ≡ w * 128 → x % 128 + 128 * n ≡ x % 128 + 128 * v + g * w'
     step x v n g w w' e p = rw (e, p) (omega arith)

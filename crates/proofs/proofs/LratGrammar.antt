@@ -1,29 +1,27 @@
 -- The steps of an LRAT text, both ways.
-use Rattle.std.proofs.Common.{◌≡◌, ℕ, zero, suc, ◌≤◌, ◌&&◌, nat_le, cond, Bool, true, false, List}
-use Rattle.std.proofs.Common.{[], ◌∷◌, ◌++◌, map, fold, Option, refl, sym, ap, ◌∙◌, append_assoc}
-use Rattle.std.proofs.Common.{arith, rules}
+use Rattle.std.proofs.Common.{◌≡◌, ℕ, ◌≤◌, cond, Bool, true, false, List, [], ◌∷◌, ◌++◌, map}
+use Rattle.std.proofs.Common.{fold, Option, refl, sym, ap, ◌∙◌, append_assoc, arith, rules}
 use Rattle.std.proofs.lemmas.List.{append-nil, map-append}
 use Rattle.std.specs.Prelude.{codes, ℤ, pos, neg_ℤ}
-use Rattle.std.specs.{Fmt.decimal, Fmt.signed_decimal, List.list_all, Option.option_map}
-use Rattle.cnf_base.specs.Literals.{Literal}
+use Rattle.std.specs.{Option.option_map, List.list_all, Fmt.decimal, Fmt.signed_decimal}
+use Rattle.cnf_base.specs.{Literals.Literal, Words.word_of}
 use Rattle.cnf_base.specs.Printing.{is_literal, literal_text, literal_words}
-use Rattle.cnf_base.specs.{Words.word_of, declared.word.Number.Number, declared.word.Word.Word}
-use Rattle.cnf_base.specs.declared.word.Word.TheVariants as words
+use Rattle.cnf_base.specs.declared.word.{Number.Number, Word.Word}
 use Rattle.cnf_base.proofs.PrintLemmas.{both}
 use Rattle.cnf_base.proofs.GrammarLemmas.{number_text, IsSpelled, word_spelled}
-use Rattle.proofs.specs.declared.step_buf.StepKind.{StepKind, TheVariants.Add, TheVariants.Delete}
+use Rattle.proofs.specs.{declared.step_buf.StepKind.StepKind, Grammar.LratIsGrammar}
+use Rattle.proofs.specs.declared.step_buf.StepKind.TheVariants.{Add, Delete}
 use Rattle.proofs.specs.Steps.{Step, is_small, is_hint, named, with_literal, with_hint}
 use Rattle.proofs.specs.TextSteps.{Move, goes, completes, faults, move_of}
 use Rattle.proofs.specs.Lrat.{LratSpot, at_identifier, after_identifier, in_literals, in_hints}
 use Rattle.proofs.specs.Lrat.{in_deletion, lrat, is_identifier, identifier, literal, hint, deleted}
 use Rattle.proofs.specs.Printing.{hint_words, lrat_words, IsLratStep}
-use Rattle.proofs.specs.Grammar.{LratIsGrammar}
 use Rattle.proofs.proofs.PrintedText.{with_literals, with_hints}
 use Rattle.proofs.proofs.LratPrinting.{identifier_move, first_literal_move, literal_move, hint_part}
 use Rattle.proofs.proofs.LratPrinting.{hint_move, hint_zero, step_of}
-use Rattle.proofs.proofs.GrammarText.{on_word, word_steps, Spelling, Spells, IsSpelling}
+use Rattle.proofs.proofs.GrammarText.{on_word, word_steps, Spelling, Spells, IsSpelling, zero_text}
 use Rattle.proofs.proofs.GrammarText.{text_both_ways, list_words, all_more, literal_cases}
-use Rattle.proofs.proofs.GrammarText.{zero_text}
+use Rattle.cnf_base.specs.declared.word.Word.TheVariants as words
 
 -- ---- The words of a step so far
 
@@ -93,28 +91,10 @@ first_spelled s run n fits spelled =
     none = ap (λ t. t.lits) fits.1
 
     taken : TakesLiteral after_identifier s run
-    taken l is text = (
-      (
-        named_still s l fits.0,
-        ap (λ t. t.kind) fits.1,
-        ap (λ ls. are_literals (ls ++ l ∷ [])) none ∙ ap (λ v. v && true) is,
-        ap (λ t. t.hints) fits.1,
-      ),
-      ap (λ ls. decimal s.id ∷ map literal_text (ls ++ l ∷ [])) none
-          ∙ ap (λ w. decimal s.id ∷ w ∷ []) (sym text),
-    )
+    taken l is text = grind (arith, named_still, none)
 
     ended : run ≡ codes "0" → Spells spelling after_identifier s run (goes in_hints s)
-    ended text = (
-      (
-        fits.0,
-        ap (λ t. t.kind) fits.1,
-        ap are_literals none,
-        ap (λ t. list_all (is_hint Add) t.hints) fits.1,
-      ),
-      ap (λ t. decimal s.id ∷ literal_words t.lits ++ map signed_decimal t.hints) fits.1
-          ∙ ap (λ w. decimal s.id ∷ w ∷ []) (sym text),
-    )
+    ended text = grind (arith, none, is_hint)
 
 -- a literal after another one, or the `0` there
 literal_spelled : IsNumberSpelled in_literals literal
@@ -123,73 +103,27 @@ literal_spelled s run n fits spelled =
     tt taken ended
   where
     taken : TakesLiteral in_literals s run
-    taken l is text = (
-      (
-        named_still s l fits.0,
-        fits.1,
-        all_more (is_literal 268435455) s.lits l fits.2 is,
-        fits.3,
-      ),
-      ap (λ ws. decimal s.id ∷ ws) (map-append literal_text s.lits (l ∷ []))
-          ∙ ap (λ w. decimal s.id ∷ map literal_text s.lits ++ w ∷ []) (sym text),
-    )
+    taken l is text = grind (arith, named_still, all_more, map-append)
 
     ended : run ≡ codes "0" → Spells spelling in_literals s run (goes in_hints s)
-    ended text = (
-      (fits.0, fits.1, fits.2, ap (list_all (is_hint Add)) fits.3),
-      ap (λ hs. decimal s.id ∷ literal_words s.lits ++ map signed_decimal hs) fits.3
-          ∙ ap (λ ws. decimal s.id ∷ ws) (append-nil (literal_words s.lits))
-          ∙ ap (λ w. decimal s.id ∷ map literal_text s.lits ++ w ∷ []) (sym text),
-    )
+    ended text = grind (arith, is_hint, append-nil)
 
 -- the hint of a number within the limit
 hint_is : (is_negative : Bool) (size : ℕ) → 1 ≤ size → is_small size ≡ true
     → (is_hint Add (cond is_negative (neg_ℤ (pos size)) (pos size)) ≡ true)
     × (number_text is_negative size
     ≡ signed_decimal (cond is_negative (neg_ℤ (pos size)) (pos size)))
-hint_is false size some small = search rules
-hint_is true zero some small = absurd (omega arith)
-hint_is true (suc k) some small = search rules
+hint_is is_negative size h h2 = grind arith
 
 -- a hint, or the `0` that ends the step
 hint_spelled : IsNumberSpelled in_hints hint
-hint_spelled s run n fits spelled = search (
-  rules,
-  is_small,
-  nat_le,
-  in_hints,
-  append_assoc,
-  completes,
-  goes,
-  with_hint,
-  faults,
-  other,
-  is_hint,
-  lrat_words,
-  zero_text,
-  hint_is,
-  all_more,
-  map-append,
-)
+hint_spelled s run n fits spelled =
+    grind (arith, is_small, in_hints, append_assoc, completes, goes, with_hint, faults, other, is_hint, lrat_words, zero_text, hint_is, all_more, map-append)
 
 -- an identifier that is deleted, or the `0` that ends the step
 deleted_spelled : IsNumberSpelled in_deletion deleted
-deleted_spelled s run n fits spelled = search (
-  rules,
-  is_small,
-  nat_le,
-  in_deletion,
-  faults,
-  completes,
-  goes,
-  with_hint,
-  number_text,
-  is_hint,
-  lrat_words,
-  zero_text,
-  all_more,
-  map-append,
-)
+deleted_spelled s run n fits spelled =
+    grind (arith, is_small, in_deletion, faults, completes, goes, with_hint, number_text, is_hint, lrat_words, zero_text, all_more, map-append)
 
 -- the `d`
 d_spelled : (part : LratSpot) (s : Step) (run : List ℕ) → Fits part s → run ≡ codes "d"
@@ -200,10 +134,8 @@ number_spelled : (part : LratSpot) (s : Step) (run : List ℕ) → Fits part s �
     → IsSpelled (words.Number n) run
     → Spells spelling part s run (move_of lrat part s (words.Number n))
 number_spelled at_identifier s run fits n spelled = identifier_spelled s run n spelled
-number_spelled after_identifier s run fits n spelled = first_spelled s run n fits spelled
-number_spelled in_literals s run fits n spelled = literal_spelled s run n fits spelled
-number_spelled in_hints s run fits n spelled = hint_spelled s run n fits spelled
-number_spelled in_deletion s run fits n spelled = deleted_spelled s run n fits spelled
+number_spelled part s run h n h2 =
+    search (rules, arith, first_spelled, literal_spelled, hint_spelled, deleted_spelled)
 
 word_moves : (part : LratSpot) (s : Step) (run : List ℕ) → Fits part s → (w : Word) → IsSpelled w run
     → Spells spelling part s run (move_of lrat part s w)
@@ -265,19 +197,8 @@ module _ (rest : List (List ℕ)) where
       ∙ ap (λ t. step_of Delete id t hs) (sym (empty refl)))
 
 is_spelling : IsSpelling lrat spelling
-is_spelling = search (
-  rules,
-  word_moves,
-  word_spelled,
-  words_read,
-  is_identifier,
-  at_identifier,
-  after_identifier,
-  inside,
-  in_literals,
-  in_hints,
-  in_deletion,
-)
+is_spelling =
+    grind (arith, word_moves, word_spelled, words_read, is_identifier, at_identifier, after_identifier, inside, in_literals, in_hints, in_deletion)
 
 pub lrat_both_ways : LratIsGrammar
 lrat_both_ways = text_both_ways lrat spelling is_spelling

@@ -1,31 +1,28 @@
 -- An LRAT proof that was printed, as it is read.
 use Rattle.std.proofs.Common.{◌≡◌, ℕ, suc, ◌+◌, ◌-◌, ◌<◌, ◌≤◌, ◌&&◌, nat_le, true, false, List, []}
 use Rattle.std.proofs.Common.{◌∷◌, ◌++◌, length, map, fold, refl, sym, ap, ◌∙◌, append_assoc, arith}
-use Rattle.std.proofs.Common.{rules}
-use Rattle.std.proofs.lemmas.Bool.Decides.{nat_tests}
+use Rattle.std.proofs.{lemmas.Bool.Decides.nat_tests, Common.rules}
 use Rattle.std.specs.Prelude.{codes, All, ℤ, pos, negsuc}
 use Rattle.std.specs.{Fmt.decimal, Fmt.signed_decimal, List.flat_map, List.list_all}
-use Rattle.cnf_base.specs.Literals.{Literal}
+use Rattle.cnf_base.specs.{Literals.Literal, Stream.suffix, Code.Text.col_along, Words.number}
 use Rattle.cnf_base.specs.Printing.{input_of, is_literal, literal_text, literal_words, words_line}
-use Rattle.cnf_base.specs.{Stream.suffix, Code.Text.col_along, Words.number, Words.word_of}
-use Rattle.cnf_base.specs.declared.fault.TextFault.TheVariants.{LiteralTooLarge}
+use Rattle.cnf_base.specs.{declared.fault.TextFault.TheVariants.LiteralTooLarge, Words.word_of}
 use Rattle.cnf_base.specs.declared.{input.Ending.TheVariants.End, place.Place.Place}
-use Rattle.cnf_base.specs.declared.word.Word.TheVariants as words
 use Rattle.cnf_base.proofs.PrintLemmas.{line_from, end_of_line, end_of_line-next, end_of_line-first}
 use Rattle.cnf_base.proofs.PrintLemmas.{IsPlain, along_from_one, past, past_from_one, next_word}
 use Rattle.cnf_base.proofs.PrintLemmas.{first_word, both, fixed_plain, decimal_plain, minus_plain}
 use Rattle.cnf_base.proofs.PrintLemmas.{decimal_no_comment, decimal_word, minus_word, zero_plain}
 use Rattle.cnf_base.proofs.PrintLemmas.{literal_word, literal_plain, literal_taken}
-use Rattle.proofs.specs.declared.step_buf.StepKind.{StepKind, TheVariants.Add, TheVariants.Delete}
+use Rattle.proofs.specs.{declared.step_buf.StepKind.StepKind, Printing.IsLratStep}
+use Rattle.proofs.specs.declared.step_buf.StepKind.TheVariants.{Add, Delete}
 use Rattle.proofs.specs.Steps.{Step, is_small, is_hint, named, with_literal, with_hint}
 use Rattle.proofs.specs.TextSteps.{goes, completes, faults, literal_or_end, move_of, steps_from}
-use Rattle.proofs.specs.Code.TextSteps.{steps_at}
 use Rattle.proofs.specs.Lrat.{LratSpot, at_identifier, after_identifier, in_literals, in_hints}
-use Rattle.proofs.specs.Lrat.{in_deletion, lrat, lrat_steps}
+use Rattle.proofs.specs.{Lrat.in_deletion, Lrat.lrat, Lrat.lrat_steps, Code.TextSteps.steps_at}
 use Rattle.proofs.specs.Printing.{ReadProof, read_of, proof_of, hint_words, lrat_words, lrat_line}
-use Rattle.proofs.specs.Printing.{IsLratStep}
 use Rattle.proofs.proofs.PrintedText.{with_read, with_literals, with_hints, word_goes, list_read}
 use Rattle.proofs.proofs.PrintedText.{zero_read, lines_read}
+use Rattle.cnf_base.specs.declared.word.Word.TheVariants as words
 
 -- ---- Words
 
@@ -66,13 +63,8 @@ hint_plain Delete (negsuc k) is = absurd (let bad : false ≡ true = is in cc)
 
 pub hint_move : (kind : StepKind) (s : Step) (h : ℤ) → is_hint kind h ≡ true
     → move_of lrat (hint_part kind) s (word_of (signed_decimal h)) ≡ goes (hint_part kind) (with_hint s h)
-hint_move Add s (pos k) is =
-    search (rules, id_range, id_tests, move_of, lrat, in_hints, decimal_word)
-hint_move Add s (negsuc k) is =
-    search (rules, id_range, id_tests, move_of, lrat, in_hints, minus_word)
-hint_move Delete s (pos k) is =
-    search (rules, id_range, id_tests, move_of, lrat, in_deletion, decimal_word)
-hint_move Delete s (negsuc k) is = absurd (let bad : false ≡ true = is in cc)
+hint_move kind s h h2 =
+    search (rules, arith, id_range, id_tests, move_of, lrat, in_hints, decimal_word, minus_word, in_deletion)
 
 -- the `0` after them
 pub hint_zero : (kind : StepKind) (s : Step) → move_of lrat (hint_part kind) s (words.Number (number false 0)) ≡ completes s
@@ -110,8 +102,7 @@ module _ (rest : List ℕ) (result : ReadProof) (end : ℕ)
       ∙ hints_read Add id [] hs (past p (codes "0")) (suc n + length (codes "0")) (end_of_line-next n (codes "0") (hint_words hs) ∙ ends) (past_from_one p (codes "0")) hints
   addition_read id (l ∷ ls) hs p n ends from_one are hints =
       let r = both (is_literal 268435455 l) (list_all (is_literal 268435455) ls) are in
-      let q : Place = past p (literal_text l) in
-      let m : ℕ = suc n + length (literal_text l) in
+      let q : Place = past p (literal_text l) in let m : ℕ = suc n + length (literal_text l) in
       let words = append_assoc (map literal_text ls) (codes "0" ∷ []) (hint_words hs) in
       let first : Step = step_of Add id (l ∷ []) [] in
       ap read_of (word_goes lrat after_identifier (named id) (next_word p n (literal_text l) (literal_words ls ++ hint_words hs) rest from_one
@@ -142,8 +133,7 @@ module _ (rest : List ℕ) (result : ReadProof) (end : ℕ)
       (end_of_line-first n (decimal id) (literal_words ls ++ hint_words hs) ∙ ends) (along_from_one p (decimal id) from_one) are hints
   step_read Delete id ls hs p n ends from_one some small are empty hints =
       let most : id ≤ 9223372036854775807 = grind (arith, nat_tests) in
-      let q : Place = col_along p (decimal id) in
-      let m : ℕ = n + length (decimal id) in
+      let q : Place = col_along p (decimal id) in let m : ℕ = n + length (decimal id) in
       ap read_of (word_goes lrat at_identifier (named 0) (first_word p n (decimal id) (codes "d" ∷ hint_words hs) rest
       (decimal_no_comment id (omega arith)) (decimal_plain id (omega arith)))
       (identifier_move (named 0) id some small))

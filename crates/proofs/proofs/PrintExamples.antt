@@ -1,5 +1,5 @@
 -- The examples of printed texts.
-use Rattle.std.proofs.Common.{zero, suc, refl, arith, rules}
+use Rattle.std.proofs.Common.{refl, arith, rules}
 use Rattle.std.specs.{Prelude.All, Fmt.digits}
 use Rattle.proofs.specs.Printing.{IsDratStep, IsLratStep, example_drat, example_lrat, ProofsLookSo}
 
@@ -7,9 +7,7 @@ are_drat : All IsDratStep example_drat
 are_drat = search rules
 
 are_lrat : All IsLratStep example_lrat
-are_lrat zero d l = search rules
-are_lrat (suc zero) d l = search rules
-are_lrat (suc (suc k)) d l = absurd (omega arith)
+are_lrat h h2 h3 = grind arith
 
 pub examples_printed : ProofsLookSo
 unfolding digits

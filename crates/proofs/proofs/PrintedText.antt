@@ -1,20 +1,19 @@
 -- A proof that was printed as text, as it is read, in whatever format.
 use Rattle.std.proofs.Common.{◌≡◌, ℕ, suc, ◌+◌, ◌-◌, ◌<◌, Bool, true, false, List, [], ◌∷◌, ◌++◌}
 use Rattle.std.proofs.Common.{length, map, fold, None, refl, ap, ◌∙◌, append_assoc, arith, rules}
-use Rattle.std.specs.{Prelude.codes, Prelude.All, Prelude.ℤ, List.flat_map, List.list_all}
-use Rattle.cnf_base.specs.{Literals.Literal, Stream.suffix, Text.Listing, Code.Text.line_after}
-use Rattle.cnf_base.specs.Words.{number, word_of}
-use Rattle.cnf_base.specs.declared.{input.Ending.TheVariants.End, place.Place.Place, word.Word.Word}
-use Rattle.cnf_base.specs.declared.word.Word.TheVariants as words
-use Rattle.cnf_base.specs.declared.token.Token.TheVariants as token
-use Rattle.cnf_base.proofs.PrintLemmas.{line_from, end_of_line, end_of_line-next, IsPlain, past}
-use Rattle.cnf_base.proofs.PrintLemmas.{past_from_one, Begins, next_word, next_line, both}
-use Rattle.cnf_base.proofs.PrintLemmas.{zero_plain}
-use Rattle.proofs.specs.declared.step_buf.StepKind.{StepKind}
-use Rattle.proofs.specs.{Steps.Step, Steps.with_literal, Steps.with_hint, Reading.with_step}
+use Rattle.std.specs.{List.flat_map, List.list_all, Prelude.codes, Prelude.All, Prelude.ℤ}
+use Rattle.cnf_base.specs.{Literals.Literal, Text.Listing, Stream.suffix, Code.Text.line_after}
+use Rattle.cnf_base.specs.{declared.input.Ending.TheVariants.End, Words.number, Words.word_of}
+use Rattle.cnf_base.specs.declared.{place.Place.Place, word.Word.Word}
+use Rattle.cnf_base.proofs.PrintLemmas.{past_from_one, Begins, next_word, next_line, both, IsPlain}
+use Rattle.cnf_base.proofs.PrintLemmas.{zero_plain, line_from, end_of_line, end_of_line-next, past}
+use Rattle.proofs.specs.{declared.step_buf.StepKind.StepKind, Reading.with_step}
+use Rattle.proofs.specs.Steps.{Step, with_literal, with_hint}
 use Rattle.proofs.specs.TextSteps.{goes, completes, Format, move_of, steps_from}
 use Rattle.proofs.specs.Code.TextSteps.{steps_listed, steps_at}
 use Rattle.proofs.specs.Printing.{ReadProof, read_of, printed_steps, IsDratStep}
+use Rattle.cnf_base.specs.declared.word.Word.TheVariants as words
+use Rattle.cnf_base.specs.declared.token.Token.TheVariants as token
 use Rattle.proofs.specs.declared.step_end.StepEnd.TheVariants as ends
 
 -- many literals, and many hints

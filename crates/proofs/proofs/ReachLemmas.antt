@@ -1,17 +1,16 @@
 -- Where the steps of a proof end, and its fault.
-use Rattle.std.proofs.Common.{◌≡◌, ℕ, suc, ◌≤◌, List, [], ◌∷◌, Option, None, Some, arith, rules}
+use Rattle.std.proofs.Common.{◌≡◌, ℕ, suc, ◌≤◌, List, [], ◌∷◌, Option, None, arith, rules}
 use Rattle.std.specs.Prelude.{Bool, Result}
 use Rattle.cnf_base.specs.Stream.{Suffix, Stream, Along, next_count}
-use Rattle.cnf_base.specs.Text.{Listed}
-use Rattle.cnf_base.specs.declared.{input.Ending.Ending, place.Place.Place, fault.Fault.Fault}
-use Rattle.cnf_base.specs.declared.token.Token.TheVariants as token
+use Rattle.cnf_base.specs.{declared.input.Ending.Ending, Text.Listed}
+use Rattle.cnf_base.specs.declared.{fault.Fault.Fault, place.Place.Place}
 use Rattle.cnf_base.proofs.ListingLemmas.{EndFrom}
-use Rattle.proofs.specs.{declared.step_end.StepEnd.StepEnd, Steps.Step}
-use Rattle.proofs.specs.Reading.{Proof, clean, GivesStep, EndsFrom, PassesNoEnd}
-use Rattle.proofs.specs.Code.Reading.{proof_unless_ended}
+use Rattle.proofs.specs.{declared.step_end.StepEnd.StepEnd, Steps.Step, Binary.binary_at_end}
+use Rattle.proofs.specs.Reading.{Proof, GivesStep, EndsFrom, PassesNoEnd}
+use Rattle.proofs.specs.{Code.Reading.proof_unless_ended, Binary.binary_steps_among}
 use Rattle.proofs.specs.TextSteps.{Move, Format, move_of, on_move, at_end, steps_among}
 use Rattle.proofs.specs.Binary.{BinarySpot, BinaryMove, binary_move_of, on_binary_move}
-use Rattle.proofs.specs.Binary.{binary_at_end, binary_steps_among}
+use Rattle.cnf_base.specs.declared.token.Token.TheVariants as token
 
 -- ---- As text
 
@@ -49,10 +48,6 @@ binary_steps_among-from n spot s at offset (b ∷ bs) ending h =
 
 -- ---- After an end
 
--- no step is to come
-pub ended-from : (n : ℕ) (answer : Result Bool Fault) → EndsFrom n (proof_unless_ended (Some answer) clean)
-ended-from n answer = search rules
-
 -- Before an end, what a reader gave is what was read; and an answer that ends it is kept.
 pub Open-step : (coming : Stream → Suffix → Proof) (old here new : Stream) (kept now : Option (Result Bool Fault)) (result answer : Result Bool Fault)
     (end : Option StepEnd) (s : Step) (left : Result Bool Fault → Suffix → Proof) → here ≡ old → kept ≡ None → result ≡ answer
@@ -60,5 +55,4 @@ pub Open-step : (coming : Stream → Suffix → Proof) (old here new : Stream) (
     → Along old new (λ i j. GivesStep result end s (coming old i) (left result j) j × PassesNoEnd (coming old i) j)
     → Along here new (λ i j. GivesStep answer end s (proof_unless_ended kept (coming here i)) (proof_unless_ended now (coming new j)) j
     × PassesNoEnd (proof_unless_ended kept (coming here i)) j)
-Open-step coming old here new kept now result answer end s left same none is keeps run =
-    search rules
+Open-step coming old here new kept now result answer end s left same none is keeps run = grind arith

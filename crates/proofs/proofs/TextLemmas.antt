@@ -1,26 +1,24 @@
 -- A proof's tokens, one at a time.
-use Rattle.std.proofs.Common.{◌≡◌, ℕ, ◌<◌, ◌≤◌, [], Option, None, Some, refl, sym, ap, ◌∙◌, subst}
-use Rattle.std.proofs.Common.{arith, rules}
+use Rattle.std.proofs.Common.{◌≡◌, ℕ, ◌<◌, ◌≤◌, [], Option, None, Some, sym, ap, ◌∙◌, subst, arith}
+use Rattle.std.proofs.Common.{rules}
 use Rattle.std.specs.Prelude.{Bool, true, Result, Ok, Err}
 use Rattle.cnf_base.specs.Stream.{Suffix, Stream, Along, most_to_come, tells_failure}
-use Rattle.cnf_base.specs.{Readers.Keeps, Text.Listing, Text.listing_at, Text.Gives}
-use Rattle.cnf_base.specs.declared.input.Ending.TheVariants.{End, Failed}
-use Rattle.cnf_base.specs.declared.{input.ReadFailed.ReadFailed as Cut, place.Place.Place}
-use Rattle.cnf_base.specs.declared.{word.Word.Word, token.Token.Token, fault.Fault.Fault}
+use Rattle.cnf_base.specs.{Text.Listing, Text.listing_at, Text.Gives, declared.place.Place.Place}
+use Rattle.cnf_base.specs.{declared.input.Ending.TheVariants.End, Readers.Keeps}
+use Rattle.cnf_base.specs.declared.{input.ReadFailed.ReadFailed as Cut, word.Word.Word}
 use Rattle.cnf_base.specs.declared.fault.Fault.TheVariants.{Text, ReadFailed}
-use Rattle.cnf_base.specs.declared.fault.TextFault.{TextFault}
-use Rattle.cnf_base.specs.declared.token.Token.TheVariants as token
+use Rattle.cnf_base.specs.declared.{fault.TextFault.TextFault, fault.Fault.Fault, token.Token.Token}
 use Rattle.cnf_base.proofs.ListingLemmas.{Gives-from, listing_at-from}
 use Rattle.cnf_base.proofs.StreamLemmas.{Along-then, Along-map, Along-none, Along-still}
-use Rattle.proofs.specs.declared.{step_end.StepEnd.StepEnd, moved.Moved.Moved}
-use Rattle.proofs.specs.{declared.stopped.Stopped.Stopped, Steps.Step, Steps.named}
+use Rattle.proofs.specs.{declared.moved.Moved.Moved, TextSteps.steps_from, Steps.Step, Steps.named}
+use Rattle.proofs.specs.declared.{stopped.Stopped.Stopped, step_end.StepEnd.StepEnd}
 use Rattle.proofs.specs.Reading.{Proof, clean, faulty_proof, IsFaulty, GivesStep, PassesNoEnd}
 use Rattle.proofs.specs.Code.{Reading.proof_unless_ended, TextSteps.steps_listed}
 use Rattle.proofs.specs.Code.TextMoves.{fault_at, text_left, EndsProof, MovesText}
 use Rattle.proofs.specs.TextSteps.{Move, goes, completes, faults, Format, move_of, on_move, at_end}
-use Rattle.proofs.specs.TextSteps.{steps_from}
+use Rattle.proofs.proofs.ReachLemmas.{steps_among-from, on_move-from}
+use Rattle.cnf_base.specs.declared.token.Token.TheVariants as token
 use Rattle.proofs.specs.declared.step_end.StepEnd.TheVariants as ends
-use Rattle.proofs.proofs.ReachLemmas.{steps_among-from, on_move-from, ended-from}
 
 -- a fault is what comes, and it stays
 pub gives_fault : (f : Fault) (end : Option StepEnd) (s : Step) (p q : Proof) (rest : Suffix) → IsFaulty f p → q ≡ faulty_proof f None → GivesStep (Err f) end s p q rest
@@ -40,17 +38,7 @@ pub Kept-step : (stream : Stream) (kept : Option (Result Bool Fault)) (coming : 
     → Along stream stream (λ i j. GivesStep answer end s (proof_unless_ended kept (coming i)) (proof_unless_ended kept (coming j)) j
     × PassesNoEnd (proof_unless_ended kept (coming i)) j)
 Kept-step stream kept coming answer end s is none =
-    let told : (i : Suffix) → proof_unless_ended kept (coming i) ≡ proof_unless_ended (Some answer) clean =
-    λ i. ap (λ k. proof_unless_ended k (coming i)) is ∙ same answer (coming i) in
-    Along-map stream stream _ _ (Along-none stream) (λ i j m e.
-    let P : Proof → Type 0 = λ p. PassesNoEnd p j in (
-      kept_gives answer end s _ _ j (λ ok. none (is ∙ ap Some ok)) (told i) (told j),
-      subst P (sym (told i)) (ended-from j.offset answer),
-    ))
-  where
-    same : (answer : Result Bool Fault) (p : Proof) → proof_unless_ended (Some answer) p ≡ proof_unless_ended (Some answer) clean
-    same (Ok v) p = refl
-    same (Err f) p = refl
+    grind (arith, proof_unless_ended (Some answer) clean, Along-none stream)
 
 -- what is left after an answer, where it is kept if it is an end
 pub text_kept : {P : Type 0} (format : Format P) (result : Result Bool Fault) (kept : Option (Result Bool Fault)) (l : Listing) → Keeps result kept
@@ -72,20 +60,12 @@ pub record Between {P : Type 0} (format : Format P) (old now : Stream) (part : P
   pub mark : tells_failure now.reader ≡ tells_failure old.reader
 
 pub Between-start : {P : Type 0} (format : Format P) (s : Stream) → Between format s s format.start (named 0)
-Between-start format s = record {
-  text = Along-still s (λ i. steps_listed format (listing_at s.place i));
-  fewer = omega arith;
-  mark = refl;
-}
+Between-start format s = search (rules, arith, Along-still, steps_listed, listing_at)
 
 module _ {P : Type 0} (format : Format P) (old now new : Stream) (part : P) (s : Step) (so_far : Between format old now part s) where
   pub Between-line : (p : Place) → Along now new (λ i j. Gives (Ok (token.LineEnd p)) (listing_at now.place i) (listing_at new.place j) j)
       → most_to_come new < most_to_come now → tells_failure new.reader ≡ tells_failure now.reader → Between format old new part s
-  Between-line p gives fewer mark = record {
-    text = Along-then old now new _ _ _ so_far.text gives (λ i j k m q r. q ∙ ap (steps_from format part s) r);
-    fewer = omega (arith, so_far.fewer, fewer);
-    mark = mark ∙ so_far.mark;
-  }
+  Between-line p gives fewer mark = grind (arith, Along-then, steps_from)
 
   -- an answer, what is to come, and that no end was passed
   abbrev Gave : Result Bool Fault → Option StepEnd → Step → Type 0
@@ -105,8 +85,7 @@ module _ {P : Type 0} (format : Format P) (old now new : Stream) (part : P) (s :
 
     -- whatever the word did, nothing that was to come ends before what is left
     follows-from : (j : Suffix) (move : Move P) → PassesNoEnd (follows j move) j
-    follows-from j move =
-        search (rules, on_move-from, steps_among-from, listing_at-from)
+    follows-from j move = search (rules, arith, on_move-from, steps_among-from, listing_at-from)
 
     pub Between-word : (next : P) (t : Step) → move_of format part s w ≡ goes next t → most_to_come new < most_to_come now → tells_failure new.reader ≡ tells_failure now.reader
         → Between format old new next t
@@ -130,24 +109,14 @@ module _ {P : Type 0} (format : Format P) (old now new : Stream) (part : P) (s :
   -- and none before the rest
   rest-from : (result : Result Token Cut) (i j k : Suffix) → Gives result (listing_at now.place j) (listing_at new.place k) k
       → steps_listed format (listing_at old.place i) ≡ steps_from format part s (listing_at now.place j) → PassesNoEnd (steps_listed format (listing_at old.place i)) k
-  rest-from result i j k gives is =
-      passes _ (steps_from format part s (listing_at now.place j)) k is
-      (steps_among-from format k.offset part s _ _ _ (Gives-from result (listing_at now.place j) new.place k gives))
+  rest-from result i j k gives is = grind (arith, passes, steps_from, steps_among-from, Gives-from)
 
   pub Between-end : (p : Place) (result : Result Bool Fault) (end : Option StepEnd) → Along now new (λ i j. Gives (Ok (token.End p)) (listing_at now.place i) (listing_at new.place j) j) → EndsProof result (at_end format part p End)
       → Gave result end s
-  Between-end p result end gives ends = Along-then old now new _ _ _ so_far.text gives (λ i j k m q r. (
-    ends_so format (at_end format part p End) result end s _ _ k ends (q ∙ ap (steps_from format part s) r.1),
-    rest-from (Ok (token.End p)) i j k r q,
-  ))
+  Between-end p result end gives ends = Along-then old now new _ _ _ so_far.text gives (λ i j k m q r. grind (arith, ends_so, at_end, ends, steps_from, rest-from))
 
   pub Between-failed : (cut : Cut) → Along now new (λ i j. Gives (Err cut) (listing_at now.place i) (listing_at new.place j) j) → Gave (Err ReadFailed) None s
-  Between-failed cut gives = Along-then old now new _ _ _ so_far.text gives (λ i j k m q r. (
-    gives_fault ReadFailed None s _ _ k (IsFaulty-from ReadFailed None _ (q ∙ empty (listing_at now.place j) r.1 r.2)) refl,
-    rest-from (Err cut) i j k r q,
-  ))
-    where
-      empty : (l : Listing) → l.tokens ≡ [] → l.ending ≡ Failed → steps_from format part s l ≡ faulty_proof ReadFailed None
-      empty l none failed = rw (none, failed) refl
+  Between-failed cut gives =
+      grind (arith, Along-then, gives_fault, IsFaulty-from, rest-from, steps_from, faulty_proof)
 
 -- what a word was found to do, by the answer's pattern

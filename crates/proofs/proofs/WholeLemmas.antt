@@ -1,19 +1,18 @@
 -- Numbers that stand whole, and what they do to a step.
 use Rattle.std.proofs.Common.{◌≡◌, ◌≢◌, ℕ, suc, ◌+◌, ◌*◌, ◌%◌, ◌<◌, ◌≤◌, Bool, true, false, List}
-use Rattle.std.proofs.Common.{[], ◌∷◌, ◌++◌, length, take, refl, sym, ap, ◌∙◌, arith, subst}
-use Rattle.std.proofs.Common.{append_assoc, rules}
-use Rattle.std.proofs.lemmas.Bool.{and_parts, true≢false, Decides.nat_tests}
-use Rattle.std.proofs.lemmas.Grind.{common_steps}
+use Rattle.std.proofs.Common.{[], ◌∷◌, ◌++◌, length, take, refl, sym, ap, ◌∙◌, arith, subst, rules}
+use Rattle.std.proofs.{lemmas.Bool.and_parts, lemmas.Bool.true≢false, Common.append_assoc}
+use Rattle.std.proofs.lemmas.{Bool.Decides.nat_tests, Grind.common_steps}
 use Rattle.std.proofs.lemmas.List.{take-append-le, length-drop, length-take-le}
-use Rattle.std.specs.{List.list_all, Prelude.nat_le, Prelude.slice_index, Prelude.if◌then◌else◌}
+use Rattle.std.specs.{Prelude.nat_le, Prelude.slice_index, Prelude.if◌then◌else◌, List.list_all}
 use Rattle.cnf_base.specs.Stream.{Stream, next_count, more_count, skipped}
 use Rattle.cnf_base.specs.declared.input.Ending.{Ending}
 use Rattle.cnf_base.proofs.StreamLemmas.{Along-still, Along-then, Along-skipped, Splits-first}
 use Rattle.cnf_base.proofs.StreamLemmas.{Splits-second}
-use Rattle.proofs.specs.Steps.{Step, with_literal}
 use Rattle.proofs.specs.Binary.{groups_value, in_step, in_number, binary_steps_among, group_move}
 use Rattle.proofs.specs.Binary.{goes, on_binary_move, BinarySpot, binary_move_of}
-use Rattle.proofs.specs.Code.{Binary.binary_steps_from, Whole.spelled, Whole.IsWhole, Whole.RunsOn}
+use Rattle.proofs.specs.{Code.Binary.binary_steps_from, Steps.Step, Steps.with_literal}
+use Rattle.proofs.specs.Code.Whole.{spelled, IsWhole, RunsOn}
 use Rattle.proofs.specs.declared.drat_binary.whole.Spelled.{Spelled}
 
 -- ---- A number at the front
@@ -51,12 +50,7 @@ ends (b ∷ bs) within = by (λ w. ends bs w) (nat_le 128 b) refl
           at = r.at;
         } in
         subst P (sym is) it
-    by rest false e =
-        let one : Spelled = record { count = 1; value = b % 128 } in
-        let is : spelled (b ∷ bs) ≡ one = ap (λ t. if t then more else record { count = 1; value = b % 128 }) e in
-        let P : Spelled → Type 0 = λ s. Ends (b ∷ bs) s in
-        let it : Ends (b ∷ bs) one = record { init = []; last = b; are = refl; count_is = refl; high = refl; low = e; says = omega arith; at = refl } in
-        subst P (sym is) it
+    by rest false e = grind (arith, spelled, more)
 
 in_five : (xs ys : List ℕ) (n : ℕ) → n < length xs → slice_index (xs ++ ys) n ≡ slice_index xs n
 in_five xs ys n low = grind (arith, common_steps, low)
@@ -64,8 +58,7 @@ in_five xs ys n low = grind (arith, common_steps, low)
 pub whole_of : (bytes : List ℕ) → 5 ≤ length bytes → (s : Spelled) (l : ℕ) → s ≡ spelled (slice_index bytes 0 ∷ slice_index bytes 1 ∷ slice_index bytes 2 ∷ slice_index bytes 3 ∷ slice_index bytes 4 ∷ []) → s.count ≤ 5
     → ((n : ℕ) → s.count ≡ n + 1 → slice_index bytes n ≢ 0) → l ≡ s.value → 2 ≤ l → l ≤ 536870911 → IsWhole bytes s.count l
 whole_of (a ∷ b ∷ c ∷ d ∷ e ∷ rest) long s l is few some same least most =
-    let five = a ∷ b ∷ c ∷ d ∷ e ∷ [] in
-    let P : Spelled → Type 0 = λ x. Ends five x in
+    let five = a ∷ b ∷ c ∷ d ∷ e ∷ [] in let P : Spelled → Type 0 = λ x. Ends five x in
     let r : Ends five s = subst P (sym is) (ends five (let n = ap (λ x. x.count) is in omega (arith, n, few))) in record {
       init = r.init;
       last = r.last;
@@ -79,11 +72,7 @@ whole_of (a ∷ b ∷ c ∷ d ∷ e ∷ rest) long s l is few some same least mo
       least = least;
       most = most;
     }
-whole_of [] long s l is few some same least most = absurd (omega (arith, long))
-whole_of (a ∷ []) long s l is few some same least most = absurd (omega (arith, long))
-whole_of (a ∷ b ∷ []) long s l is few some same least most = absurd (omega (arith, long))
-whole_of (a ∷ b ∷ c ∷ []) long s l is few some same least most = absurd (omega (arith, long))
-whole_of (a ∷ b ∷ c ∷ d ∷ []) long s l is few some same least most = absurd (omega (arith, long))
+whole_of bytes h s l h2 h3 h4 h5 h6 h7 = search (rules, arith)
 
 -- ---- What it does to a step
 
@@ -114,8 +103,7 @@ begins s at b some = search rules
 pub whole_steps : (s : Step) (bytes : List ℕ) (count value at offset : ℕ) (rest : List ℕ) (ending : Ending) → IsWhole bytes count value
     → binary_steps_among in_step s at offset (take count bytes ++ rest) ending ≡ binary_steps_among in_step (with_literal s value) (more_count at count) (offset + count) rest ending
 whole_steps s bytes count value at offset rest ending w =
-    ap (λ xs. binary_steps_among in_step s at offset (xs ++ rest) ending) w.are ∙ by w.init w.last w.high (let low = w.low in grind (arith, nat_tests, low)) w.not_empty w.says w.least w.most
-    ∙ ap (λ n. binary_steps_among in_step (with_literal s value) (more_count at n) (offset + n) rest ending) (sym w.count_is)
+    grind (arith, binary_steps_among, in_step, by, with_literal)
   where
     by : (init : List ℕ) (last : ℕ) → list_all (nat_le 128) init ≡ true → nat_le 128 last ≡ false → last ≢ 0 → value ≡ groups_value (init ++ last ∷ []) → 2 ≤ value → value ≤ 536870911
         → binary_steps_among in_step s at offset ((init ++ last ∷ []) ++ rest) ending ≡ binary_steps_among in_step (with_literal s value) (more_count at (length init + 1)) (offset + (length init + 1)) rest ending
@@ -137,10 +125,7 @@ RunsOn-more old now first s count value so_far whole =
     let t = with_literal s value in
     let at = more_count now.byte_no count in record {
       text = Along-then old now (skipped count now) _ _ _ so_far.text (Along-skipped now count) (λ i j k m q r.
-          q ∙ ap (binary_steps_from in_step s now.byte_no) (Splits-first j taken k r)
-          ∙ whole_steps s now.ahead count value now.byte_no j.offset k.bytes k.ending whole
-          ∙ ap (λ n. binary_steps_among in_step t at (j.offset + n) k.bytes k.ending) (sym len)
-          ∙ ap (binary_steps_from in_step t at) (Splits-second j taken k r));
+          grind (arith, binary_steps_from, in_step, Splits-first, whole_steps, binary_steps_among, Splits-second));
       fewer = let less = length-drop count now.ahead in let was = so_far.fewer in omega (arith, was, less);
       mark = so_far.mark;
     }

@@ -1,11 +1,10 @@
 -- A byte of a step.
 use Rattle.std.proofs.Common.{◌≡◌, ℕ, refl, subst, sym, rules}
 use Rattle.std.specs.Prelude.{Ok, Err}
-use Rattle.cnf_base.specs.{Stream.Stream, declared.input.Ending.TheVariants.End}
-use Rattle.proofs.specs.Steps.{Step}
+use Rattle.cnf_base.specs.{declared.input.Ending.TheVariants.End, Stream.Stream}
 use Rattle.proofs.specs.declared.moved.Moved.TheVariants.{To, Complete}
-use Rattle.proofs.specs.declared.drat_binary.stopped.Stopped.TheVariants.{Binary}
-use Rattle.proofs.specs.{Code.TextMoves.EndsProof, Binary.at_tag, Binary.binary_at_end}
+use Rattle.proofs.specs.{declared.drat_binary.stopped.Stopped.TheVariants.Binary, Steps.Step}
+use Rattle.proofs.specs.{Binary.at_tag, Binary.binary_at_end, Code.TextMoves.EndsProof}
 use Rattle.proofs.proofs.BinaryLemmas.{Between, Between-on, Between-out, Between-none, Between-end}
 use Rattle.proofs.proofs.BinaryLemmas.{Between-byte, Between-step, Between-fault, Between-refused}
 use Rattle.proofs.proofs.BinaryLemmas.{moves_told}
@@ -49,8 +48,7 @@ returns-in-Ok-Complete-clause-step g c =
 
 pub returns-in-Err-Binary-clause-step : goal.returns-in-Err-Binary-clause-step
 returns-in-Err-Binary-clause-step g c =
-    let so_far = c.loop-byte.invariant in
-    let kind = c.in-Err-Binary.kind in
+    let so_far = c.loop-byte.invariant in let kind = c.in-Err-Binary.kind in
     let at = c.in-Err-Binary.at in
     rw c.bump.ensures (Between-fault _ _ _ _ _ so_far.1 c.in-Ok-Some.ensures.look c.in-Ok-Some.byte (search rules) (search rules) kind at c.move_on.new.step
     (moves_told _ (Err (Binary kind at)) so_far.0 _ _ c.byte_no-byte_no.result c.peek.new.self.byte_no _ (c.move_on.ensures so_far.0 so_far.2) (search rules) (search rules)))

@@ -7,8 +7,7 @@ use Rattle.proofs.proofs.drat_binary.moves.move_on.Goals as goal
 
 pub returns-else-byte-eq0 : goal.returns-else-byte-eq0
 returns-else-byte-eq0 c = λ spot at.
-    let b = c.args.byte in
-    let s = c.args.step.now in
+    let b = c.args.byte in let s = c.args.step.now in
     let At : BinaryPart → Type 0 = λ p. IsAt p spot in
     let place : spot ≡ in_step = subst At c.in-Literals.is at in
     let other : (b == 0) ≡ false = search rules in
