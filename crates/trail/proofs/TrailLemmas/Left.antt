@@ -3,16 +3,13 @@ use Rattle.std.proofs.Common.{◌≡◌, ℕ, ◌+◌, ◌<◌, Bool, true, fals
 use Rattle.std.proofs.Common.{◌∷◌, ◌++◌, length, get_or, take, drop, length-append, arith, refl}
 use Rattle.std.proofs.Common.{sym, ◌∙◌, append-nil, rules}
 use Rattle.std.specs.List.{list_all}
-use Rattle.std.proofs.lemmas.List.{take-append-drop}
 use Rattle.std.proofs.lemmas.List.Elements.{filter_more, filter-append}
-use Rattle.std.proofs.lemmas.List.Folds.{list_all-append}
+use Rattle.std.proofs.lemmas.List.{Folds.list_all-append, take-append-drop}
 use Rattle.cnf_base.specs.Literals.{Literal, complement, Clause, has}
 use Rattle.theory.specs.Propagation.{Live, IsClosed, Clash, open_literals}
-use Rattle.theory.specs.Code.Propagation.{IsClosedAt}
-use Rattle.theory.specs.Sets.{conflicts}
-use Rattle.trail.specs.Left.{how_many}
+use Rattle.theory.specs.{Code.Propagation.IsClosedAt, Sets.conflicts}
 use Rattle.trail.specs.Code.Left.{with_one, IsCount, IsSettled}
-use Rattle.trail.specs.declared.left.Left.{Left}
+use Rattle.trail.specs.{declared.left.Left.Left, Left.how_many}
 use Rattle.trail.specs.declared.left.Left.TheVariants.{Nothing, One, More}
 use Rattle.theory.proofs.PropagationLemmas.Open.{AreAll, IsAlone, first_alone, alone_first}
 use Rattle.theory.proofs.PropagationLemmas.Open.{open_has}
@@ -30,8 +27,7 @@ one_more m e = cc
 -- ---- How many
 
 pub nothing_is : (ls : List Literal) → how_many ls ≡ Nothing → ls ≡ []
-nothing_is [] e = refl
-nothing_is (k ∷ ls) e = grind arith
+nothing_is ls h = grind arith
 
 pub one_is : (ls : List Literal) (m : Literal) → how_many ls ≡ One m → IsAlone ls m
 one_is [] m e = absurd (nothing_one m e)
@@ -78,12 +74,10 @@ module _ (live : Live) (trues : List Literal) (settled : (k : ℕ) (c : Clause) 
 -- ---- One more literal
 
 left_push : (ls : List Literal) (l : Literal) → how_many (ls ++ l ∷ []) ≡ with_one (how_many ls) l
-left_push [] l = refl
-left_push (m ∷ ls) l = grind (arith, list_all-append)
+left_push ls l = grind (arith, list_all-append)
 
 more_stays : (xs ys : List Literal) → how_many xs ≡ More → how_many (xs ++ ys) ≡ More
-more_stays [] ys h = absurd (nothing_more h)
-more_stays (m ∷ xs) ys h = grind (arith, list_all-append)
+more_stays xs ys h = grind (arith, nothing_more, list_all-append)
 
 none_in : (ls : List Literal) → length ls ≡ 0 → ls ≡ []
 none_in [] e = refl
@@ -91,8 +85,7 @@ none_in (l ∷ ls) e = absurd (let wrong : ⊥ = omega arith in wrong)
 
 -- one turn: x is the literal, and t whether it is false
 module _ (trues : List Literal) (c : Clause) (i : ℕ) (inside : i < length c) (x : Literal) (is : x ≡ get_or c i x) where
-  next_open : (t : Bool) → has trues (complement x) ≡ t
-      → open_literals trues (take (i + 1) c)
+  next_open : (t : Bool) → has trues (complement x) ≡ t → open_literals trues (take (i + 1) c)
       ≡ open_literals trues (take i c) ++ cond (not t) (x ∷ []) []
   next_open t e = cc (filter_more (λ l. not (has trues (complement l))) c i x inside)
 

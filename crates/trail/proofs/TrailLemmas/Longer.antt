@@ -1,7 +1,6 @@
 -- Lists that begin with another, as a trail does after more literals were set.
 use Rattle.std.proofs.Common.{◌≡◌, ℕ, ◌≤◌, true, List, [], ◌∷◌, ◌++◌, length, take, drop, ap, ◌∙◌}
-use Rattle.std.proofs.Common.{arith}
-use Rattle.std.proofs.lemmas.List.{take-append-le, take-append-drop}
+use Rattle.std.proofs.{lemmas.List.take-append-le, lemmas.List.take-append-drop, Common.arith}
 use Rattle.cnf_base.specs.Literals.{has}
 use Rattle.cnf_base.proofs.SetLemmas.{has_append_left, has_append_cases}
 

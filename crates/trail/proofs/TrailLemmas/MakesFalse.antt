@@ -10,8 +10,7 @@ use Rattle.cnf_base.proofs.SetLemmas.{has-complements, complements_has, has-filt
 use Rattle.cnf_base.proofs.LiteralLemmas.{complement-complement}
 use Rattle.theory.specs.Sets.{conflicts, SameSet}
 use Rattle.trail.specs.Trail.{value_under, HasNoVariableTwice}
-use Rattle.trail.specs.declared.value.Value.{Value}
-use Rattle.trail.specs.declared.value.Value.TheVariants.{False}
+use Rattle.trail.specs.declared.value.Value.{TheVariants.False, Value}
 use Rattle.cnf_base.proofs.WalkLemmas.{has_push, has_take, is_in}
 use Rattle.trail.proofs.TrailLemmas.Truth.{consistent}
 use Rattle.theory.proofs.PropagationLemmas.Conflicts.{conflict_from, conflicts_some}
@@ -65,9 +64,7 @@ module _ (ls : List Literal) (keeps : Literal → Bool) (c : Clause) (i : ℕ) (
   pub falsified_next : keeps x ≡ true
       → falsified ls keeps (take (i + 1) c) ≡ falsified ls keeps (take i c) ++ complement x ∷ []
   falsified_next k =
-      ap (λ d. ls ++ complements d) (next_kept true k)
-      ∙ ap (λ d. ls ++ d) (map-append complement (filter keeps (take i c)) (x ∷ []))
-      ∙ sym (append_assoc ls (complements (filter keeps (take i c))) (complement x ∷ []))
+      cc (next_kept true k, map-append complement (filter keeps (take i c)) (x ∷ []), append_assoc ls (complements (filter keeps (take i c))) (complement x ∷ []))
 
   pub falsified_same : keeps x ≡ false
       → falsified ls keeps (take (i + 1) c) ≡ falsified ls keeps (take i c)

@@ -1,8 +1,7 @@
 -- The variables that were reserved, read off a table by variable.
 use Rattle.std.proofs.Common.{◌≡◌, ℕ, zero, suc, ◌+◌, ◌≤◌, ◌∷◌, [], length, false, cond, eqb, ◌||◌}
-use Rattle.std.proofs.Common.{◌&&◌, nat_le, Option, Some, None, is_some, refl, ap, ◌∙◌, arith, List}
-use Rattle.std.proofs.Common.{Bool, rules}
-use Rattle.std.proofs.lemmas.Bool.Decides.{nat_tests}
+use Rattle.std.proofs.Common.{◌&&◌, nat_le, Option, Some, None, is_some, refl, arith, List}
+use Rattle.std.proofs.{lemmas.Bool.Decides.nat_tests, Common.Bool, Common.rules}
 use Rattle.cnf_base.specs.Literals.{has}
 use Rattle.trail.specs.Code.Values.{seen_up_to}
 
@@ -22,9 +21,7 @@ module _ {T : Type 0} (seen seen_too : ℕ → Option T) where
       → seen_up_to seen_too n ≡ seen_up_to seen n
   unfolding seen_up_to
   seen_same same zero = refl
-  seen_same same (suc n) =
-      ap (λ b. with_head b (suc n) (seen_up_to seen_too n)) (same (suc n))
-      ∙ ap (with_head (is_some (seen (suc n))) (suc n)) (seen_same same n)
+  seen_same same (suc n) = grind (arith, seen_same same n)
 
   module _ (v : ℕ) (value : T) (none : is_some (seen v) ≡ false) (from : 1 ≤ v)
       (puts : (k : ℕ) → seen_too k ≡ cond (eqb k v) (Some value) (seen k)) where

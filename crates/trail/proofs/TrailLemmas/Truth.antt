@@ -5,11 +5,9 @@ use Rattle.std.proofs.lemmas.Bool.{true≢false, false_from_ne_true, or_cases}
 use Rattle.std.proofs.lemmas.List.{get_or-map, length-map}
 use Rattle.std.proofs.lemmas.Map.Keys.{apart_from_distinct, IsDistinct-from_apart}
 use Rattle.cnf_base.specs.Literals.{Literal, complement, Clause, has, variable}
-use Rattle.cnf_base.proofs.LiteralLemmas.{complement-other}
-use Rattle.trail.specs.Trail.{value_under, HasNoVariableTwice}
-use Rattle.trail.specs.declared.value.Value.{Value}
+use Rattle.cnf_base.proofs.{LiteralLemmas.complement-other, WalkLemmas.has_more}
+use Rattle.trail.specs.{Trail.value_under, Trail.HasNoVariableTwice, declared.value.Value.Value}
 use Rattle.trail.specs.declared.value.Value.TheVariants.{True, False, Open}
-use Rattle.cnf_base.proofs.WalkLemmas.{has_more}
 use Rattle.cnf_base.proofs.MemberLemmas.{place_of, has_place, place_of_variable, same_variable}
 use Rattle.cnf_base.proofs.MemberLemmas.{variable-complement}
 

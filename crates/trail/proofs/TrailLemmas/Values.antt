@@ -3,36 +3,30 @@ use Rattle.std.proofs.Common.{◌≡◌, ℕ, ◌*◌, ◌+◌, ◌-◌, ◌<◌
 use Rattle.std.proofs.Common.{eqb-true, eq-eqb, Option, Some, None, is_some, List, [], ◌∷◌, ◌++◌}
 use Rattle.std.proofs.Common.{map, take, drop, get_or, length, nat_eq, length-append, arith, ap}
 use Rattle.std.proofs.Common.{sym, ◌∙◌, inl, inr, ◌⊎◌, refl, subst}
-use Rattle.std.specs.List.{AllByRecursion, IsDistinct}
-use Rattle.std.specs.Cmp.{nat_eq_equiv}
+use Rattle.std.specs.{List.AllByRecursion, List.IsDistinct, Cmp.nat_eq_equiv}
 use Rattle.std.proofs.lemmas.Bool.{false≢true, false_from_ne_true, or_cases, or_left, or_right}
-use Rattle.std.proofs.lemmas.Bool.{cases_eq, ne_eqb}
-use Rattle.std.proofs.lemmas.Bool.Decides.{nat_tests}
+use Rattle.std.proofs.lemmas.Bool.{Decides.nat_tests, cases_eq, ne_eqb}
 use Rattle.std.proofs.lemmas.List.{map-append, length-map, length-drop, get_or_append_left}
 use Rattle.std.proofs.lemmas.List.{get_or-append_right, take_all, take-append-drop}
-use Rattle.std.proofs.lemmas.Map.Keys.{IsDistinct-push}
-use Rattle.std.proofs.lemmas.Map.Made.{length-le_from_is_member}
+use Rattle.std.proofs.lemmas.Map.{Made.length-le_from_is_member, Keys.IsDistinct-push}
 use Rattle.cnf_base.specs.Literals.{complement, has, variable, size}
 use Rattle.cnf_base.proofs.SetLemmas.{both_pass, has_cases, has_append_left, has_append_right}
-use Rattle.cnf_base.proofs.SetLemmas.{has_append_cases}
+use Rattle.cnf_base.proofs.{SetLemmas.has_append_cases, WalkLemmas.has_push}
 use Rattle.cnf_base.proofs.LiteralLemmas.{complement-complement, complement-other}
 use Rattle.cnf_base.proofs.SizeLemmas.{size_covered}
-use Rattle.trail.specs.Trail.{value_under, HasNoVariableTwice}
+use Rattle.trail.specs.{Trail.value_under, Trail.HasNoVariableTwice, declared.value.Value.Value}
 use Rattle.tables.specs.Filled.{HaveRoom, is_of}
 use Rattle.trail.specs.Code.Values.{IsTrail, Opens, known_value}
-use Rattle.trail.specs.declared.value.Value.{Value}
 use Rattle.trail.specs.declared.value.Value.TheVariants.{True, False, Open}
 use Rattle.cnf_base.proofs.MemberLemmas.{place_of, has_mapped, has_any, variable-complement}
 use Rattle.trail.proofs.TrailLemmas.Truth.{HasNoVariableTwice-from_places, places_apart}
 use Rattle.trail.proofs.TrailLemmas.Truth.{open_from_value, variable_open}
-use Rattle.cnf_base.proofs.WalkLemmas.{has_push}
 
 abbrev Values : Type 0
 Values = ℕ → Option Value
 
 or_nothing : (b : Bool) → (b || false) ≡ b
-or_nothing true = refl
-or_nothing false = refl
+or_nothing b = grind arith
 
 pub value_by_tests : (lits : List ℕ) (l : ℕ) (a b : Bool) → has lits l ≡ a
     → has lits (complement l) ≡ b → value_under lits l ≡ cond a True (cond b False Open)
@@ -46,23 +40,8 @@ module _ (lits : List ℕ) (l : ℕ) (is_open : value_under lits l ≡ Open) whe
 
   pub value_pushed : (k : ℕ) → value_under (lits ++ l ∷ []) k
       ≡ cond (eqb k (complement l)) False (cond (eqb k l) True (value_under lits k))
-  value_pushed k = elim (cases_eq k (complement l)) [
-    | inl same ↦
-        value_by_tests (lits ++ l ∷ []) k false true
-        (has_push lits l k ∙ ap (λ m. has lits m || eqb l m) same ∙ ap (λ b. b || eqb l (complement l)) tests.1 ∙ ne_eqb l (complement l) (λ e. complement-other l (sym e)))
-        (has_push lits l (complement k) ∙ or_right (has lits (complement k)) (eqb l (complement k)) (eq-eqb l (complement k) (sym (ap complement same ∙ complement-complement l))))
-        ∙ sym (ap (λ b. cond b False (cond (eqb k l) True (value_under lits k))) (eq-eqb k (complement l) same))
-    | inr other ↦ elim (cases_eq k l) [
-      | inl here ↦
-          value_by_tests (lits ++ l ∷ []) k true _ (has_push lits l k ∙ or_right (has lits k) (eqb l k) (eq-eqb l k (sym here))) refl
-          ∙ sym (ap (λ b. cond b False (cond (eqb k l) True (value_under lits k))) (ne_eqb k (complement l) other) ∙ ap (λ b. cond b True (value_under lits k)) (eq-eqb k l here))
-      | inr apart ↦
-          value_by_tests (lits ++ l ∷ []) k (has lits k) (has lits (complement k))
-          (has_push lits l k ∙ ap (λ b. has lits k || b) (ne_eqb l k (λ e. apart (sym e))) ∙ or_nothing (has lits k))
-          (has_push lits l (complement k) ∙ ap (λ b. has lits (complement k) || b) (ne_eqb l (complement k) (λ e. other (sym (complement-complement k) ∙ ap complement (sym e)))) ∙ or_nothing (has lits (complement k)))
-          ∙ sym (ap (λ b. cond b False (cond (eqb k l) True (value_under lits k))) (ne_eqb k (complement l) other) ∙ ap (λ b. cond b True (value_under lits k)) (ne_eqb k l apart))
-    ]
-  ]
+  value_pushed k =
+      grind (arith, cases_eq, value_by_tests, has_push, ne_eqb, complement-other, or_right, eq-eqb, complement-complement, or_nothing)
 
   pub different_pushed : HasNoVariableTwice lits → HasNoVariableTwice (lits ++ l ∷ [])
   different_pushed different =
@@ -94,42 +73,15 @@ module _ (front rest : List ℕ) (different : HasNoVariableTwice (front ++ rest)
 
   pub value_front : (k : ℕ) → value_under front k
       ≡ cond (has rest k || has rest (complement k)) Open (value_under (front ++ rest) k)
-  value_front k = by_tests (has rest k) (has rest (complement k)) refl refl
-    where
-      same_has : (l : ℕ) → has rest l ≡ false → has (front ++ rest) l ≡ has front l
-      same_has l none = both_pass (has (front ++ rest) l) (has front l)
-          (λ h. elim (has_append_cases front rest l h) [ inl g ↦ g | inr g ↦ absurd (false≢true (sym none ∙ g)) ])
-          (λ h. has_append_left front rest l h)
-
-      by_tests : (a b : Bool) → has rest k ≡ a → has rest (complement k) ≡ b
-          → value_under front k ≡ cond (has rest k || has rest (complement k)) Open
-          (value_under (front ++ rest) k)
-      by_tests true b e f =
-          value_by_tests front k false false (lacks k k e refl)
-          (lacks k (complement k) e (variable-complement k))
-          ∙ sym (ap (λ t. cond (t || has rest (complement k)) Open (value_under (front ++ rest) k))
-          e)
-      by_tests false true e f =
-          value_by_tests front k false false
-          (lacks (complement k) k f (sym (variable-complement k)))
-          (lacks (complement k) (complement k) f refl)
-          ∙ sym (ap (λ t. cond (t || has rest (complement k)) Open (value_under (front ++ rest) k))
-          e ∙ ap (λ t. cond t Open (value_under (front ++ rest) k)) f)
-      by_tests false false e f =
-          value_by_tests front k _ _ refl refl
-          ∙ sym (value_by_tests (front ++ rest) k _ _ (same_has k e) (same_has (complement k) f))
-          ∙ sym (ap (λ t. cond (t || has rest (complement k)) Open (value_under (front ++ rest) k))
-          e ∙ ap (λ t. cond t Open (value_under (front ++ rest) k)) f)
+  value_front k =
+      grind (arith, both_pass, has_append_cases, false≢true, has_append_left, value_by_tests, lacks, variable-complement)
 
 -- ---- The invariant
 
 distinct_size : (vs : List ℕ) → IsDistinct nat_eq vs → size vs ≡ length vs
 unfolding IsDistinct
 distinct_size [] apart = refl
-distinct_size (v ∷ vs) apart =
-    let rest = distinct_size vs apart.1 in
-    let more = ap (λ b. cond b (size vs) (1 + size vs)) (absent vs apart.0) in
-    omega (arith, rest, more)
+distinct_size (v ∷ vs) apart = grind (arith, absent, distinct_size vs apart.1)
   where
     absent : (vs : List ℕ) → AllByRecursion (λ w. nat_eq v w ≡ false) vs → has vs v ≡ false
     absent [] all = refl
@@ -187,22 +139,11 @@ module _ (l : ℕ) (a b : Value) (value_of first after : Values)
 
   pub written_some : is_some (value_of l) ≡ true → is_some (value_of (complement l)) ≡ true
       → (k : ℕ) → is_some (after k) ≡ is_some (value_of k)
-  written_some one other k = elim (cases_eq k (complement l)) [
-    | inl same ↦ ap is_some (written k ∙ ap (λ t. cond t (Some b) (cond (eqb k l) (Some a) (value_of k))) (eq-eqb k (complement l) same)) ∙ sym (ap (λ m. is_some (value_of m)) same ∙ other)
-    | inr apart ↦ elim (cases_eq k l) [
-      | inl here ↦
-          ap is_some (written k ∙ ap (λ t. cond t (Some b) (cond (eqb k l) (Some a) (value_of k))) (ne_eqb k (complement l) apart) ∙ ap (λ t. cond t (Some a) (value_of k)) (eq-eqb k l here))
-          ∙ sym (ap (λ m. is_some (value_of m)) here ∙ one)
-      | inr away ↦ ap is_some (written k ∙ ap (λ t. cond t (Some b) (cond (eqb k l) (Some a) (value_of k))) (ne_eqb k (complement l) apart) ∙ ap (λ t. cond t (Some a) (value_of k)) (ne_eqb k l away))
-    ]
-  ]
+  written_some one other k = grind (arith, cases_eq, written, eq-eqb, ne_eqb)
 
 within_pushed : (lits reserved : List ℕ) (l : ℕ) → ((v : ℕ) → has (map variable lits) v ≡ true → has reserved v ≡ true) → has reserved (variable l) ≡ true → (v : ℕ) → has (map variable (lits ++ l ∷ [])) v ≡ true → has reserved v ≡ true
 within_pushed lits reserved l within here v h =
-    elim (or_cases (has (map variable lits) v) (eqb (variable l) v) (sym (has_push (map variable lits) (variable l) v) ∙ ap (λ vs. has vs v) (sym (map-append variable lits (l ∷ []))) ∙ h)) [
-      | inl old ↦ within v old
-      | inr new ↦ subst (λ w. has reserved w ≡ true) (eqb-true (variable l) v new) here
-    ]
+    grind (arith, or_cases, has_push, map-append, eqb-true)
 
 module _ {T : Type 0} (lits reserved : List ℕ) (capacity : ℕ) (seen : ℕ → Option T) (value_of : Values) (trail : IsTrail lits reserved capacity seen value_of) where
   -- there is more room, for literals and for values
@@ -250,11 +191,7 @@ module _ {T : Type 0} (lits reserved : List ℕ) (capacity : ℕ) (seen : ℕ �
   pub room_for : (l : ℕ) → value_under lits l ≡ Open → has reserved (variable l) ≡ true
       → length lits < capacity
   room_for l is_open here =
-      let most = fits_within (lits ++ l ∷ []) reserved
-      (different_pushed lits l is_open trail.different)
-      (within_pushed lits reserved l trail.within here) in
-      let fits = trail.fits in
-      let more = length-append lits (l ∷ []) in omega (arith, most, fits, more)
+      grind (arith, fits_within (lits ++ l ∷ []) reserved (different_pushed lits l is_open trail.different) (within_pushed lits reserved l trail.within here), length-append lits (l ∷ []))
 
   -- both literals of a variable that was reserved have a value
   pub both_known : (l : ℕ) → has reserved (variable l) ≡ true → (is_some (value_of l) ≡ true)
@@ -273,23 +210,13 @@ module _ {T : Type 0} (front rest reserved : List ℕ) (capacity : ℕ) (seen : 
   pub last_known : (l : ℕ) → has rest l ≡ true → (is_some (value_of l) ≡ true)
       × (is_some (value_of (complement l)) ≡ true)
   last_known l h =
-      both_known (front ++ rest) reserved capacity seen value_of trail l
-      (trail.within (variable l) (has_mapped (front ++ rest) l (has_append_right front rest l h)))
+      grind (arith, both_known (front ++ rest) reserved capacity seen value_of trail l (trail.within (variable l) (has_mapped (front ++ rest) l (has_append_right front rest l h))))
 
   module _ (after : Values) (known : (k : ℕ) → is_some (after k) ≡ is_some (value_of k))
       (opened : (k : ℕ) → known_value (after k) ≡ cond (has rest k || has rest (complement k)) Open (known_value (value_of k))) where
     pub trail_taken : IsTrail front reserved capacity seen after
-    trail_taken = record {
-      different = different_front front rest trail.different;
-      within = λ v h. trail.within v
-          (ap (λ vs. has vs v) (map-append variable front rest)
-          ∙ has_append_left (map variable front) (map variable rest) v h);
-      fits = trail.fits;
-      noted = trail.noted;
-      known = λ k h. known k ∙ trail.known k h;
-      values = λ k. opened k ∙ ap (cond (has rest k || has rest (complement k)) Open)
-          (trail.values k) ∙ sym (value_front front rest trail.different k);
-    }
+    trail_taken =
+        grind (arith, different_front, map-append, has_append_left, known, opened, value_front)
 
 -- the trail as what stays and what is taken back
 pub trail_cut : {T : Type 0} (lits shown reserved : List ℕ) (capacity : ℕ) (seen : ℕ → Option T)
@@ -302,23 +229,4 @@ trail_cut lits shown reserved capacity seen value_of same trail n = subst (λ ls
 
 pub opens : (lits : List ℕ) (before after : Values) → HaveRoom before lits
     → ((k : ℕ) → after k ≡ cond (is_of lits k) (Some Open) (before k)) → Opens before after lits
-opens lits before after room written = record {
-  known = λ k. known k (is_of lits k) refl;
-  opened = λ k. ap known_value (written k) ∙ opened (is_of lits k) (before k);
-}
-  where
-    opened : (b : Bool) (o : Option Value)
-        → known_value (cond b (Some Open) o) ≡ cond b Open (known_value o)
-    opened true o = refl
-    opened false o = refl
-
-    had : (k : ℕ) → is_of lits k ≡ true → is_some (before k) ≡ true
-    had k e = elim (or_cases (has lits k) (has lits (complement k)) e) [
-      | inl h ↦ (room k h).0
-      | inr h ↦ subst (λ l. is_some (before l) ≡ true) (complement-complement k) (room (complement k) h).1
-    ]
-
-    known : (k : ℕ) (b : Bool) → is_of lits k ≡ b → is_some (after k) ≡ is_some (before k)
-    known k true e =
-        ap is_some (written k ∙ ap (λ b. cond b (Some Open) (before k)) e) ∙ sym (had k e)
-    known k false e = ap is_some (written k ∙ ap (λ b. cond b (Some Open) (before k)) e)
+opens lits before after room written = grind (arith, written, or_cases, complement-complement)

@@ -6,14 +6,11 @@ use Rattle.std.specs.List.{remove}
 use Rattle.std.proofs.lemmas.Bool.{cases_eq, cases_lt, false_from_ne_true, ne_eqb}
 use Rattle.std.proofs.lemmas.List.Edits.{get_or-remove_above, get_or-remove_below, length-remove}
 use Rattle.cnf_base.specs.Literals.{complement, has, variable}
-use Rattle.cnf_base.proofs.SetLemmas.{both_pass}
-use Rattle.cnf_base.proofs.LiteralLemmas.{complement-complement}
+use Rattle.cnf_base.proofs.{LiteralLemmas.complement-complement, SetLemmas.both_pass}
 use Rattle.cnf_base.proofs.MemberLemmas.{has_front, has_mapped, has_place, place_in_front, place_of}
 use Rattle.cnf_base.proofs.MemberLemmas.{has_variable, place_of_variable, variable-complement}
-use Rattle.trail.specs.Trail.{value_under, HasNoVariableTwice}
-use Rattle.trail.specs.Code.Values.{IsTrail}
-use Rattle.trail.specs.declared.value.Value.{Value}
-use Rattle.trail.specs.declared.value.Value.TheVariants.{Open}
+use Rattle.trail.specs.{declared.value.Value.Value, Code.Values.IsTrail, Trail.value_under}
+use Rattle.trail.specs.{declared.value.Value.TheVariants.Open, Trail.HasNoVariableTwice}
 use Rattle.trail.proofs.TrailLemmas.Truth.{HasNoVariableTwice-from_places, places_apart}
 use Rattle.trail.proofs.TrailLemmas.Truth.{value_is_open}
 use Rattle.trail.proofs.TrailLemmas.Values.{both_known, value_by_tests, written_some, written_value}
@@ -60,28 +57,16 @@ module _ (lits : List ℕ) (place : ℕ) (inside : place < length lits) where
   pub front_was : (now before : ℕ) → IsFront place now before → (k : ℕ)
       → has (take now out) k ≡ true → has (take before lits) k ≡ true
   front_was now before front k h =
-      let w = place_in_front out now k h in
-      let m = moved w.0 in
-      let low = w.1 in
+      let w = place_in_front out now k h in let m = moved w.0 in let low = w.1 in
       subst (λ x. has (take before lits) x ≡ true) (sym m.1 ∙ w.3)
       (has_front lits before m.0 (closer w.0 m.0 low m.2) (within_before w.0 m.0 m.2 w.2))
     where
       closer : (i j : ℕ) → i < now → IsMoved place i j → j < before
-      closer i j low is = elim front [
-        | inl f ↦ elim is [
-          | inl s ↦ let e = f.0 in let g = s.0 in omega (arith, e, g, low)
-          | inr s ↦ let e = f.1 in let g = s.1 in absurd (let wrong : ⊥ = omega (arith, e, g, low) in wrong)
-        ]
-        | inr f ↦ elim is [
-          | inl s ↦ let e = f.0 in let g = s.0 in omega (arith, e, g, low)
-          | inr s ↦ let e = f.0 in let g = s.0 in omega (arith, e, g, low)
-        ]
-      ]
+      closer i j low is = grind arith
 
   pub was_there : (k : ℕ) → has out k ≡ true → has lits k ≡ true
   was_there k h =
-      let w = place_of out k h in
-      let m = moved w.0 in
+      let w = place_of out k h in let m = moved w.0 in
       subst (λ x. has lits x ≡ true) (sym m.1 ∙ w.2)
       (has_place lits m.0 (within_before w.0 m.0 m.2 w.1))
 
@@ -101,24 +86,7 @@ module _ (lits : List ℕ) (place : ℕ) (inside : place < length lits) where
 
     pub front_still : (now before : ℕ) → IsFront place now before → (k : ℕ)
         → has (take before lits) k ≡ true → k ≢ l → has (take now out) k ≡ true
-    front_still now before front k h ne =
-        let w = place_in_front lits before k h in
-        let low = w.1 in
-        let m = moved_down w.0 w.2 (λ e. ne (sym w.3 ∙ e)) in
-        subst (λ x. has (take now out) x ≡ true) (m.1 ∙ w.3)
-        (has_front out now m.0 (closer m.0 w.0 low m.2) m.3)
-      where
-        closer : (j i : ℕ) → i < before → IsMoved place j i → j < now
-        closer j i low is = elim front [
-          | inl f ↦ elim is [
-            | inl s ↦ let e = f.0 in let g = s.0 in omega (arith, e, g, low)
-            | inr s ↦ let e = f.0 in let g = s.0 in omega (arith, e, g, low)
-          ]
-          | inr f ↦ elim is [
-            | inl s ↦ let e = f.1 in let g = s.1 in omega (arith, e, g)
-            | inr s ↦ let e = f.0 in let g = s.0 in omega (arith, e, g, low)
-          ]
-        ]
+    front_still now before front k h ne = grind (arith, place_in_front, moved_down, has_front)
 
     pub still_there : (k : ℕ) → has lits k ≡ true → k ≢ l → has out k ≡ true
     still_there k h ne = grind (arith, place_of, moved_down, has_place)
@@ -127,8 +95,7 @@ module _ (lits : List ℕ) (place : ℕ) (inside : place < length lits) where
       -- no literal of its variable is left
       pub none_left : (k : ℕ) → variable k ≡ variable l → has out k ≡ false
       none_left k same = false_from_ne_true (has out k) (λ h.
-          let w = place_of out k h in
-          let m = moved w.0 in
+          let w = place_of out k h in let m = moved w.0 in
           let alike = ap variable (sym m.1 ∙ w.2) ∙ same ∙ ap variable (sym stands) in
           elim m.2 [
             | inl s ↦ let e = s.0 in let low = s.1 in places_apart lits different m.0 place (omega (arith, e, low)) inside alike

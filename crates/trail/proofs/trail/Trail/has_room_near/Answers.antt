@@ -1,9 +1,7 @@
 -- One more variable.
 use Rattle.std.proofs.Common.{◌≡◌, ◌<◌, true, Some, eqb-true, is_some, length, ap, sym, ◌∙◌, inl}
-use Rattle.std.proofs.Common.{inr, subst, arith}
-use Rattle.std.proofs.lemmas.Bool.{or_cases}
-use Rattle.std.proofs.lemmas.Bool.Decides.{nat_tests}
-use Rattle.std.proofs.lemmas.Option.{same_Some, slice_get-get_or}
+use Rattle.std.proofs.{Common.inr, Common.subst, Common.arith, lemmas.Bool.or_cases}
+use Rattle.std.proofs.lemmas.{Option.same_Some, Option.slice_get-get_or, Bool.Decides.nat_tests}
 use Rattle.cnf_base.specs.Literals.{has, variable}
 use Rattle.cnf_base.proofs.WalkLemmas.{has_more}
 use Rattle.tables.specs.Table.{at}
@@ -11,11 +9,8 @@ use Rattle.trail.proofs.trail.Trail.has_room_near.Goals as goal
 
 pub loop-l-preserved : goal.loop-l-preserved
 loop-l-preserved c l h =
-    let x = c.l-item.result in
-    let v = c.var.result in
-    let reserved = c.args.self.now.reserved in
-    let near = c.near-near.result.now in
-    let look = c.in-Some-Some.ensures.lookup in
+    let x = c.l-item.result in let v = c.var.result in let reserved = c.args.self.now.reserved in
+    let near = c.near-near.result.now in let look = c.in-Some-Some.ensures.lookup in
     let inside : v < length near = grind (arith, nat_tests, look.0) in
     let seen : at c.self.inside.seen v ≡ Some tt =
     same_Some _ _ (sym (c.near-near.ensures v inside) ∙ slice_get-get_or near v _ inside) ∙ sym look.1 ∙ c.in-Some-Some.field-0-is in

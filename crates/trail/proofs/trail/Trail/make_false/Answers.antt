@@ -1,24 +1,20 @@
 use Rattle.std.proofs.Common.{◌≡◌, ◌/◌, ◌++◌, ◌∷◌, [], true, length, length-append, take, refl, sym}
-use Rattle.std.proofs.Common.{ap, ◌∙◌, subst, arith}
-use Rattle.std.proofs.lemmas.List.{take_all}
+use Rattle.std.proofs.{Common.ap, Common.◌∙◌, Common.subst, Common.arith, lemmas.List.take_all}
 use Rattle.cnf_base.specs.Literals.{complement, has}
-use Rattle.cnf_base.proofs.LiteralLemmas.{complement-complement}
+use Rattle.cnf_base.proofs.{LiteralLemmas.complement-complement, WalkLemmas.is_in}
 use Rattle.theory.specs.Sets.{conflicts}
-use Rattle.trail.specs.Trail.{value_under}
-use Rattle.trail.specs.declared.value.Value.TheVariants.{Open}
+use Rattle.trail.specs.{declared.value.Value.TheVariants.Open, Trail.value_under}
 use Rattle.trail.proofs.TrailLemmas.MakesFalse.{falsified, falsified_next, falsified_same}
 use Rattle.trail.proofs.TrailLemmas.MakesFalse.{falsified_conflict, falsified_none, no_conflict}
 use Rattle.trail.proofs.TrailLemmas.MakesFalse.{same_old, same_pushed}
 use Rattle.theory.proofs.PropagationLemmas.Conflicts.{conflicts_same, quiet_push}
-use Rattle.cnf_base.proofs.WalkLemmas.{is_in}
 use Rattle.cnf_base.proofs.MemberLemmas.{variable-complement}
-use Rattle.trail.proofs.TrailLemmas.Longer.{begins_push}
 use Rattle.trail.proofs.TrailLemmas.Truth.{true_from_value, false_from_value, open_from_value}
-use Rattle.trail.proofs.TrailLemmas.Truth.{value_is_open}
-use Rattle.trail.proofs.trail.Trail.make_false.Goals as goal
+use Rattle.trail.proofs.TrailLemmas.{Truth.value_is_open, Longer.begins_push}
 use Rattle.trail.proofs.trail.Trail.make_false.Goals.{then-keeps_literal+in-False}
 use Rattle.trail.proofs.trail.Trail.make_false.Goals.{then-keeps_literal+in-Open}
 use Rattle.trail.proofs.trail.Trail.make_false.Goals.{else-keeps_literal}
+use Rattle.trail.proofs.trail.Trail.make_false.Goals as goal
 
 pub loop-l-init : goal.loop-l-init
 loop-l-init g c =
@@ -33,8 +29,7 @@ loop-l-init g c =
 
 pub returns-in-True-clause-made : goal.returns-in-True-clause-made
 returns-in-True-clause-made g c =
-    let x = c.l-item.result in
-    let lits = c.loop-l.self.lits in
+    let x = c.l-item.result in let lits = c.loop-l.self.lits in
     record {
       conflict =
           falsified_conflict c.args.self.now.lits (g.P.Part.keeps c.args.part.now) c.args.clause.now c.loop-l.l-index c.loop-l-test.true x c.l-item.is
@@ -51,20 +46,15 @@ set-requires-clause-reserved g c =
 
 pub set-requires-clause-open : goal.set-requires-clause-open
 set-requires-clause-open g c =
-    let x = c.l-item.result in
-    let lits = c.loop-l.self.lits in
+    let x = c.l-item.result in let lits = c.loop-l.self.lits in
     let tests = open_from_value lits x c.in-Open.ensures.value in
     subst (λ m. value_under lits m ≡ Open) (sym c.neg.ensures) (value_is_open lits (complement x) tests.1 (ap (has lits) (complement-complement x) ∙ tests.0))
 
 pub loop-l-preserved : goal.loop-l-preserved
 loop-l-preserved g c =
-    let clause = c.args.clause.now in
-    let keeps = g.P.Part.keeps c.args.part.now in
-    let i = c.loop-l.l-index in
-    let x = c.l-item.result in
-    let inside = c.loop-l-test.true in
-    let first = c.args.self.now.lits in
-    let lits = c.loop-l.self.lits in
+    let clause = c.args.clause.now in let keeps = g.P.Part.keeps c.args.part.now in
+    let i = c.loop-l.l-index in let x = c.l-item.result in let inside = c.loop-l-test.true in
+    let first = c.args.self.now.lits in let lits = c.loop-l.self.lits in
     let so_far = c.loop-l.invariant in
     elim c.if-keeps_literal.branch [
       | then-keeps_literal+in-False w ↦
@@ -81,11 +71,9 @@ loop-l-preserved g c =
       | then-keeps_literal+in-Open w ↦
           let kept = sym c.keeps_literal.ensures ∙ w.if-keeps_literal.true in
           let next = falsified_next first keeps clause i inside x c.l-item.is kept in
-          let tests = open_from_value lits x w.in-Open.ensures.value in
-          let m = complement x in
+          let tests = open_from_value lits x w.in-Open.ensures.value in let m = complement x in
           let lits_are = ap (λ t. t.lits) w.self-is ∙ w.set.ensures.lits ∙ ap (λ k. lits ++ k ∷ []) w.neg.ensures in
-          let long = length-append lits (m ∷ []) in
-          let longer = so_far.longer in
+          let long = length-append lits (m ∷ []) in let longer = so_far.longer in
           record {
             added = λ l. ap (λ ls. has ls l) lits_are ∙ same_pushed lits (falsified first keeps (take i clause)) m so_far.added l ∙ ap (λ ls. has ls l) (sym next);
             quiet = ap conflicts lits_are ∙ quiet_push lits m so_far.quiet (ap (has lits) (complement-complement x) ∙ tests.0);
@@ -106,8 +94,7 @@ loop-l-preserved g c =
 
 pub returns-clause-made : goal.returns-clause-made
 returns-clause-made g c =
-    let keeps = g.P.Part.keeps c.args.part.now in
-    let before = c.args.self.now.lits in
+    let keeps = g.P.Part.keeps c.args.part.now in let before = c.args.self.now.lits in
     let whole = take_all c.loop-l.l-index c.args.clause.now c.loop-l-test.false in
     record {
       conflict = sym c.loop-l.invariant.quiet ∙ conflicts_same _ _ c.loop-l.invariant.added ∙ ap (λ d. conflicts (falsified before keeps d)) whole;

@@ -1,10 +1,9 @@
 use Rattle.std.proofs.Common.{length, ap, sym, arith}
 use Rattle.std.specs.Vec.{vec_capacity}
 use Rattle.tables.specs.Table.{at}
-use Rattle.tables.specs.Filled as filled
 use Rattle.trail.specs.Code.Values.{reserved_in}
-use Rattle.trail.proofs.TrailLemmas.Reserved.{seen_none}
-use Rattle.trail.proofs.TrailLemmas.Values.{trail_empty}
+use Rattle.trail.proofs.TrailLemmas.{Values.trail_empty, Reserved.seen_none}
+use Rattle.tables.specs.Filled as filled
 use Rattle.trail.proofs.trail.Trail.new.Goals as goal
 
 pub invariant_of-result : goal.invariant_of-result

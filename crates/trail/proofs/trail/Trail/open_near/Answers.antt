@@ -5,13 +5,9 @@ use Rattle.trail.proofs.trail.Trail.open_near.Goals.{then-not-is_false, else-not
 
 pub loop-l-preserved : goal.loop-l-preserved
 loop-l-preserved c =
-    let trues = c.args.self.now.lits in
-    let clause = c.args.clause.now in
-    let i = c.loop-l.l-index in
-    let inside = c.loop-l-test.true in
-    let x = c.l-item.result in
-    let so_far = c.loop-l.invariant in
-    let is = sym c.in_ok-is_false.ensures in
+    let trues = c.args.self.now.lits in let clause = c.args.clause.now in
+    let i = c.loop-l.l-index in let inside = c.loop-l-test.true in let x = c.l-item.result in
+    let so_far = c.loop-l.invariant in let is = sym c.in_ok-is_false.ensures in
     elim c.if-not-is_false.branch [
       | then-not-is_false w ↦ record {
         counted = rw (w.count-is, w.last-is) (count_with trues clause i inside x c.l-item.is (is ∙ w.if-not-is_false.true) c.loop-l.count c.loop-l.last so_far.counted);

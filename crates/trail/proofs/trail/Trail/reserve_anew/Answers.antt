@@ -1,15 +1,13 @@
 use Rattle.std.proofs.Common.{◌≡◌, ℕ, ◌<◌, ◌≤◌, ◌∙◌, Bool, true, false, cond, eqb, Option, is_some}
 use Rattle.std.proofs.Common.{inl, inr, length, refl, sym, ap, subst, arith}
-use Rattle.std.proofs.lemmas.Bool.{cases_eq}
-use Rattle.std.proofs.lemmas.Bool.Decides.{nat_tests}
+use Rattle.std.proofs.lemmas.Bool.{Decides.nat_tests, cases_eq}
 use Rattle.std.specs.Vec.{vec_capacity}
 use Rattle.tables.specs.Table.{at}
-use Rattle.tables.specs.Filled as filled
-use Rattle.trail.specs.Code.Values.{IsTrail, reserved_in}
+use Rattle.trail.specs.{Code.Values.IsTrail, Code.Values.reserved_in, Trail.is_variable}
 use Rattle.cnf_base.specs.Literals.{has}
-use Rattle.trail.specs.Trail.{is_variable}
 use Rattle.trail.proofs.TrailLemmas.Reserved.{seen_adds, seen_more, seen_noted, seen_same}
 use Rattle.trail.proofs.TrailLemmas.Values.{negative_key, trail_wider, trail_reserved}
+use Rattle.tables.specs.Filled as filled
 use Rattle.trail.proofs.trail.Trail.reserve_anew.Goals as goal
 
 in_range : (v : ℕ) → is_variable v ≡ true → (1 ≤ v) × (v ≤ 268435455)
@@ -26,8 +24,7 @@ up_to dense w v next other = grind (arith, nat_tests)
 
 pub invariant_of-self-in_err-reserve-2 : goal.invariant_of-self-in_err-reserve-2
 invariant_of-self-in_err-reserve-2 c =
-    let t = c.self.inside in
-    let made = c.reserve_both.ensures in
+    let t = c.self.inside in let made = c.reserve_both.ensures in
     let kept = c.in_err-reserve-2.ensures.err in
     let same = seen_same (at t.seen) (at c.reserve-2.new.self) (λ k. ap is_some (kept k))
     268435455 in
@@ -46,16 +43,11 @@ invariant_of-self-in_err-reserve-2 c =
 
 pub invariant_of-self-2 : goal.invariant_of-self-2
 invariant_of-self-2 c =
-    let t = c.self.inside in
-    let v = c.args.var in
-    let lit_is = c.in-Some.ensures.some in
+    let t = c.self.inside in let v = c.args.var in let lit_is = c.in-Some.ensures.some in
     let range = in_range v (sym c.positive.ensures.variant ∙ ap is_some c.in-Some.is) in
-    let before = reserved_in (at t.seen) in
-    let after = reserved_in (at c.reserve-2.new.self) in
-    let values = c.reserve_both.new.values in
-    let capacity = vec_capacity c.reserve.new.self in
-    let made = c.in_ok-reserve_both.ensures in
-    let puts = c.in_ok-reserve-2.ensures.ok in
+    let before = reserved_in (at t.seen) in let after = reserved_in (at c.reserve-2.new.self) in
+    let values = c.reserve_both.new.values in let capacity = vec_capacity c.reserve.new.self in
+    let made = c.in_ok-reserve_both.ensures in let puts = c.in_ok-reserve-2.ensures.ok in
     let wide = trail_wider t.lits.items before (vec_capacity t.lits) (at t.seen)
     (filled.at t.values) c.self.invariant.0 capacity (at t.seen) (filled.at values)
     c.reserve.ensures.capacity (λ k. refl) made.same made.kept in
@@ -84,8 +76,7 @@ invariant_of-self-2 c =
 
 pub returns-clause-reserved : goal.returns-clause-reserved
 returns-clause-reserved c w =
-    let t = c.self.inside in
-    let v = c.args.var in
+    let t = c.self.inside in let v = c.args.var in
     let variable = sym c.positive.ensures.variant ∙ ap is_some c.in-Some.is in
     let range = in_range v variable in
     let adds = seen_adds (at t.seen) (at c.reserve-2.new.self) 268435455 v _ range.0 range.1 c.in_ok-reserve-2.ensures.ok w in

@@ -2,12 +2,10 @@ use Rattle.std.proofs.Common.{ℕ, ◌∙◌, Some, cond, eqb, Option, refl, sym
 use Rattle.std.specs.Vec.{vec_capacity}
 use Rattle.cnf_base.specs.Literals.{has, variable}
 use Rattle.tables.specs.Table.{at}
-use Rattle.tables.specs.Filled as filled
-use Rattle.trail.specs.Trail.{value_under}
-use Rattle.trail.specs.Code.Values.{IsTrail, reserved_in}
-use Rattle.trail.specs.declared.value.Value.{Value}
-use Rattle.trail.specs.declared.value.Value.TheVariants.{True}
+use Rattle.trail.specs.{declared.value.Value.Value, Trail.value_under, Code.Values.IsTrail}
+use Rattle.trail.specs.{declared.value.Value.TheVariants.True, Code.Values.reserved_in}
 use Rattle.trail.proofs.TrailLemmas.Values.{room_for, both_known, trail_set}
+use Rattle.tables.specs.Filled as filled
 use Rattle.trail.proofs.trail.Trail.set.Goals as goal
 
 pub push_reserved-requires : goal.push_reserved-requires
@@ -26,8 +24,7 @@ set_both-requires-clause-complement c =
 
 pub invariant_of-self : goal.invariant_of-self
 invariant_of-self c =
-    let t = c.self.inside in
-    let l = c.args.l in
+    let t = c.self.inside in let l = c.args.l in
     let open_now = ap (λ s. value_under s.lits l) c.self.view_is ∙ c.requires.open in
     let here = ap (λ s. has s.reserved (variable l)) c.self.view_is ∙ c.requires.reserved in
     let first : ℕ → Option Value = λ k. cond (eqb k l) (Some True) (filled.at t.values k) in

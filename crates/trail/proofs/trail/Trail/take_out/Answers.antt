@@ -2,11 +2,10 @@ use Rattle.std.proofs.Common.{ℕ, Some, cond, eqb, Option, refl, sym, ◌∙◌
 use Rattle.std.specs.Vec.{vec_capacity}
 use Rattle.std.proofs.lemmas.Grind.{get_or_default_zero}
 use Rattle.tables.specs.Table.{at}
-use Rattle.tables.specs.Filled as filled
 use Rattle.trail.specs.Code.Values.{IsTrail, reserved_in}
-use Rattle.trail.specs.declared.value.Value.{Value}
-use Rattle.trail.specs.declared.value.Value.TheVariants.{Open}
+use Rattle.trail.specs.declared.value.Value.{TheVariants.Open, Value}
 use Rattle.trail.proofs.TrailLemmas.Without.{out_known, trail_out}
+use Rattle.tables.specs.Filled as filled
 use Rattle.trail.proofs.trail.Trail.take_out.Goals as goal
 
 pub set_both-requires-clause-complement : goal.set_both-requires-clause-complement
@@ -18,8 +17,7 @@ set_both-requires-clause-complement c =
 
 pub invariant_of-self : goal.invariant_of-self
 invariant_of-self c =
-    let t = c.self.inside in
-    let l = c.remove-l.result in
+    let t = c.self.inside in let l = c.remove-l.result in
     let inside = subst (λ s. c.args.place < length s.lits) (sym c.self.view_is) c.requires in
     let stands = sym (get_or_default_zero t.lits.items c.args.place l inside) ∙ sym c.remove-l.ensures.value in
     let first : ℕ → Option Value = λ k. cond (eqb k l) (Some Open) (filled.at t.values k) in
