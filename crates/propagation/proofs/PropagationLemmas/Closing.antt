@@ -2,39 +2,31 @@
 use Rattle.std.proofs.Common.{◌≡◌, ◌≢◌, ℕ, Result, OnOk, ◌+◌, ◌<◌, ◌≤◌, Bool, true, false, ◌&&◌}
 use Rattle.std.proofs.Common.{eqb, eqb-true, Some, None, List, [], ◌∷◌, ◌++◌, take, length, get_or}
 use Rattle.std.proofs.Common.{sym, ap, ◌∙◌, subst, arith, inl, inr}
-use Rattle.std.specs.Ordering.{nat_cmp}
-use Rattle.std.specs.FinMap as maps
-use Rattle.std.specs.FinMap.{FinMap}
+use Rattle.std.specs.{Ordering.nat_cmp, FinMap.FinMap}
 use Rattle.std.proofs.lemmas.Bool.{false≢true, true≢false, cases_Bool, cases_eq, or_cases, or_left}
-use Rattle.std.proofs.lemmas.Bool.{and_parts}
 use Rattle.std.proofs.lemmas.List.{take-take, take_all}
-use Rattle.std.proofs.lemmas.Option.{same_Some}
-use Rattle.std.proofs.lemmas.Result.{on_ok_weaker}
+use Rattle.std.proofs.lemmas.{Option.same_Some, Bool.and_parts, Result.on_ok_weaker}
 use Rattle.cnf_base.specs.Literals.{Literal, complement, Clause, has}
-use Rattle.cnf_base.proofs.LiteralLemmas.{complement-complement}
+use Rattle.cnf_base.proofs.{LiteralLemmas.complement-complement, WalkLemmas.has_more}
 use Rattle.cnf_base.proofs.SetLemmas.{has_append_right, has_append_cases, has_cases, has_head}
-use Rattle.cnf_base.proofs.WalkLemmas.{has_more, has_take}
-use Rattle.cnf_base.proofs.MapLemmas.{after_remove, remove_other}
+use Rattle.cnf_base.proofs.{MapLemmas.after_remove, MapLemmas.remove_other, WalkLemmas.has_take}
 use Rattle.clause_db.specs.Store.{IsTouchedAt}
-use Rattle.propagation.specs.Closure.{IsWhole}
 use Rattle.propagation.specs.Code.Closure.{AreForced, FollowsFrom, IsFollowed, TakesIn, is_old}
-use Rattle.propagation.specs.Code.Closure.{by_unit}
+use Rattle.propagation.specs.{Code.Closure.by_unit, Closure.IsWhole}
 use Rattle.theory.specs.Code.Propagation.{IsClosedAt, OthersFail}
 use Rattle.theory.specs.Propagation.{Live, IsClosed, Forced, IsRootReason, open_literals}
-use Rattle.trail.specs.Left.{how_many, is_one_at_most}
-use Rattle.trail.specs.declared.left.Left.{Left}
+use Rattle.trail.specs.{Left.how_many, Left.is_one_at_most, declared.left.Left.Left}
 use Rattle.trail.specs.declared.left.Left.TheVariants.{Nothing, One, More}
-use Rattle.theory.proofs.PropagationLemmas.Forced.{forced_unit}
-use Rattle.theory.proofs.PropagationLemmas.Open.{AreAll, open_has}
+use Rattle.theory.proofs.PropagationLemmas.{Open.AreAll, Open.open_has, Forced.forced_unit}
 use Rattle.theory.proofs.PropagationLemmas.Unit.{none_left_follow, one_left_follows}
 use Rattle.trail.proofs.TrailLemmas.Left.{nothing_is, one_is, more_differ, settled_at}
 use Rattle.trail.proofs.TrailLemmas.Longer.{has_begun}
 use Rattle.propagation.proofs.PropagationLemmas.Below.{below_none, below_some}
+use Rattle.std.specs.FinMap as maps
 
 pub follows_forced : (live : Live) (ls : List Literal) → AreForced live ls → (k : ℕ) (c : Clause)
     → live k ≡ Some c → (l : Literal) → FollowsFrom ls c l → Forced live [] l
-follows_forced live ls sound k c at l (is_old h) = sound l h
-follows_forced live ls sound k c at l (by_unit member others) = grind (arith, forced_unit)
+follows_forced live ls h k c h2 l h3 = grind (arith, forced_unit)
 
 -- ---- Reasons of root-level literals
 
@@ -66,10 +58,7 @@ module _ (live : Live) (trues : List Literal) (k : ℕ) (c : Clause) (at : live 
         by_left : (left : Left) → how_many (open_literals trues c) ≡ left → (d : Clause) → c ≡ d
             → is_one_at_most left d ≡ false → ⊥
         by_left More e d is h = more_differ (open_literals trues c) e r.literal (open_alone r)
-        by_left Nothing e [] is h = grind (arith, false≢true)
-        by_left (One m) e [] is h = grind (arith, false≢true)
-        by_left Nothing e (l ∷ d) is h = absurd (true≢false h)
-        by_left (One m) e (l ∷ d) is h = absurd (true≢false h)
+        by_left left h d h2 h3 = grind (arith, false≢true, true≢false)
 
 -- ---- What a clause adds
 
@@ -100,10 +89,7 @@ module _ {E : Type 0} (ls now : List Literal) (c : Clause) (r : Result Unit E) w
         → OnOk r (TakesIn ls now c)
     one_takes = on_ok_weaker r (λ lits k member others.
         let w = open_has ls c m (one_is (open_literals ls c) m e).0 in
-        elim (cases_eq m k) [
-          | inl same ↦ lits k ∙ has_append_right ls (m ∷ []) k (subst (λ x. has (m ∷ []) x ≡ true) same (has_head m []))
-          | inr ne ↦ absurd (true≢false (sym (others m w.0 ne) ∙ w.1))
-        ])
+        grind (arith, cases_eq, has_append_right, has_head, true≢false))
 
 pub more_is_closed : (ls : List Literal) (c : Clause) → how_many (open_literals ls c) ≡ More
     → IsClosedAt (has ls) c
@@ -224,14 +210,7 @@ module _ (live : FinMap nat_cmp Clause) (slot : ℕ) where
             let known = λ (l : Literal) (h : has d l ≡ true) (ne : l ≢ m). and_parts (has lits (complement l)) (passes (complement l)) (others l h ne) in
             let follows : has lits m ≡ true = whole.all m (forced_unit (maps.get live) [] k d here m member (λ l h ne. whole.sound (complement l) (known l h ne).0)) in
             elim (cases_eq k slot) [
-              | inl e ↦
-                  let same = same_Some d c (sym here ∙ ap (maps.get live) e ∙ at) in
-                  absurd (no_reason (record {
-                    literal = m;
-                    member = ap (λ x. has x m) (sym same) ∙ member;
-                    forced = whole.sound m follows;
-                    others = λ l h ne. whole.sound (complement l) (known l (ap (λ x. has x l) same ∙ h) ne).0;
-                  }))
+              | inl e ↦ grind (arith, same_Some)
               | inr ne ↦ ap (λ b. b && passes m) follows ∙ closed.unit k d (remove_other live slot k ne ∙ here) m member (λ l h apart. (known l h apart).1)
             ];
       }

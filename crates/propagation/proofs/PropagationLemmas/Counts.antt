@@ -1,19 +1,16 @@
 -- How many clauses have a literal, and that one is found where the number isn't 0.
-use Rattle.std.proofs.Common.{◌≡◌, ◌≢◌, ℕ, ◌+◌, ◌<◌, Bool, true, false, cond, T, ◌&&◌, Some, List}
+use Rattle.std.proofs.Common.{◌≡◌, ◌≢◌, ℕ, ◌+◌, ◌<◌, Bool, true, cond, T, ◌&&◌, Some, List}
 use Rattle.std.proofs.Common.{[], ◌∷◌, map, sum_by, is_lt, eqb-true, eq-eqb, refl, sym, ap, ◌∙◌}
 use Rattle.std.proofs.Common.{arith, inl, inr, rules}
-use Rattle.std.specs.Ordering.{nat_cmp, eq_by_cmp}
-use Rattle.std.specs.Cmp.{unsigned_tied}
-use Rattle.std.specs.FinMap as maps
-use Rattle.std.specs.FinMap.{FinMap, find, is_sorted}
-use Rattle.std.specs.FinMap.Entries.{below_all}
+use Rattle.std.specs.{FinMap.FinMap, FinMap.find, FinMap.is_sorted, Ordering.eq_by_cmp}
+use Rattle.std.specs.{FinMap.Entries.below_all, Cmp.unsigned_tied, Ordering.nat_cmp}
 use Rattle.std.proofs.lemmas.Bool.{cases_Bool, cases_eq, false_from_ne_true}
-use Rattle.std.proofs.lemmas.List.Sums.{sum_by-cons}
-use Rattle.std.proofs.lemmas.Option.{none-some}
+use Rattle.std.proofs.lemmas.{List.Sums.sum_by-cons, Option.none-some}
 use Rattle.cnf_base.specs.Literals.{Literal, Clause, has}
 use Rattle.propagation.specs.Assumptions.{HasAt}
 use Rattle.clause_db.specs.Store.{copies_with}
 use Rattle.cnf_base.proofs.MapLemmas.{sum_remove}
+use Rattle.std.specs.FinMap as maps
 
 -- ---- One that is there is counted
 
@@ -34,8 +31,7 @@ pub above : (x k : ℕ) → T (is_lt (nat_cmp x k)) → x < k
 above x k h = grind arith
 
 pub both : (a b : Bool) → T (a && b) → T a × T b
-both true b t = (tt, t)
-both false b t = absurd t
+both a b h = grind arith
 
 pub below_found : (x : ℕ) (es : List (ℕ × Clause)) (k : ℕ) (c : Clause) → T (below_all nat_cmp x es)
     → find nat_cmp k es ≡ Some c → x < k
@@ -63,5 +59,4 @@ some_with live l some =
     (w.0, record { clause = w.1; at = maps.get-entries live w.0 ∙ w.2; member = member (has w.1 l) w.3 })
   where
     member : (b : Bool) → (let n : ℕ = cond b 1 0 in n) ≢ 0 → b ≡ true
-    member true counts = refl
-    member false counts = absurd (counts refl)
+    member b h = grind arith

@@ -5,11 +5,10 @@ use Rattle.std.proofs.lemmas.List.{length-take, take-take}
 use Rattle.cnf_base.specs.Literals.{Literal, has}
 use Rattle.cnf_base.proofs.SetLemmas.{has_append_left, has_append_right, has_append_cases}
 use Rattle.propagation.specs.Assumptions.{Assumption, AssumptionsState, MayAssume, IsAnswer}
-use Rattle.propagation.specs.Assumptions.{assumed_by}
 use Rattle.propagation.specs.Code.Exact.{IsExact, AreExact, Extends}
 use Rattle.theory.specs.Propagation.{Live, IsClosed, Forced, Clash}
 use Rattle.theory.specs.Sets.{SameSet, conflicts}
-use Rattle.propagation.specs.declared.answer.Answer.{Answer}
+use Rattle.propagation.specs.{declared.answer.Answer.Answer, Assumptions.assumed_by}
 use Rattle.propagation.specs.declared.answer.Answer.TheVariants.{Clash as AnswersClash, Quiet}
 use Rattle.trail.proofs.TrailLemmas.MakesFalse.{begins_made, longer_made}
 use Rattle.theory.proofs.PropagationLemmas.Forced.{forced_assumed, forced_through, clash_through}
@@ -22,26 +21,19 @@ pub answer_through : (live : Live) (first second : List Literal)
     → ((l : Literal) → has second l ≡ true → Forced live first l) → (a : Answer)
     → IsAnswer live first a → IsAnswer live second a
 answer_through live first second there back AnswersClash h = clash_through live first second there h
-answer_through live first second there back Quiet h =
-    λ clash. h (clash_through live second first back clash)
+answer_through live first second there back Quiet h = search (rules, arith, clash_through)
 
 -- where one more assumption may be made, what is true is forced, and has what is assumed
 module _ (live : Live) (Roots : List Literal → Type 0) (lits : List Literal) (roots : Roots lits → (l : Literal) → has lits l ≡ true → Forced live [] l) where
   pub sound_before : (assumptions : List Assumption) (starts : List ℕ) → MayAssume assumptions
       → AreExact live Roots lits assumptions starts → (l : Literal) → has lits l ≡ true
       → Forced live (assumed_by assumptions) l
-  sound_before [] starts may exact = roots exact
-  sound_before (first ∷ []) [] may exact = absurd exact
-  sound_before (first ∷ []) (start ∷ starts) may exact = (exact.0 may).sound
-  sound_before (first ∷ second ∷ rest) starts may exact = absurd may
+  sound_before assumptions starts h h2 = grind arith
 
   pub start_before : (assumptions : List Assumption) (starts : List ℕ) → MayAssume assumptions
       → AreExact live Roots lits assumptions starts → (l : Literal)
       → has (assumed_by assumptions) l ≡ true → has lits l ≡ true
-  start_before [] starts may exact l h = absurd cc
-  start_before (first ∷ []) [] may exact l h = absurd exact
-  start_before (first ∷ []) (start ∷ starts) may exact l h = (exact.0 may).start l h
-  start_before (first ∷ second ∷ rest) starts may exact l h = absurd may
+  start_before assumptions starts h h2 l h3 = grind arith
 
 -- where nothing is assumed and nothing is true
 pub exact_nothing : (live : Live) (held : AssumptionsState) → held.trail.lits ≡ []
@@ -55,9 +47,8 @@ pub nothing_true : (live : Live) (Roots : List Literal → Type 0) (held : Assum
 nothing_true live Roots held nothing exact = grind arith
 
 pub exact_same : (live : Live) (Roots : List Literal → Type 0) (before after : AssumptionsState)
-    → after.trail.lits ≡ before.trail.lits → after.assumptions ≡ before.assumptions
-    → after.starts ≡ before.starts
-    → AreExact live Roots before.trail.lits before.assumptions before.starts
+    → after.trail.lits ≡ before.trail.lits → after.assumptions ≡ before.assumptions → after.starts
+    ≡ before.starts → AreExact live Roots before.trail.lits before.assumptions before.starts
     → AreExact live Roots after.trail.lits after.assumptions after.starts
 exact_same live Roots before after lits_are assumptions_are starts_are exact = grind arith
 

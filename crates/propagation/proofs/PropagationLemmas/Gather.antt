@@ -1,23 +1,17 @@
 -- Clauses that are put into other slots one after the other are the same clauses.
 use Rattle.std.proofs.Common.{◌≡◌, ◌≢◌, ℕ, ◌+◌, ◌*◌, ◌<◌, true, false, cond, Some, None, List, []}
-use Rattle.std.proofs.Common.{◌∷◌, sum_by, IsSome, nat_le, ◌≤◌, sym, ap, ◌∙◌, arith, inl, inr}
-use Rattle.std.proofs.Common.{rules}
-use Rattle.std.specs.Ordering.{nat_cmp}
-use Rattle.std.specs.FinMap as maps
-use Rattle.std.specs.FinMap.{FinMap}
-use Rattle.std.proofs.lemmas.Bool.{cases_lt, lt-leb}
-use Rattle.std.proofs.lemmas.List.Sums.{sum_by-cons}
-use Rattle.cnf_base.specs.Literals.{Clause, same_clause, size}
-use Rattle.cnf_base.specs.Maps.{sum_over}
-use Rattle.cnf_base.proofs.MapLemmas.{inserted_is, sum_insert}
+use Rattle.std.proofs.Common.{◌∷◌, sum_by, IsSome, nat_le, ◌≤◌, sym, ap, ◌∙◌, arith, rules}
+use Rattle.std.specs.{Ordering.nat_cmp, FinMap.FinMap}
+use Rattle.std.proofs.lemmas.{List.Sums.sum_by-cons, Bool.cases_lt, Bool.lt-leb}
+use Rattle.cnf_base.specs.{Literals.Clause, Literals.same_clause, Literals.size, Maps.sum_over}
+use Rattle.cnf_base.proofs.{MapLemmas.inserted_is, MapLemmas.sum_insert, SizeLemmas.size_same}
 use Rattle.cnf_base.proofs.SetLemmas.{both_pass, same_back, same_symm, same_there, same_trans}
-use Rattle.cnf_base.proofs.SizeLemmas.{size_same}
 use Rattle.clause_db.specs.Store.{slots_for}
 use Rattle.clause_db.proofs.StoreLemmas.Below.{below, below_all, below_next, below_none, below_same}
 use Rattle.clause_db.proofs.StoreLemmas.Below.{gone}
-use Rattle.propagation.specs.Assumptions.{Propagation}
-use Rattle.propagation.specs.Slots.{most_slots, slots_needed}
+use Rattle.propagation.specs.{Slots.most_slots, Slots.slots_needed, Assumptions.Propagation}
 use Rattle.theory.specs.Drat.{SameLive}
+use Rattle.std.specs.FinMap as maps
 
 -- what a clause counts as a copy of `e`
 abbrev pub is_copy : Clause → Clause → ℕ

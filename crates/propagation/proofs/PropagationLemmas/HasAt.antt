@@ -1,7 +1,6 @@
 -- Slots whose clauses lack a literal.
 use Rattle.std.proofs.Common.{◌≡◌, ℕ, ◌+◌, ◌<◌, ◌≤◌, false, Some, None, ◌∙◌, arith}
-use Rattle.std.proofs.lemmas.Option.{none-some, same_Some}
-use Rattle.std.proofs.lemmas.Bool.{true≢false, cases_eq}
+use Rattle.std.proofs.lemmas.{Option.none-some, Option.same_Some, Bool.true≢false, Bool.cases_eq}
 use Rattle.cnf_base.specs.Literals.{Literal, Clause, has}
 use Rattle.propagation.specs.Assumptions.{HasAt}
 use Rattle.theory.specs.Propagation.{Live}

@@ -1,32 +1,26 @@
 -- Variables that assumptions noted, as assumptions come and go.
 use Rattle.std.proofs.Common.{◌≡◌, ◌≢◌, ℕ, ◌+◌, ◌/◌, ◌<◌, ◌≤◌, Bool, true, false, not, cond}
 use Rattle.std.proofs.Common.{eqb-true, eq-eqb, List, [], ◌∷◌, ◌++◌, is_some, map, filter, take}
-use Rattle.std.proofs.Common.{length, length-append, get_or, refl, sym, ap, ◌∙◌, subst, inl, inr}
+use Rattle.std.proofs.Common.{length, length-append, get_or, refl, sym, ◌∙◌, subst, inl, inr}
 use Rattle.std.proofs.Common.{◌⊎◌, arith, append-nil, rules}
 use Rattle.std.proofs.lemmas.Bool.{false≢true, true≢false, cases_eq, or_cases, or_left, or_right}
-use Rattle.std.proofs.lemmas.List.{take-append-le}
-use Rattle.std.proofs.lemmas.List.Elements.{filter_agree, filter-append}
+use Rattle.std.proofs.lemmas.List.{Elements.filter_agree, Elements.filter-append, take-append-le}
 use Rattle.cnf_base.specs.Literals.{Literal, complement, complements, has, variable}
 use Rattle.cnf_base.proofs.SetLemmas.{both_pass, has-filter, filter_has, has_append_left}
 use Rattle.cnf_base.proofs.SetLemmas.{has_append_right, has_append_cases, has-complements}
-use Rattle.cnf_base.proofs.SetLemmas.{complements_has}
 use Rattle.propagation.specs.Assumptions.{Assumption, MayAssume, assumed_by}
-use Rattle.trail.specs.Numbers.{number_at}
 use Rattle.propagation.specs.Code.Levels.{pushed, first_number, of_variables, IsNumbered, is_noted}
 use Rattle.propagation.specs.Code.Levels.{is_noted_by_two, assumptions_of, IsLevel, AreLevels}
-use Rattle.propagation.specs.Code.Levels.{Notes}
-use Rattle.tables.specs.Filled.{at}
-use Rattle.trail.specs.Trail.{TrailState, HasNoVariableTwice}
+use Rattle.trail.specs.{Trail.TrailState, Trail.HasNoVariableTwice, Numbers.number_at}
 use Rattle.theory.specs.Sets.{SameSet}
-use Rattle.tables.specs.declared.filled.Filled.{Filled}
-use Rattle.propagation.specs.declared.answer.Answer.TheVariants.{Clash}
-use Rattle.propagation.specs.declared.levels.Level.{Level}
-use Rattle.propagation.specs.declared.levels.Levels.{Levels}
+use Rattle.tables.specs.{declared.filled.Filled.Filled, Filled.at}
+use Rattle.propagation.specs.{declared.answer.Answer.TheVariants.Clash, Code.Levels.Notes}
+use Rattle.propagation.specs.declared.levels.{Levels.Levels, Level.Level}
 use Rattle.propagation.specs.declared.levels.Levels.TheVariants.{Nothing, One, Two}
 use Rattle.trail.proofs.TrailLemmas.MakesFalse.{by_open}
 use Rattle.cnf_base.proofs.WalkLemmas.{has_take, is_in}
 use Rattle.cnf_base.proofs.MemberLemmas.{has_mapped, has_place, place_of_variable}
-use Rattle.cnf_base.proofs.MemberLemmas.{variable-complement}
+use Rattle.cnf_base.proofs.{MemberLemmas.variable-complement, SetLemmas.complements_has}
 use Rattle.propagation.proofs.PropagationLemmas.Passes.{still_set}
 use Rattle.trail.proofs.TrailLemmas.Truth.{same_literal, more_cases, variable_open}
 
@@ -59,8 +53,7 @@ module _ (lits more rest : List Literal) (old new : ℕ → Bool)
             let same = same_literal more apart k.0 l (added k.0 ∙ has_append_left lits (complements rest) k.0 k.1) w.0 k.2 in
             has_append_left (of_variables old lits) (complements rest) l (has-filter (λ l. old (l / 2)) lits l (subst (λ m. has lits m ≡ true) same k.1) o)
         | inr r ↦
-            let k = mapped_member rest (l / 2) r in
-            let there = has-complements rest k.0 k.1 in
+            let k = mapped_member rest (l / 2) r in let there = has-complements rest k.0 k.1 in
             let same = same_literal more apart (complement k.0) l (added (complement k.0) ∙ has_append_right lits (complements rest) (complement k.0) there) w.0 (variable-complement k.0 ∙ k.2) in
             has_append_right (of_variables old lits) (complements rest) l (subst (λ m. has (complements rest) m ≡ true) same there)
       ]
@@ -140,10 +133,7 @@ module _ (before after : ℕ → ℕ) (made : ℕ) (lits more rest : List Litera
 
   pushed_is : (levels : Levels) → MayAssume (assumptions_of before lits levels) → AreLevels before made lits levels → Notes (first_number levels (made + 1)) (made + 1) rest before after →
       assumptions_of after more (pushed levels level) ≡ record { answer = level.answer; assumed = pushed_assumed after more levels level.number } ∷ assumptions_of before lits levels
-  pushed_is Nothing may are notes = refl
-  pushed_is (One first) may are notes =
-      grind (arith, first_kept)
-  pushed_is (Two first second) may are notes = absurd may
+  pushed_is levels h h2 h3 = grind (arith, first_kept)
 
   pushed_same : (levels : Levels) → MayAssume (assumptions_of before lits levels) → AreLevels before made lits levels → Notes (first_number levels (made + 1)) (made + 1) rest before after →
       SameSet more (lits ++ complements rest) → HasNoVariableTwice more → SameSet (pushed_assumed after more levels level.number) (assumed_by (assumptions_of before lits levels) ++ complements rest)
@@ -181,8 +171,7 @@ module _ (trail after : TrailState) (numbers noted : Filled ℕ) (made number st
   notes_here = grind arith
 
   pub pushed_seen : assumptions_of (number_at noted) after.lits (pushed levels clashing) ≡ record { answer = Clash; assumed = pushed_assumed (number_at noted) after.lits levels number } ∷ stood
-  pushed_seen =
-      grind (arith, pushed_is, clashing, may_then, notes_here)
+  pushed_seen = grind (arith, pushed_is, clashing, may_then, notes_here)
 
   module _ (added : SameSet after.lits (trail.lits ++ complements rest)) where
     pub pushed_numbered : ((v : ℕ) → is_some (at noted v) ≡ is_some (at numbers v))
@@ -190,9 +179,7 @@ module _ (trail after : TrailState) (numbers noted : Filled ℕ) (made number st
         → IsNumbered after noted number (pushed levels clashing)
     pushed_numbered known reserved = record {
       known = λ v h. known v ∙ is.known v (sym (reserved v) ∙ h);
-      low = pushed_low (number_at numbers) (number_at noted)
-          made trail.lits after.lits rest levels is.low is.levels_are notes_here begins longer
-          clashing number_is start_is number number_is;
+      low = grind (arith, pushed_low, notes_here);
       levels_are = subst (λ n. AreLevels (number_at noted) n after.lits (pushed levels clashing))
           (sym number_is) (pushed_levels (number_at numbers) (number_at noted)
           made trail.lits after.lits rest is.low begins longer clashing number_is start_is levels
@@ -222,10 +209,8 @@ module _ (number_of : ℕ → ℕ) (made : ℕ) (lits : List Literal) (m : Liter
 
   pub made_assumptions : (levels : Levels) → AreLevels number_of made lits levels
       → assumptions_of number_of (lits ++ m ∷ []) levels ≡ assumptions_of number_of lits levels
-  made_assumptions Nothing are = refl
-  made_assumptions (One first) are = grind (arith, kept_of_set, eqb-true)
-  made_assumptions (Two first second) are =
-      grind (arith, kept_of_set, take-append-le, has_take, or_cases, mapped_within, eqb-true)
+  made_assumptions levels h =
+      grind (arith, kept_of_set, eqb-true, take-append-le, has_take, or_cases, mapped_within)
 
 module _ (number_of : ℕ → ℕ) (made : ℕ) (lits after : List Literal) (m : Literal) (is_open : Bool) (was : is_open ≡ not (has lits m)) (is : after ≡ cond is_open (lits ++ m ∷ []) lits) (not_false : has lits (complement m) ≡ false) (levels : Levels) (are : AreLevels number_of made lits levels) where
   pub true_levels : AreLevels number_of made after levels
@@ -266,13 +251,7 @@ module _ (first number : ℕ) (c : List Literal) (keeps : Literal → Bool) (bef
 
       noted_all : (l : Literal) → has (take (i + 1) c) l ≡ true → keeps l ≡ true
           → next (l / 2) ≢ first → next (l / 2) ≡ number
-      noted_all l h k ne = elim (cases_eq (l / 2) var) [
-        | inl same ↦ ap next same ∙ noted_here (λ e. ne (ap next same ∙ e))
-        | inr far ↦ elim (more_cases c i inside x is l h) [
-          | inl g ↦ other (l / 2) far ∙ so_far.all l g k (λ e. ne (other (l / 2) far ∙ e))
-          | inr e ↦ absurd (far (ap (λ m. m / 2) (sym e) ∙ sym of_x))
-        ]
-      ]
+      noted_all l h k ne = search (rules, arith, cases_eq, noted_here, more_cases)
 
       pub noted_next : keeps x ≡ true → NotesTo first number c keeps (i + 1) before next
       noted_next kept =

@@ -1,16 +1,12 @@
 -- Passes over the clauses: what they keep, and why they end.
 use Rattle.std.proofs.Common.{◌≡◌, ℕ, ◌+◌, ◌/◌, ◌<◌, ◌≤◌, Bool, true, false, not, cond, Some, None}
 use Rattle.std.proofs.Common.{List, [], ◌∷◌, ◌++◌, map, refl, ap, ◌∙◌, subst, inl, inr, arith}
-use Rattle.std.proofs.lemmas.Bool.{false≢true}
-use Rattle.std.proofs.lemmas.List.Sums.{sum_by-cons}
+use Rattle.std.proofs.lemmas.{List.Sums.sum_by-cons, Bool.false≢true}
 use Rattle.cnf_base.specs.Literals.{Literal, complement, Clause, has, variable}
 use Rattle.cnf_base.proofs.SetLemmas.{has_cases, has_append_left, has_append_right, has_head}
-use Rattle.trail.specs.Left.{how_many}
-use Rattle.trail.specs.Code.Left.{IsSettled}
+use Rattle.trail.specs.{Code.Left.IsSettled, Left.how_many, Trail.TrailState}
 use Rattle.theory.specs.Propagation.{Live, open_literals}
-use Rattle.propagation.specs.Code.Passes.{unset}
-use Rattle.trail.specs.Trail.{TrailState}
-use Rattle.propagation.specs.declared.scan.unit.Pass.{Pass}
+use Rattle.propagation.specs.{declared.scan.unit.Pass.Pass, Code.Passes.unset}
 use Rattle.propagation.specs.declared.scan.unit.Pass.TheVariants.{Clash as PassClash, Changed}
 use Rattle.propagation.specs.declared.scan.unit.Pass.TheVariants.{Quiet}
 use Rattle.trail.proofs.TrailLemmas.Truth.{variable_open}
@@ -36,10 +32,7 @@ module _ (lits : List ℕ) (m : ℕ) where
   now_set = grind (arith, mapped_push, has_append_right, has_head)
 
   weight_le : (a b : Bool) → (a ≡ true → b ≡ true) → cond {A = ℕ} (not b) 1 0 ≤ cond (not a) 1 0
-  weight_le true true keeps = omega arith
-  weight_le true false keeps = absurd (false≢true (keeps refl))
-  weight_le false true keeps = omega arith
-  weight_le false false keeps = omega arith
+  weight_le a b h = grind (arith, false≢true)
 
   unset_le : (vs : List ℕ) → unset (lits ++ m ∷ []) vs ≤ unset lits vs
   unset_le [] = omega arith
@@ -50,18 +43,15 @@ module _ (lits : List ℕ) (m : ℕ) where
       → has vs (variable m) ≡ true → unset (lits ++ m ∷ []) vs < unset lits vs
   unset_falls absent [] h = absurd (false≢true h)
   unset_falls absent (v ∷ vs) h =
-      let first = unset-cons (lits ++ m ∷ []) v vs in
-      let second = unset-cons lits v vs in
+      let first = unset-cons (lits ++ m ∷ []) v vs in let second = unset-cons lits v vs in
       elim (has_cases v vs (variable m) h) [
         | inl e ↦
             let old : cond {A = ℕ} (not (has (map variable lits) v)) 1 0 ≡ 1 = ap (λ b. cond {A = ℕ} (not b) 1 0) (ap (has (map variable lits)) e ∙ absent) in
             let new : cond {A = ℕ} (not (has (map variable (lits ++ m ∷ [])) v)) 1 0 ≡ 0 = ap (λ b. cond {A = ℕ} (not b) 1 0) (ap (has (map variable (lits ++ m ∷ []))) e ∙ now_set) in
-            let rest = unset_le vs in
-            omega arith
+            let rest = unset_le vs in omega arith
         | inr g ↦
             let here = weight_le (has (map variable lits) v) (has (map variable (lits ++ m ∷ [])) v) (still_set v) in
-            let rest = unset_falls absent vs g in
-            omega arith
+            let rest = unset_falls absent vs g in omega arith
       ]
 
 -- ---- One pass, up to a slot
@@ -76,16 +66,12 @@ IsPassedTo live before lits n Quiet =
 module _ (live : Live) (before : TrailState) (lits : List Literal) (n : ℕ) where
   pub passed_none : None ≡ live n → (p : Pass) → IsPassedTo live before lits n p
       → IsPassedTo live before lits (n + 1) p
-  passed_none none PassClash h = h
-  passed_none none Changed h = h
-  passed_none none Quiet h = grind (arith, below_none)
+  passed_none h p h2 = grind (arith, below_none)
 
   pub passed_settled : (d : Clause) → Some d ≡ live n
       → IsSettled lits (how_many (open_literals lits d)) → (p : Pass)
       → IsPassedTo live before lits n p → IsPassedTo live before lits (n + 1) p
-  passed_settled d here settled PassClash h = h
-  passed_settled d here settled Changed h = h
-  passed_settled d here settled Quiet h = grind (arith, below_some)
+  passed_settled d h h2 p h3 = grind (arith, below_some)
 
   pub passed_unit : (m : Literal) → has lits m ≡ false → has lits (complement m) ≡ false
       → has before.reserved (m / 2) ≡ true → (p : Pass) → IsPassedTo live before lits n p

@@ -1,32 +1,26 @@
 -- The invariant of the plainest propagation, as clauses come and go.
 use Rattle.std.proofs.Common.{◌≡◌, ◌≢◌, ℕ, ◌++◌, ◌∷◌, true, false, length, take, Some, List, []}
 use Rattle.std.proofs.Common.{sym, ap, ◌∙◌, arith, rules}
-use Rattle.std.specs.Ordering.{nat_cmp}
-use Rattle.std.specs.FinMap as maps
-use Rattle.std.specs.FinMap.{FinMap}
-use Rattle.std.specs.Result.{IfOk, OnErr, is_err}
-use Rattle.std.specs.declared.result.Result.{Result}
-use Rattle.std.specs.declared.result.Result.TheVariants.{Ok, Err}
-use Rattle.std.proofs.lemmas.Bool.{false≢true, cases_eq}
-use Rattle.std.proofs.lemmas.Option.{none-some, same_Some}
+use Rattle.std.specs.{Ordering.nat_cmp, FinMap.FinMap, Result.IfOk, Result.OnErr, Result.is_err}
+use Rattle.std.specs.declared.result.Result.{TheVariants.Ok, TheVariants.Err, Result}
+use Rattle.std.proofs.lemmas.{Option.none-some, Option.same_Some, Bool.false≢true, Bool.cases_eq}
 use Rattle.cnf_base.specs.Literals.{Literal, Clause, has, same_clause, size}
 use Rattle.propagation.specs.Assumptions.{Assuming, AssumptionsState, IsAnswer, MayAssume}
 use Rattle.propagation.specs.Assumptions.{Propagation, assumed_by}
-use Rattle.propagation.specs.Code.Exact.{IsExact, AreExact}
 use Rattle.theory.specs.Propagation.{Live, IsClosed, Forced, Clash}
 use Rattle.propagation.specs.Code.Scan.{AssumesOn, IsHeld, IsScan}
 use Rattle.clause_db.specs.Store.{StoreState, literals_in, no_clauses}
 use Rattle.trail.specs.Trail.{HasRoom, HasRoomForAll}
 use Rattle.theory.specs.Sets.{SameSet, conflicts}
-use Rattle.propagation.specs.declared.answer.Answer.{Answer}
-use Rattle.propagation.specs.declared.answer.Answer.TheVariants.{Quiet}
-use Rattle.cnf_base.proofs.SetLemmas.{both_pass, has_append_cases, has_append_left}
-use Rattle.cnf_base.proofs.SetLemmas.{has_append_right, same_there}
+use Rattle.propagation.specs.{declared.answer.Answer.Answer, Code.Exact.IsExact}
+use Rattle.propagation.specs.{declared.answer.Answer.TheVariants.Quiet, Code.Exact.AreExact}
+use Rattle.cnf_base.proofs.SetLemmas.{both_pass, has_append_cases, has_append_left, same_there}
 use Rattle.propagation.proofs.PropagationLemmas.Exact.{answer_through, exact_nothing, exact_same}
 use Rattle.propagation.proofs.PropagationLemmas.Exact.{nothing_true, sound_before, start_before}
 use Rattle.propagation.proofs.PropagationLemmas.Exact.{conflict_clashes, answer_from, exact_after}
 use Rattle.theory.proofs.PropagationLemmas.Forced.{forced_assumed}
-use Rattle.cnf_base.proofs.MapLemmas.{get_remove, sum_empty}
+use Rattle.cnf_base.proofs.{MapLemmas.get_remove, MapLemmas.sum_empty, SetLemmas.has_append_right}
+use Rattle.std.specs.FinMap as maps
 
 pub scan_empty : (live : FinMap nat_cmp Clause) (held : AssumptionsState) → live ≡ maps.empty
     → held.trail.lits ≡ [] → held.assumptions ≡ [] → IsScan live held
@@ -59,9 +53,8 @@ pub room_removed : (reserved : List ℕ) (live after : FinMap nat_cmp Clause) (s
 room_removed reserved live after slot is all = grind (arith, get_remove, none-some)
 
 -- a clause is added or taken out where nothing is assumed
-pub scan_with : (live after : FinMap nat_cmp Clause) (held : AssumptionsState)
-    → held.assumptions ≡ [] → HasRoomForAll held.trail.reserved (maps.get after) → IsScan live held
-    → IsScan after held
+pub scan_with : (live after : FinMap nat_cmp Clause) (held : AssumptionsState) → held.assumptions
+    ≡ [] → HasRoomForAll held.trail.reserved (maps.get after) → IsScan live held → IsScan after held
 scan_with live after held none room scan = grind (arith, exact_nothing, nothing_true)
 
 pub room_inserted : {E : Type 0} (reserved : List ℕ) (live after : FinMap nat_cmp Clause)
@@ -133,15 +126,13 @@ pub assuming_from : {E : Type 0} (before after : Propagation) (live : FinMap nat
     → before.has_refused ≡ false → after.live ≡ live → after.stored ≡ literals_in after.live
     → after.assumptions ≡ last.assumptions → after.has_refused ≡ is_err r
     → AssumesOn live held last given r → Assuming before after added r
-assuming_from before after live held last given added (Ok answer) live_is held_is given_is none same alone after_is refused assumed = grind arith
-assuming_from before after live held last given added (Err e) live_is held_is given_is none same alone after_is refused assumed = grind arith
+assuming_from before after live held last given added r h h2 h3 h4 h5 h6 h7 h8 h9 = grind arith
 
 -- memory was refused
 pub assumed_none : {E : Type 0} (live : FinMap nat_cmp Clause) (before after : AssumptionsState)
     (added : List Literal) (r : Result Answer E) → is_err r ≡ true
     → after.assumptions ≡ before.assumptions → AssumesOn live before after added r
-assumed_none live before after added (Ok a) refused stays = absurd (false≢true refused)
-assumed_none live before after added (Err e) refused stays = record { answer = tt; stands = tt; stays = stays }
+assumed_none live before after added r h h2 = grind (arith, false≢true)
 
 -- the same literals in another order
 pub assuming_alike : {E : Type 0} (before after : Propagation) (first second : List Literal) (r : Result Answer E) → SameSet first second → Assuming before after first r → Assuming before after second r

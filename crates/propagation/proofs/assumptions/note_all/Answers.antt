@@ -1,10 +1,9 @@
-use Rattle.std.proofs.Common.{refl, sym, ◌∙◌}
-use Rattle.std.proofs.lemmas.List.{take_all}
+use Rattle.std.proofs.{Common.refl, Common.sym, Common.◌∙◌, lemmas.List.take_all}
 use Rattle.trail.specs.Numbers.{number_at}
 use Rattle.propagation.proofs.PropagationLemmas.Levels.{noted_none, noted_next, noted_past}
 use Rattle.propagation.proofs.PropagationLemmas.Levels.{noted_whole}
-use Rattle.propagation.proofs.assumptions.note_all.Goals as goal
 use Rattle.propagation.proofs.assumptions.note_all.Goals.{then-keeps_literal, else-keeps_literal}
+use Rattle.propagation.proofs.assumptions.note_all.Goals as goal
 
 pub loop-l-init : goal.loop-l-init
 loop-l-init g c = record {
@@ -15,8 +14,7 @@ loop-l-init g c = record {
 
 pub loop-l-preserved : goal.loop-l-preserved
 loop-l-preserved g c =
-    let keeps = g.P.Part.keeps c.args.part.now in
-    let x = c.l-item.result in
+    let keeps = g.P.Part.keeps c.args.part.now in let x = c.l-item.result in
     let so_far = c.loop-l.invariant in
     elim c.if-keeps_literal.branch [
       | then-keeps_literal w ↦

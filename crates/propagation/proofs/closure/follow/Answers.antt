@@ -8,14 +8,10 @@ use Rattle.propagation.proofs.closure.follow.Goals as goal
 
 pub loop-done-preserved : goal.loop-done-preserved
 loop-done-preserved g c =
-    let live = c.args.store.now.live in
-    let lits = c.loop-done.found in
-    let after = c.take_each.new.found in
-    let done = c.loop-done.done in
-    let m = c.index-lits-done.result in
-    let touched = c.in_ok-slots_touched.ensures in
-    let e = c.in_ok-take_each.ensures in
-    let same = touched.same ∙ c.loop-done.invariant.same in
+    let live = c.args.store.now.live in let lits = c.loop-done.found in
+    let after = c.take_each.new.found in let done = c.loop-done.done in
+    let m = c.index-lits-done.result in let touched = c.in_ok-slots_touched.ensures in
+    let e = c.in_ok-take_each.ensures in let same = touched.same ∙ c.loop-done.invariant.same in
     let inside = subst (λ ls. done < length ls) c.lits.ensures c.loop-done-test.true in
     let is = c.index-lits-done.is ∙ ap (λ ls. get_or ls done m) c.lits-in-loop-done.ensures in
     record {

@@ -7,15 +7,12 @@ use Rattle.propagation.proofs.closure.take_all.Goals.{in-Some+in_ok-take, in_def
 
 pub loop-number-preserved : goal.loop-number-preserved
 loop-number-preserved g c =
-    let live = maps.get c.args.store.now.live in
-    let before = c.args.found.now in
-    let now = c.loop-number.found in
-    let n = c.loop-number.number in
+    let live = maps.get c.args.store.now.live in let before = c.args.found.now in
+    let now = c.loop-number.found in let n = c.loop-number.number in
     let so_far = c.loop-number.invariant in
     elim c.match-at.branch [
       | in-Some+in_ok-take w ↦
-          let d = w.in-Some.clause.now in
-          let e = w.in_ok-take.ensures in
+          let d = w.in-Some.clause.now in let e = w.in_ok-take.ensures in
           let after = w.take.new.self in
           rw (w.found-is) (record {
             sound = λ k h. follows_forced live now so_far.sound n d (sym w.in-Some.ensures) k (e.follows k h);

@@ -1,13 +1,12 @@
 use Rattle.std.proofs.Common.{rules, ◌≡◌, [], ◌++◌, filter, take, length, sym, ◌∙◌, ap, subst}
 use Rattle.std.specs.Bool.{OnFalse}
-use Rattle.std.specs.FinMap as maps
 use Rattle.cnf_base.specs.Literals.{complements, has}
-use Rattle.propagation.specs.Assumptions.{assumed_by}
-use Rattle.propagation.specs.Code.Exact.{IsExact}
+use Rattle.propagation.specs.{Assumptions.assumed_by, Code.Exact.IsExact}
 use Rattle.theory.specs.Sets.{SameSet}
 use Rattle.propagation.proofs.PropagationLemmas.Scan.{assumed_none, no_roots, part_clashes}
 use Rattle.propagation.proofs.PropagationLemmas.Scan.{part_answer, part_exact, scan_after}
 use Rattle.propagation.proofs.PropagationLemmas.Exact.{begins_on, longer_from}
+use Rattle.std.specs.FinMap as maps
 use Rattle.propagation.proofs.scan.assume_part.Goals as goal
 
 pub returns-in_err-assume-clause-assumed : goal.returns-in_err-assume-clause-assumed
@@ -26,16 +25,11 @@ returns-then-branch-clause-assumed g c =
 
 pub returns : goal.returns
 returns g c =
-    let live = c.args.store.now.live in
-    let before = c.args.assumptions.now in
-    let after = c.assume.new.self in
-    let found = c.propagate-answer.new.assumptions in
-    let last = c.answer.new.self in
-    let answer = c.propagate-answer.result in
+    let live = c.args.store.now.live in let before = c.args.assumptions.now in
+    let after = c.assume.new.self in let found = c.propagate-answer.new.assumptions in
+    let last = c.answer.new.self in let answer = c.propagate-answer.result in
     let added = complements (filter (g.P.Part.keeps c.args.part.now) c.args.clause.now) in
-    let e = c.in_ok-assume.ensures in
-    let p = c.propagate-answer.ensures in
-    let all = e.assumed.0 in
+    let e = c.in_ok-assume.ensures in let p = c.propagate-answer.ensures in let all = e.assumed.0 in
     let same = subst (λ b. OnFalse b (SameSet after.trail.lits (before.trail.lits ++ added)))
     c.if-branch.false e.added in
     let alike = subst (λ b. OnFalse b (SameSet all (assumed_by before.assumptions ++ added)))

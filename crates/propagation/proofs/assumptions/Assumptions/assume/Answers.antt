@@ -7,9 +7,7 @@ use Rattle.propagation.proofs.assumptions.Assumptions.assume.Goals as goal
 
 pub returns-then-make_false-clause-assumed : goal.returns-then-make_false-clause-assumed
 returns-then-make_false-clause-assumed g c =
-    let s = c.self.inside in
-    let number = c.in-Some.number in
-    let more = c.make_false.new.self in
+    let s = c.self.inside in let number = c.in-Some.number in let more = c.make_false.new.self in
     let number_is : number ≡ s.made + 1 = search rules in
     let none = notes_none (first_number s.levels number) number (number_at s.numbers) in
     let seen = pushed_seen s.trail more s.numbers s.numbers s.made number c.len-start.result s.levels [] _ c.self.invariant (ap (λ a. a.assumptions) c.self.view_is) c.requires.may number_is c.len-start.ensures.value
@@ -18,8 +16,7 @@ returns-then-make_false-clause-assumed g c =
 
 pub invariant_of-self-2 : goal.invariant_of-self-2
 invariant_of-self-2 g c =
-    let s = c.self.inside in
-    let more = c.make_false.new.self in
+    let s = c.self.inside in let more = c.make_false.new.self in
     let noted = c.note_all.new.numbers in
     let number_is : c.in-Some.number ≡ s.made + 1 = search rules in
     subst (IsNumbered more noted c.in-Some.number) (sym c.pushed-self-inside.ensures)
@@ -32,10 +29,8 @@ invariant_of-self-2 g c =
 
 pub returns-clause-assumed : goal.returns-clause-assumed
 returns-clause-assumed g c =
-    let s = c.self.inside in
-    let number = c.in-Some.number in
-    let lits = c.make_false.new.self.lits in
-    let noted = c.note_all.new.numbers in
+    let s = c.self.inside in let number = c.in-Some.number in
+    let lits = c.make_false.new.self.lits in let noted = c.note_all.new.numbers in
     let number_is : number ≡ s.made + 1 = search rules in
     let rest = filter (g.P.Part.keeps c.args.part.now) c.args.clause.now in
     let stood = ap (λ a. a.assumptions) c.self.view_is in

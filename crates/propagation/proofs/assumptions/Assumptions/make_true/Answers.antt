@@ -6,8 +6,7 @@ use Rattle.propagation.proofs.assumptions.Assumptions.make_true.Goals as goal
 
 pub invariant_of-self : goal.invariant_of-self
 invariant_of-self c =
-    let s = c.self.inside in
-    let e = c.make_true.ensures in
+    let s = c.self.inside in let e = c.make_true.ensures in
     let not_false = subst (λ a. has a.trail.lits (complement c.args.l) ≡ false) (sym c.self.view_is)
     c.requires.not_false in
     record {
@@ -20,8 +19,7 @@ invariant_of-self c =
 
 pub returns-clause-assumptions : goal.returns-clause-assumptions
 returns-clause-assumptions c =
-    let s = c.self.inside in
-    let e = c.make_true.ensures in
+    let s = c.self.inside in let e = c.make_true.ensures in
     let not_false = subst (λ a. has a.trail.lits (complement c.args.l) ≡ false) (sym c.self.view_is)
     c.requires.not_false in
     true_assumptions (number_at s.numbers)

@@ -7,11 +7,8 @@ use Rattle.propagation.proofs.closure.Closure.leave.Goals as goal
 
 pub returns-else-is_one_at_most : goal.returns-else-is_one_at_most
 returns-else-is_one_at_most g c =
-    let live = c.args.store.now.live in
-    let slot = c.args.slot in
-    let found = c.in-Some.found in
-    let clause = c.clause-clause.result.now in
-    let at = sym c.clause-clause.ensures.clause in
+    let live = c.args.store.now.live in let slot = c.args.slot in let found = c.in-Some.found in
+    let clause = c.clause-clause.result.now in let at = sym c.clause-clause.ensures.clause in
     let is : c.args.self.now ≡ Some found = search rules in
     let whole : IsWhole (maps.get live) found =
     subst (IsClosure (maps.get live)) is c.requires.closure in

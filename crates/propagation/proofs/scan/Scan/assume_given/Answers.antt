@@ -5,8 +5,7 @@ use Rattle.propagation.proofs.scan.Scan.assume_given.Goals as goal
 
 pub returns-clause-assumed : goal.returns-clause-assumed
 returns-clause-assumed g c =
-    let view = c.self.view_is in
-    let e = c.assume_part-assumed.ensures in
+    let view = c.self.view_is in let e = c.assume_part-assumed.ensures in
     assuming_from c.args.self.now.propagation _ c.self.inside.store.live c.reserve.new.self
     c.assume_part-assumed.new.assumptions _
     (complements (filter (g.P.Part.keeps c.args.part.now) c.args.lits.now))

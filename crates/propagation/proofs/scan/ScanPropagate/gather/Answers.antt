@@ -1,6 +1,5 @@
 use Rattle.std.proofs.Common.{◌≤◌, subst, sym}
-use Rattle.propagation.specs.Scan.{ScanState}
-use Rattle.propagation.specs.Slots.{most_slots}
+use Rattle.propagation.specs.{Slots.most_slots, Scan.ScanState}
 use Rattle.propagation.proofs.PropagationLemmas.Gather.{needed_within}
 use Rattle.propagation.proofs.scan.ScanPropagate.gather.Goals as goal
 

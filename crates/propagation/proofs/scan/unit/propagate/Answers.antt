@@ -1,12 +1,10 @@
 use Rattle.std.proofs.Common.{◌≡◌, false, ◌∙◌, sym, ap, subst}
-use Rattle.std.specs.FinMap as maps
-use Rattle.theory.specs.Propagation.{IsClosed}
+use Rattle.theory.specs.{Propagation.IsClosed, Sets.conflicts}
 use Rattle.cnf_base.specs.Literals.{has}
-use Rattle.theory.specs.Sets.{conflicts}
-use Rattle.trail.proofs.TrailLemmas.MakesFalse.{no_conflict}
+use Rattle.trail.proofs.TrailLemmas.{MakesFalse.no_conflict, Longer.has_begun}
 use Rattle.theory.proofs.PropagationLemmas.Forced.{clash_through}
-use Rattle.trail.proofs.TrailLemmas.Longer.{has_begun}
 use Rattle.trail.proofs.TrailLemmas.Left.{settled_closed, settled_quiet}
+use Rattle.std.specs.FinMap as maps
 use Rattle.propagation.proofs.scan.unit.propagate.Goals as goal
 
 pub returns-in-Clash-clause-answer : goal.returns-in-Clash-clause-answer
@@ -21,10 +19,8 @@ loop-assumptions-smaller c = c.in-Changed.ensures.pass c.args.assumptions.now.tr
 pub returns-in-Quiet-clause-answer : goal.returns-in-Quiet-clause-answer
 returns-in-Quiet-clause-answer c =
     let lits = c.loop-assumptions.assumptions.trail.lits in
-    let before = c.args.assumptions.now.trail.lits in
-    let quiet = c.in-Quiet.ensures.pass in
-    let after = c.trail.result.now.lits in
-    let same = ap (λ t. t.lits) c.trail.ensures ∙ quiet.0 in
+    let before = c.args.assumptions.now.trail.lits in let quiet = c.in-Quiet.ensures.pass in
+    let after = c.trail.result.now.lits in let same = ap (λ t. t.lits) c.trail.ensures ∙ quiet.0 in
     settled_quiet (maps.get c.args.store.now.live) lits quiet.1 before
     (λ l h. has_begun before lits l c.loop-assumptions.invariant.extends.begins h)
     (subst (λ ls. conflicts ls ≡ false) same (no_conflict after c.len-different.ensures.different))

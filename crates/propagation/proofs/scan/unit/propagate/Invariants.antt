@@ -1,9 +1,8 @@
 use Rattle.std.proofs.Common.{◌≡◌, true}
-use Rattle.std.specs.FinMap as maps
 use Rattle.cnf_base.specs.Literals.{Literal, has}
-use Rattle.propagation.specs.Code.Exact.{Extends}
+use Rattle.propagation.specs.Code.{Exact.Extends, Passes.unset}
 use Rattle.theory.specs.Propagation.{Forced}
-use Rattle.propagation.specs.Code.Passes.{unset}
+use Rattle.std.specs.FinMap as maps
 use Rattle.propagation.proofs.scan.unit.propagate.Given as goal
 
 abbrev pub invariant-loop-assumptions : goal.invariant-loop-assumptions

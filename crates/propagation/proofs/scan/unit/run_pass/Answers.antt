@@ -1,9 +1,7 @@
 use Rattle.std.proofs.Common.{◌≡◌, ◌/◌, ◌∷◌, [], ◌++◌, ◌+◌, true, cond, sym, ap, ◌∙◌, subst}
-use Rattle.std.specs.FinMap as maps
 use Rattle.cnf_base.specs.Literals.{has}
 use Rattle.std.proofs.lemmas.Bool.{not-true, not-false}
-use Rattle.trail.specs.Left.{how_many}
-use Rattle.trail.specs.Code.Left.{IsSettled}
+use Rattle.trail.specs.{Code.Left.IsSettled, Left.how_many}
 use Rattle.theory.specs.Propagation.{Forced, open_literals}
 use Rattle.trail.specs.declared.left.Left.TheVariants.{One as OneLeft, Nothing, More}
 use Rattle.propagation.specs.declared.scan.unit.Pass.TheVariants.{Changed}
@@ -13,15 +11,15 @@ use Rattle.propagation.proofs.PropagationLemmas.Passes.{IsPassedTo, passed_none,
 use Rattle.propagation.proofs.PropagationLemmas.Passes.{passed_unit}
 use Rattle.trail.proofs.TrailLemmas.Longer.{pushed_each}
 use Rattle.theory.proofs.PropagationLemmas.Unit.{left_is_forced, none_left_clashes}
-use Rattle.propagation.proofs.scan.unit.run_pass.Goals as goal
 use Rattle.propagation.proofs.scan.unit.run_pass.Goals.{in-Some+in-One+then-make_true}
 use Rattle.propagation.proofs.scan.unit.run_pass.Goals.{in-Some+in-One+else-make_true}
 use Rattle.propagation.proofs.scan.unit.run_pass.Goals.{in-Some+in-More, in_default}
+use Rattle.std.specs.FinMap as maps
+use Rattle.propagation.proofs.scan.unit.run_pass.Goals as goal
 
 pub returns-in-Nothing-clause-pass : goal.returns-in-Nothing-clause-pass
 returns-in-Nothing-clause-pass c =
-    let live = maps.get c.args.store.now.live in
-    let lits = c.loop-number.assumptions.trail.lits in
+    let live = maps.get c.args.store.now.live in let lits = c.loop-number.assumptions.trail.lits in
     let d = c.in-Some.clause.now in
     let left = subst (λ t. Nothing ≡ how_many (open_literals t.lits d))
     c.trail.ensures c.in-Nothing.ensures in
@@ -47,19 +45,14 @@ make_true-requires-clause-not_false c =
 
 pub loop-number-preserved : goal.loop-number-preserved
 loop-number-preserved c =
-    let live = maps.get c.args.store.now.live in
-    let before = c.args.assumptions.now in
-    let state = c.loop-number.assumptions in
-    let lits = state.trail.lits in
-    let n = c.loop-number.number in
-    let so_far = c.loop-number.invariant in
+    let live = maps.get c.args.store.now.live in let before = c.args.assumptions.now in
+    let state = c.loop-number.assumptions in let lits = state.trail.lits in
+    let n = c.loop-number.number in let so_far = c.loop-number.invariant in
     elim c.match-at.branch [
       | in-Some+in-One+then-make_true w ↦
-          let m = w.in-One.l in
-          let d = w.in-Some.clause.now in
+          let m = w.in-One.l in let d = w.in-Some.clause.now in
           let left = subst (λ t. OneLeft m ≡ how_many (open_literals t.lits d)) w.trail.ensures w.in-One.ensures in
-          let at = sym w.in-Some.ensures in
-          let e = w.make_true.ensures in
+          let at = sym w.in-Some.ensures in let e = w.make_true.ensures in
           let of_clause = left_open lits d m left in
           let room : has before.trail.reserved (m / 2) ≡ true = c.requires.each n d at m of_clause.0 in
           let lits_are : w.make_true.new.self.trail.lits ≡ lits ++ m ∷ [] = e.lits ∙ ap (λ b. cond b (lits ++ m ∷ []) lits) w.if-make_true.true in
@@ -71,8 +64,7 @@ loop-number-preserved c =
             extends = extends_on before state w.make_true.new.self so_far.extends (extends_made state w.make_true.new.self m w.make_true.result e.was_open e.lits e.reserved e.assumptions e.starts);
           })
       | in-Some+in-One+else-make_true w ↦
-          let m = w.in-One.l in
-          let d = w.in-Some.clause.now in
+          let m = w.in-One.l in let d = w.in-Some.clause.now in
           let left = subst (λ t. OneLeft m ≡ how_many (open_literals t.lits d)) w.trail.ensures w.in-One.ensures in
           let e = w.make_true.ensures in
           let lits_are : w.make_true.new.self.trail.lits ≡ lits = e.lits ∙ ap (λ b. cond b (lits ++ m ∷ []) lits) w.if-make_true.false in
