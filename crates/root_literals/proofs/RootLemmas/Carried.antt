@@ -1,30 +1,28 @@
 -- What is kept of the literals that are true with nothing assumed, past a propagation too.
 use Rattle.std.proofs.Common.{arith, rules, ◌≡◌, ℕ, ◌/◌, true, false, Option, Some, is_some, List}
-use Rattle.std.proofs.Common.{[], ◌∷◌, length, take, refl, sym, ap, ◌∙◌, subst}
+use Rattle.std.proofs.Common.{[], ◌∷◌, length, take, sym, ap, ◌∙◌, subst}
 use Rattle.std.proofs.lemmas.Bool.{false_from_ne_true, true≢false, false≢true}
 use Rattle.std.specs.{Ordering.nat_cmp, FinMap.FinMap}
 use Rattle.cnf_base.specs.Literals.{Literal, complement, Clause, has, size}
 use Rattle.tables.specs.Filled.{at}
 use Rattle.theory.specs.{Propagation.Clash, Propagation.Forced, Sets.conflicts}
-use Rattle.theory.proofs.PropagationLemmas.{Forced.clash_by_false, Conflicts.conflicts_more}
+use Rattle.theory.proofs.PropagationLemmas.{Conflicts.conflicts_more, Forced.clash_by_false}
 use Rattle.propagation.specs.Assumptions.{Assumption, AssumptionsState, roots_in}
 use Rattle.propagation.specs.Code.Closure.{AreForced}
 use Rattle.root_literals.specs.Roots.{AreNoted, AreReasoned, HaveUnits, IsKept, IsKnown, IsStanding}
-use Rattle.root_literals.specs.Roots.{is_up_to_date, has_clash}
-use Rattle.root_literals.specs.declared.roots.Kept.TheVariants.{Cut, Behind, All}
-use Rattle.root_literals.specs.declared.roots.Kept.TheVariants.{Clash as KeptClash}
-use Rattle.root_literals.specs.{History.IsHistory, History.sure_of, Order.each_in_order}
-use Rattle.root_literals.specs.{Code.Propagated.CanSet, Code.Propagated.PropagatesTo}
-use Rattle.root_literals.specs.{Watched.IsPart, Watched.IsWatched, declared.history.History.History}
-use Rattle.root_literals.specs.{declared.roots.Kept.Kept, declared.roots.Roots.Roots}
-use Rattle.root_literals.specs.{Uses.AreCounted}
-use Rattle.root_literals.proofs.RootLemmas.{Closed.all_closed, Closed.all_quiet}
-use Rattle.root_literals.proofs.RootLemmas.{Closed.units_carried, Order.has-in_order}
-use Rattle.root_literals.proofs.RootLemmas.{Order.seen_there, Watched.front_part}
-use Rattle.root_literals.proofs.RootLemmas.{History.history_among, Kept.seen_same}
-use Rattle.root_literals.proofs.RootLemmas.{Reasons.reasoned_forced, Reasons.reasoned_same}
-use Rattle.root_literals.proofs.RootLemmas.{Uses.counted_in_order}
-use Rattle.trail.{specs.Trail.HasNoVariableTwice, proofs.TrailLemmas.MakesFalse.no_conflict}
+use Rattle.root_literals.specs.{Roots.is_up_to_date, Roots.has_clash, declared.roots.Kept.Kept}
+use Rattle.root_literals.specs.declared.roots.Kept.TheVariants.{All, Clash as KeptClash}
+use Rattle.root_literals.specs.History.{IsHistory, sure_of}
+use Rattle.root_literals.specs.Code.Propagated.{CanSet, PropagatesTo}
+use Rattle.root_literals.specs.{declared.history.History.History, Uses.AreCounted, Watched.IsPart}
+use Rattle.root_literals.specs.{declared.roots.Roots.Roots, Order.each_in_order, Watched.IsWatched}
+use Rattle.root_literals.proofs.RootLemmas.Closed.{all_closed, all_quiet, units_carried}
+use Rattle.root_literals.proofs.RootLemmas.Order.{has-in_order, seen_there}
+use Rattle.root_literals.proofs.RootLemmas.{Watched.front_part, Kept.seen_same}
+use Rattle.root_literals.proofs.RootLemmas.Reasons.{reasoned_forced, reasoned_same}
+use Rattle.root_literals.proofs.RootLemmas.{History.history_among, Uses.counted_in_order}
+use Rattle.trail.specs.Trail.{HasNoVariableTwice}
+use Rattle.trail.proofs.TrailLemmas.MakesFalse.{no_conflict}
 use Rattle.std.specs.FinMap as maps
 
 pub kept_forced : (live : FinMap nat_cmp Clause) (roots : Roots) (lits : List Literal) → IsKept live roots lits → AreForced (maps.get (each_in_order live)) lits
@@ -34,29 +32,20 @@ kept_forced live roots lits kept = reasoned_forced (maps.get (each_in_order live
 
 -- all that is kept is propagated where it is up to date and no clash
 pub all_known : (live : FinMap nat_cmp Clause) (kept : Kept) (lits : List Literal) → is_up_to_date kept ≡ true → has_clash kept ≡ false → IsKnown live kept lits → IsWatched (maps.get live) lits lits × HaveUnits (maps.get live) lits
-all_known live Cut lits up quiet known = absurd (false≢true up)
-all_known live Behind lits up quiet known = absurd (false≢true up)
-all_known live All lits up quiet known = known
-all_known live (KeptClash slot) lits up quiet known = absurd (true≢false quiet)
+all_known live kept lits h h2 h3 = grind (arith, false≢true, true≢false)
 
 -- a clash is one
 pub kept_clash : (live : FinMap nat_cmp Clause) (kept : Kept) (lits : List Literal) → has_clash kept ≡ true → AreForced (maps.get (each_in_order live)) lits → IsKnown live kept lits → Clash (maps.get (each_in_order live)) []
-kept_clash live Cut lits clash forced known = absurd (false≢true clash)
-kept_clash live Behind lits clash forced known = absurd (false≢true clash)
-kept_clash live All lits clash forced known = absurd (false≢true clash)
 kept_clash live (KeptClash slot) lits clash forced known =
     clash_by_false (maps.get (each_in_order live)) [] slot known.clause known.at (λ k h. forced (complement k) (known.falses k h))
+kept_clash live kept lits h h2 h3 = grind (arith, false≢true)
 
 -- what isn't up to date has nothing assumed
 pub nothing_stands : (kept : Kept) (assumptions : List Assumption) → IsStanding kept assumptions → is_up_to_date kept ≡ false → assumptions ≡ []
-nothing_stands kept [] standing up = refl
-nothing_stands kept (last ∷ rest) standing up = absurd (true≢false (sym standing ∙ up))
+nothing_stands kept assumptions h h2 = grind (arith, true≢false)
 
 pub not_clash : (kept : Kept) → is_up_to_date kept ≡ false → has_clash kept ≡ false
-not_clash Cut up = refl
-not_clash Behind up = refl
-not_clash All up = refl
-not_clash (KeptClash slot) up = absurd (true≢false up)
+not_clash kept h = grind (arith, true≢false)
 
 pub roots_alone : (lits : List Literal) (assumptions : List Assumption) (starts : List ℕ) → assumptions ≡ [] → roots_in lits assumptions starts ≡ lits
 roots_alone lits assumptions starts nothing = ap (λ xs. roots_in lits xs starts) nothing
@@ -89,10 +78,8 @@ module _ (a b : FinMap nat_cmp Clause) (x y : AssumptionsState) (r s : Literal �
   noted_carried noted = record { each = λ k c is l member. carried.noted l (noted.each k c (ap (λ m. maps.get m k) (sym carried.same) ∙ is) l member) }
 
   pub known_carried : (kept : Kept) (lits : List Literal) → IsPart lits x.trail.lits → IsKnown a kept lits → IsKnown b kept lits
-  known_carried Cut lits part known = known
-  known_carried Behind lits part known = units_carried a b lits carried.same carried.short known
   known_carried All lits part known = (carried.kept [] lits lits part part known.0, units_carried a b lits carried.same carried.short known.1)
-  known_carried (KeptClash slot) lits part known = record { clause = known.clause; at = ap (λ m. maps.get m slot) carried.same ∙ known.at; falses = known.falses }
+  known_carried kept lits h h2 = grind (arith, units_carried)
 
   -- what is watched still is
   pub front_carried : (doubts : List ℕ) (lits : List Literal) → IsPart lits x.trail.lits → (d p : ℕ) → IsWatched (sure_of doubts (maps.get a)) (take d lits) (take p lits) → IsWatched (sure_of doubts (maps.get b)) (take d lits) (take p lits)
@@ -105,17 +92,12 @@ module _ (a b : FinMap nat_cmp Clause) (x y : AssumptionsState) (r s : Literal �
   visited_carried doubts n lits part = carried.kept doubts (take n lits) lits (λ l h. part l (front_part n lits l h)) part
 
   pub reasoned_carried : (lits : List Literal) → IsPart lits x.trail.lits → AreReasoned (maps.get (each_in_order a)) r lits → AreReasoned (maps.get (each_in_order b)) s lits
-  reasoned_carried lits part are =
-      subst (λ m. AreReasoned (maps.get m) s lits) (sym carried.same) (reasoned_same (maps.get (each_in_order a)) r lits are s (λ l h. carried.as_before l (part l h)))
+  reasoned_carried lits part are = grind (arith, reasoned_same)
 
   -- the same literals are kept, by the same reasons
   pub kept_carried : (roots after : Roots) (lits : List Literal) → after.kept ≡ roots.kept → after.history ≡ roots.history → after.uses ≡ roots.uses → ((l : Literal) → at roots.reasons l ≡ r l) → ((l : Literal) → at after.reasons l ≡ s l) → IsPart lits x.trail.lits → IsKept a roots lits → IsKept b after lits
   kept_carried roots after lits kept_is history_is uses_are before_is after_is part kept = record {
-    noted = record {
-      each = λ k c is l member.
-          ap is_some (after_is l)
-          ∙ carried.noted l (ap is_some (sym (before_is l)) ∙ kept.noted.each k c (ap (λ m. maps.get m k) (sym carried.same) ∙ is) l member);
-    };
+    noted = search (rules, arith);
     reasoned = grind (arith, reasoned_same, reasoned_carried);
     known = subst (λ k. IsKnown b k lits) (sym kept_is) (known_carried roots.kept lits part kept.known);
     history = subst (λ h. IsHistory (sure_of h.doubts.items (maps.get b)) h lits) (sym history_is) (history_carried roots.history.doubts.items roots.history lits part kept.history);
@@ -130,8 +112,7 @@ module _ (a b : FinMap nat_cmp Clause) (x y : AssumptionsState) (r s : Literal �
 pub room_for : {live : FinMap nat_cmp Clause} {held : AssumptionsState} {reason_of : Literal → Option ℕ} → CanSet live held reason_of → (slot : ℕ) (c : Clause) → maps.get live slot ≡ Some c → (m : Literal) → has c m ≡ true →
     (has held.trail.reserved (m / 2) ≡ true) × (is_some (reason_of m) ≡ true)
 room_for {live} can slot c here m member =
-    let shown = seen_there live slot c here in
-    grind (arith, has-in_order)
+    let shown = seen_there live slot c here in grind (arith, has-in_order)
 
 -- there still is after visits
 pub can_set_on : {a b : FinMap nat_cmp Clause} {x y : AssumptionsState} {r s : Literal → Option ℕ} → CanSet a x r → PropagatesTo a b x y r s → CanSet b y s

@@ -1,5 +1,5 @@
 -- Where all is propagated, nothing more follows.
-use Rattle.std.proofs.Common.{◌≡◌, ◌≢◌, ℕ, Bool, true, false, cond, eqb, eq-eqb, ◌||◌, Some, List}
+use Rattle.std.proofs.Common.{rules, ◌≡◌, ◌≢◌, ℕ, Bool, true, false, cond, eq-eqb, ◌||◌, Some, List}
 use Rattle.std.proofs.Common.{Option, [], ◌∷◌, length, refl, sym, ap, ◌∙◌, subst, arith, inl, inr}
 use Rattle.std.proofs.lemmas.Bool.{cases_eq, true≢false, false≢true}
 use Rattle.std.specs.{Ordering.nat_cmp, FinMap.FinMap}
@@ -10,8 +10,8 @@ use Rattle.cnf_base.proofs.SizeLemmas.{distinct_parts}
 use Rattle.theory.specs.Propagation.{IsClosed, Clash, by_empty, by_both}
 use Rattle.theory.specs.Sets.{conflicts}
 use Rattle.theory.proofs.PropagationLemmas.Conflicts.{conflict_from}
-use Rattle.root_literals.specs.{Order.each_in_order, Watched.IsMet, Watched.HasUnit}
-use Rattle.root_literals.specs.{Watched.IsWatched, Code.Propagated.PropagatesTo}
+use Rattle.root_literals.specs.Watched.{IsMet, HasUnit, IsWatched}
+use Rattle.root_literals.specs.{Code.Propagated.PropagatesTo, Order.each_in_order}
 use Rattle.root_literals.proofs.RootLemmas.Order.{has-in_order, seen_there, there_seen}
 use Rattle.root_literals.proofs.RootLemmas.Watched.{unit_more}
 use Rattle.clause_db.specs.Store.{is_tautology}
@@ -34,42 +34,24 @@ clause_closed (a ∷ b ∷ c) trues different unit met apart m member others = b
     a_b same = true≢false (sym (has_head b c) ∙ ap (has (b ∷ c)) (sym same) ∙ (distinct_parts a (b ∷ c) different).0)
 
     eq-or : (x y : Bool) → y ≡ true → (x || y) ≡ true
-    eq-or true y h = refl
-    eq-or false y h = h
+    eq-or x y h = grind arith
 
     -- a watched literal is false, and so all but m are
     by_false : (l : Literal) → has (a ∷ b ∷ c) l ≡ true → watches (a ∷ b ∷ c) l ≡ true → l ≢ m → has trues m ≡ true
-    by_false l there watched ne =
-        let w = met l (others l there ne) watched in
-        elim (cases_eq w.0 m) [ inl same ↦ subst (λ x. has trues x ≡ true) same w.2 | inr other ↦ absurd (apart w.0 w.2 (others w.0 w.1 other)) ]
+    by_false l there watched ne = search (rules, arith, cases_eq, apart, has)
 
     by_two : is_tautology (a ∷ b ∷ c) ≡ false → has trues m ≡ true
-    by_two none = elim (cases_eq a m) [
-      | inl first ↦
-          by_false b (has_tail a (b ∷ c) b (has_head b c))
-          (watches_first (a ∷ b ∷ c) b none ∙ eq-or (eqb a b) (eqb b b) (eq-eqb b b refl)) (λ e. a_b (first ∙ sym e))
-      | inr not_first ↦
-          by_false a (has_head a (b ∷ c))
-          (watches_first (a ∷ b ∷ c) a none ∙ ap (λ t. t || eqb b a) (eq-eqb a a refl)) not_first
-    ]
+    by_two none =
+        search (rules, arith, cases_eq, by_false, has_tail, has_head, watches_first, eq-or, eq-eqb, a_b)
 
     -- no two complements are both false, so one is m and true
     by_both : is_tautology (a ∷ b ∷ c) ≡ true → has trues m ≡ true
     by_both both =
         let w = any_some (λ l. has (a ∷ b ∷ c) (complement l)) (a ∷ b ∷ c) both in
-        elim (cases_eq w.0 m) [
-          | inl e ↦
-              subst (λ x. has trues x ≡ true) (complement-complement w.0 ∙ e)
-              (others (complement w.0) w.2 (λ same. complement-other w.0 (same ∙ sym e)))
-          | inr ne ↦ elim (cases_eq (complement w.0) m) [
-            | inl e ↦ subst (λ x. has trues x ≡ true) e (others w.0 w.1 ne)
-            | inr other ↦ absurd (apart (complement w.0) (others w.0 w.1 ne) (others (complement w.0) w.2 other))
-          ]
-        ]
+        search (rules, arith, cases_eq, complement-complement, complement-other, apart)
 
     by_test : (t : Bool) → is_tautology (a ∷ b ∷ c) ≡ t → has trues m ≡ true
-    by_test true both = by_both both
-    by_test false none = by_two none
+    by_test t h = grind (arith, by_both, by_two)
 
 -- a unit in another order
 pub unit_alike : (c d : Clause) (trues : List Literal) → is_short d ≡ is_short c → ((l : Literal) → has d l ≡ has c l) → HasUnit c trues → HasUnit d trues
@@ -79,8 +61,7 @@ unit_alike c [] trues short alike unit = no_unit c (λ l. sym (alike l)) unit
     no_unit [] none h = h
     no_unit (a ∷ c) none h = absurd (true≢false (sym (has_head a c) ∙ none a))
 unit_alike [] (a ∷ []) trues short alike unit = absurd unit
-unit_alike (b ∷ []) (a ∷ []) trues short alike unit =
-    elim (has_cases b [] a (sym (alike a) ∙ has_head a [])) [ inl e ↦ subst (λ x. has trues x ≡ true) e unit | inr none ↦ absurd (false≢true none) ]
+unit_alike (b ∷ []) (a ∷ []) trues short alike unit = grind (arith, has_cases, has_head, false≢true)
 unit_alike (b ∷ e ∷ c) (a ∷ []) trues short alike unit = absurd (true≢false short)
 unit_alike c (a ∷ b ∷ d) trues short alike unit = tt
 
@@ -112,10 +93,7 @@ units_carried before after trues same short units s c is =
     grind (arith, there_seen, unit_alike, has-in_order)
   where
     by_test : (a b : Bool) → cond {A = ℕ} a 1 0 ≡ cond b 1 0 → a ≡ b
-    by_test true true e = refl
-    by_test true false e = absurd (let wrong : ⊥ = omega (arith, e) in wrong)
-    by_test false true e = absurd (let wrong : ⊥ = omega (arith, e) in wrong)
-    by_test false false e = refl
+    by_test a b h = grind arith
 
 -- they are true at the end of a propagation, if they were before it
 pub units_kept : (a b : FinMap nat_cmp Clause) (x y : AssumptionsState) (r t : Literal → Option ℕ) → PropagatesTo a b x y r t →

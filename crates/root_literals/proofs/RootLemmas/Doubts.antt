@@ -16,8 +16,7 @@ use Rattle.root_literals.proofs.RootLemmas.Watched.{met_more}
 -- what is left of a clause
 pub left_unit : (ls : List Literal) (c : Clause) (m : Literal) → One m ≡ how_many (open_literals ls c) → IsUnit ls c m
 left_unit ls c m e =
-    let alone = one_is (open_literals ls c) m (sym e) in
-    grind (arith, open_has, open_cases)
+    let alone = one_is (open_literals ls c) m (sym e) in grind (arith, open_has, open_cases)
 
 pub left_false : (ls : List Literal) (c : Clause) → Nothing ≡ how_many (open_literals ls c) → AreFalse ls c
 left_false ls c e k h = elim (open_cases ls c k h) [

@@ -2,33 +2,30 @@
 use Rattle.std.proofs.Common.{◌≡◌, ◌≢◌, ℕ, ◌+◌, ◌<◌, Bool, true, false, cond, eqb, eq-eqb, Option}
 use Rattle.std.proofs.Common.{Some, None, is_some, List, [], ◌∷◌, ◌++◌, length, take, refl, sym, ap}
 use Rattle.std.proofs.Common.{◌∙◌, subst, arith, inl, inr, ◌⊎◌, rules}
-use Rattle.std.proofs.lemmas.{List.length-append, List.take_all, List.take-append-le, Bool.cases_eq}
-use Rattle.std.proofs.lemmas.{Bool.true≢false, Bool.false≢true, Option.none-some}
+use Rattle.std.proofs.lemmas.List.{length-append, take_all, take-append-le}
+use Rattle.std.proofs.lemmas.{Bool.cases_eq, Bool.true≢false, Bool.false≢true, Option.none-some}
 use Rattle.std.specs.{Ordering.nat_cmp, FinMap.FinMap}
 use Rattle.cnf_base.specs.Literals.{Literal, complement, Clause, has}
 use Rattle.cnf_base.proofs.SetLemmas.{has_append_left, has_append_right, has_head}
 use Rattle.tables.specs.Filled.{at}
 use Rattle.root_literals.specs.History.{IsHistory, IsNoted, sure_of, visits}
-use Rattle.root_literals.specs.Order.{in_order, each_in_order}
 use Rattle.root_literals.specs.Roots.{AreNoted, AreReasoned, HasReasons, HaveUnits, IsArranged}
 use Rattle.root_literals.specs.Roots.{IsKept, IsKnown, has_clash, is_cut}
-use Rattle.root_literals.specs.Uses.{AreCounted, clause_in, is_in}
+use Rattle.root_literals.specs.{Uses.AreCounted, Uses.clause_in, Uses.is_in, Order.each_in_order}
 use Rattle.root_literals.specs.Watched.{IsPart, IsMet, HasUnit, IsWatched}
-use Rattle.root_literals.specs.declared.roots.Kept.TheVariants.{Cut, Behind, All, Clash}
-use Rattle.root_literals.specs.declared.roots.Roots.{Roots}
+use Rattle.root_literals.specs.declared.roots.Kept.TheVariants.{Cut, Behind, Clash}
+use Rattle.root_literals.specs.declared.roots.{Roots.Roots, Kept.Kept}
 use Rattle.root_literals.proofs.RootLemmas.Watched.{front_part, watched_grown, watched_most}
-use Rattle.root_literals.proofs.RootLemmas.Watched.{unit_more}
 use Rattle.root_literals.proofs.RootLemmas.History.{history_none, history_noted, history_one_more}
 use Rattle.root_literals.proofs.RootLemmas.Kept.{elsewhere, false_added, gone, noted_added}
 use Rattle.root_literals.proofs.RootLemmas.Kept.{met_alone, met_open, reasoned_added, unit_alone}
 use Rattle.root_literals.proofs.RootLemmas.Kept.{unit_open, units_added, watched_added}
-use Rattle.root_literals.proofs.RootLemmas.Kept.{watched_sure_added}
+use Rattle.root_literals.proofs.RootLemmas.{Kept.watched_sure_added, Watched.unit_more}
 use Rattle.root_literals.proofs.RootLemmas.Order.{has-in_order, seen_has_at, seen_there}
 use Rattle.root_literals.proofs.RootLemmas.Reasons.{reasoned_more, reasoned_same, reasoned_some}
 use Rattle.root_literals.proofs.RootLemmas.Reasons.{reasoned_taken}
 use Rattle.root_literals.proofs.RootLemmas.Uses.{counted_among, counted_longer, in_rest_too}
-use Rattle.root_literals.specs.declared.history.History.{History}
-use Rattle.root_literals.specs.declared.roots.Kept.{Kept}
+use Rattle.root_literals.specs.{declared.history.History.History, Order.in_order}
 use Rattle.trail.specs.declared.left.Left.{Left}
 use Rattle.trail.specs.declared.left.Left.TheVariants.{Nothing, One, More}
 use Rattle.std.specs.FinMap as maps
@@ -126,9 +123,7 @@ module _ {after : FinMap nat_cmp Clause} {slot : ℕ} {c : Clause} {roots : Root
   -- nothing new follows from it
   settled : ((done : List Literal) → IsPart done lits → (l : Literal) → has done (complement l) ≡ true → IsMet c l lits) → HasUnit c lits → (k : Kept) → IsKnown (maps.remove after slot) k lits → IsKnown after k lits
   settled met unit Cut known = known
-  settled met unit Behind known = units lits known unit
-  settled met unit All known = search (rules, watched, units)
-  settled met unit (Clash s) known = idle (Clash s) refl known
+  settled h h2 k h3 = search (rules, arith, units, watched, idle)
 
   entered_settled : ((done : List Literal) → IsPart done lits → (l : Literal) → has done (complement l) ≡ true → IsMet c l lits) → HasUnit c lits → (now : Roots) → now.kept ≡ roots.kept → now.history ≡ later →
       AreNoted (maps.get (each_in_order after)) (at now.reasons) → AreReasoned (maps.get (each_in_order after)) (at now.reasons) lits → AreCounted (maps.get after) (at now.reasons) lits now.uses → IsKept after now lits
@@ -156,8 +151,7 @@ module _ {after : FinMap nat_cmp Clause} {slot : ℕ} {c : Clause} {roots : Root
     set_noted now set = record { each = λ s d is l member. ap is_some (set l) ∙ by_test (eqb l m) (at roots.reasons l) (noted.each s d is l member) }
       where
         by_test : (b : Bool) (o : Option ℕ) → is_some o ≡ true → is_some (cond b (Some slot) o) ≡ true
-        by_test true o h = refl
-        by_test false o h = h
+        by_test b o h = grind arith
 
     set_here : (now : Roots) → ((k : Literal) → at now.reasons k ≡ cond (eqb k m) (Some slot) (at roots.reasons k)) → at now.reasons m ≡ Some slot
     set_here now set = set m ∙ ap (λ b. cond b (Some slot) (at roots.reasons m)) (eq-eqb m m refl)
@@ -179,10 +173,7 @@ module _ {after : FinMap nat_cmp Clause} {slot : ℕ} {c : Clause} {roots : Root
         (reasoned_taken (maps.get (each_in_order after)) (at roots.reasons) lits reasoned (at now.reasons) m slot (in_order c) (seen_there after slot c given.here) (has-in_order c m ∙ first.0) (set_here now set)
         (λ k h. only_one c m one first.0 k (sym (has-in_order c k) ∙ h)) (set_other now set) is_true)
         (subst (AreCounted (maps.get after) (at now.reasons) lits) (sym uses_are)
-        (counted_among (maps.get (maps.remove after slot)) (maps.get after) (at roots.reasons) (at now.reasons) lits roots.uses given.kept.counted (λ k l h there. elim (cases_eq l m) [
-          | inl e ↦ subst (λ x. is_in (clause_in (maps.get (maps.remove after slot)) (at roots.reasons x)) k ≡ true) (sym e) (by_reason k (at roots.reasons m) refl (subst (λ x. is_in (clause_in (maps.get after) (at now.reasons x)) k ≡ true) e there))
-          | inr ne ↦ same_in (at now.reasons) k l (set_other now set l ne) h there
-        ])))
+        (counted_among (maps.get (maps.remove after slot)) (maps.get after) (at roots.reasons) (at now.reasons) lits roots.uses given.kept.counted (λ k l h there. grind (arith, cases_eq, by_reason, same_in, set_other))))
       where
         -- the clause has the literal alone, which the reason of before has too
         by_reason : (k : Literal) (o : Option ℕ) → at roots.reasons m ≡ o → is_in (clause_in (maps.get after) (at now.reasons m)) k ≡ true → is_in (clause_in (maps.get (maps.remove after slot)) (at roots.reasons m)) k ≡ true
@@ -224,15 +215,11 @@ module _ {after : FinMap nat_cmp Clause} {slot : ℕ} {c : Clause} {roots : Root
         front = take-append-le (visits later) lits (m ∷ []) history.inside
 
         still_cut : (b : Bool) → is_cut (cond b Cut Behind) ≡ b
-        still_cut true = refl
-        still_cut false = refl
+        still_cut b = grind arith
 
         grown_watched : IsWatched (sure_of (cond (is_cut roots.kept) later.doubts.items []) (maps.get after)) (take (visits later) (lits ++ m ∷ [])) (lits ++ m ∷ [])
         grown_watched =
-            let before = sure_of (cond (is_cut roots.kept) roots.history.doubts.items []) (maps.get (maps.remove after slot)) in
-            subst (λ ls. IsWatched (sure_of (cond (is_cut roots.kept) later.doubts.items []) (maps.get after)) ls (lits ++ m ∷ [])) (sym front)
-            (seen (is_cut roots.kept) (take (visits later) lits) (lits ++ m ∷ []) (λ l h. met_alone lits (lits ++ m ∷ []) m m_true c first l)
-            (watched_grown before (take (visits later) lits) lits (lits ++ m ∷ []) (λ l h. has_append_left lits (m ∷ []) l h) (so_far quiet)))
+            search (rules, arith, front, seen, met_alone, m_true, watched_grown, has_append_left, so_far)
 
         grown_units : HaveUnits (maps.get (maps.remove after slot)) lits → HaveUnits (maps.get after) (lits ++ m ∷ [])
         grown_units known =
@@ -240,12 +227,8 @@ module _ {after : FinMap nat_cmp Clause} {slot : ℕ} {c : Clause} {roots : Root
             (unit_alone lits (lits ++ m ∷ []) m m_true c first)
 
         grown_known : (k : Kept) → has_clash k ≡ false → IsKnown (maps.remove after slot) k lits → IsKnown after (cond (is_cut k) Cut Behind) (lits ++ m ∷ [])
-        grown_known Cut quiet known = tt
-        grown_known Behind quiet known = grown_units known
-        grown_known All quiet known = grown_units known.1
-        grown_known (Clash s) quiet known = absurd (true≢false quiet)
+        grown_known k h h2 = grind (arith, grown_units, true≢false)
 
         grown_history : IsHistory (sure_of later.doubts.items (maps.get after)) later (lits ++ m ∷ [])
         grown_history =
-            history_one_more (sure_of later.doubts.items (maps.get after)) later lits (lits ++ m ∷ []) longer begins
-            (watched_most (maps.get after) later.doubts.items (is_cut roots.kept) (take (visits later) (lits ++ m ∷ [])) (lits ++ m ∷ []) grown_watched) history
+            grind (arith, history_one_more, longer, begins, watched_most, grown_watched, history)

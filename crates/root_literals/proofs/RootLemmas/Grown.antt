@@ -11,17 +11,14 @@ use Rattle.propagation.proofs.PropagationLemmas.Exact.{begins_on, longer_from}
 use Rattle.theory.specs.Propagation.{Live}
 use Rattle.root_literals.specs.History.{IsHistory, sure_of, visits, HasGrown}
 use Rattle.root_literals.specs.Roots.{AreReasoned, IsKept, IsKnown, has_clash, is_cut, seen_of}
-use Rattle.root_literals.specs.Code.{Doubts.AreSettled, Propagated.PropagatesTo}
+use Rattle.root_literals.specs.{Code.Doubts.AreSettled, Uses.AreCounted}
 use Rattle.root_literals.specs.Watched.{IsPart, IsMet, IsWatched}
-use Rattle.root_literals.specs.declared.history.History.{History}
-use Rattle.root_literals.specs.declared.roots.{Roots.Roots, Kept.TheVariants.Cut}
-use Rattle.root_literals.specs.Uses.{AreCounted}
-use Rattle.root_literals.proofs.RootLemmas.Kept.{seen_same}
-use Rattle.root_literals.proofs.RootLemmas.Watched.{front_part, sure_by, watched_done}
+use Rattle.root_literals.specs.{declared.history.History.History, Code.Propagated.PropagatesTo}
+use Rattle.root_literals.specs.declared.roots.{Kept.TheVariants.Cut, Roots.Roots}
+use Rattle.root_literals.proofs.RootLemmas.Watched.{front_part, sure_by, watched_done, watched_most}
 use Rattle.root_literals.proofs.RootLemmas.Watched.{watched_grown, watched_more, watched_all}
-use Rattle.root_literals.proofs.RootLemmas.Watched.{watched_most}
 use Rattle.root_literals.proofs.RootLemmas.History.{front_in_front, history_longer, watched_nothing}
-use Rattle.root_literals.proofs.RootLemmas.History.{watched_part}
+use Rattle.root_literals.proofs.RootLemmas.{History.watched_part, Kept.seen_same}
 use Rattle.root_literals.proofs.RootLemmas.Uses.{counted_in_order, counted_longer}
 use Rattle.root_literals.proofs.RootLemmas.Carried.{history_carried, noted_carried, visited_carried}
 use Rattle.trail.proofs.TrailLemmas.Longer.{has_begun}
@@ -35,9 +32,7 @@ module _ (a b : FinMap nat_cmp Clause) (x y : AssumptionsState) (r s : Literal �
   front n low = sym (take-take n (length x.trail.lits) y.trail.lits low) ∙ ap (take n) carried.extends.begins
 
   pub visited_grown : (doubts : List ℕ) (n : ℕ) → n ≤ length x.trail.lits → IsWatched (sure_of doubts (maps.get a)) (take n x.trail.lits) x.trail.lits → IsWatched (sure_of doubts (maps.get b)) (take n y.trail.lits) y.trail.lits
-  visited_grown doubts n low watched =
-      watched_part (sure_of doubts (maps.get b)) (take n x.trail.lits) (take n y.trail.lits) x.trail.lits y.trail.lits (λ l h. ap (λ ls. has ls l) (sym (front n low)) ∙ h) more
-      (visited_carried a b x y r s carried doubts n x.trail.lits (λ l h. h) watched)
+  visited_grown doubts n low watched = grind (arith, watched_part, front, more, visited_carried)
 
   pub history_grown : (doubts : List ℕ) (history : History) (n : ℕ) → visits history ≤ n + 1 → IsWatched (sure_of doubts (maps.get a)) (take n x.trail.lits) x.trail.lits → IsHistory (sure_of doubts (maps.get a)) history x.trail.lits →
       IsHistory (sure_of doubts (maps.get b)) history y.trail.lits
@@ -87,8 +82,7 @@ all_sure live doubts done trues met watched = record { each = λ s c is. by_test
 pub settled_all : (live : FinMap nat_cmp Clause) (x y : AssumptionsState) (roots now : Roots) → PropagatesTo live live x y (at roots.reasons) (at now.reasons) → IsKept live roots x.trail.lits → has_clash roots.kept ≡ false →
     AreSettled (maps.get live) roots.history.doubts.items x.trail.lits y.trail.lits → IsWatched (maps.get live) (take (visits roots.history) y.trail.lits) y.trail.lits
 settled_all live x y roots now carried kept quiet settled =
-    let n = visits roots.history in
-    let ds = roots.history.doubts.items in
+    let n = visits roots.history in let ds = roots.history.doubts.items in
     all_sure (maps.get live) ds (take n y.trail.lits) y.trail.lits
     (λ s among c is l h. settled s among c is l (front_part n x.trail.lits (complement l) (ap (λ ls. has ls (complement l)) (sym (front live live x y (at roots.reasons) (at now.reasons) carried n kept.history.inside)) ∙ h)))
     (grind (arith, visited_grown, watched_most))
@@ -102,20 +96,14 @@ kept_settled live x y roots now carried kept cut kept_is history_is uses_are =
 
 -- all that was visited is propagated among all literals
 pub begun_again : (b : FinMap nat_cmp Clause) (doubts : List ℕ) (n : ℕ) (lits : List Literal) (trues : ℕ) → trues ≡ length lits → IsWatched (maps.get b) (take n lits) lits → (p : ℕ) → trues ≤ p → p ≤ length lits → IsWatched (sure_of doubts (maps.get b)) (take n lits) (take p lits)
-begun_again b doubts n lits trues is watched p low inside =
-    watched_all (maps.get b) doubts (take n lits) (take p lits) (subst (λ ls. IsWatched (maps.get b) (take n lits) ls) (sym (take_all p lits (omega (arith, is, low)))) watched)
+begun_again b doubts n lits trues is watched p low inside = grind (arith, watched_all, take_all)
 
 -- what was visited among the literals of before is propagated among those of now
 pub begun_from : (live : FinMap nat_cmp Clause) (roots now : Roots) (before after : List Literal) → IsKept live roots before → has_clash roots.kept ≡ false → (visits now.history ≡ 0) ⊎ HasGrown roots.history now.history before after → (p : ℕ) → length before ≤ p → p ≤ length after →
     IsWatched (sure_of now.history.doubts.items (maps.get live)) (take (visits now.history) after) (take p after)
 begun_from live roots now before after kept quiet grown p low inside = elim grown [
   | inl none ↦ watched_nothing (sure_of now.history.doubts.items (maps.get live)) (take (visits now.history) after) (take p after) (ap (λ n. take n after) none)
-  | inr same ↦
-      subst (λ h. IsWatched (sure_of h.doubts.items (maps.get live)) (take (visits h) after) (take p after)) (sym same.0)
-      (watched_part (sure_of roots.history.doubts.items (maps.get live)) (take (visits roots.history) before) (take (visits roots.history) after) before (take p after)
-      (λ l h. ap (λ ls. has ls l) (sym (sym (take-take (visits roots.history) (length before) after kept.history.inside) ∙ ap (take (visits roots.history)) same.1)) ∙ h)
-      (λ l h. front_in_front after (length before) p low l (ap (λ ls. has ls l) same.1 ∙ h))
-      (watched_most (maps.get live) roots.history.doubts.items (is_cut roots.kept) (take (visits roots.history) before) before (kept.visited quiet)))
+  | inr same ↦ search (rules, arith, watched_part, take-take, front_in_front, watched_most)
 ]
 
 pub grown_on : (old now : History) (x y z : List Literal) → (visits now ≡ 0) ⊎ HasGrown old now x y → take (length y) z ≡ y → (visits now ≡ 0) ⊎ HasGrown old now x z

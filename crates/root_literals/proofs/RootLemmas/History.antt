@@ -2,14 +2,13 @@
 use Rattle.std.proofs.Common.{◌≡◌, ◌≢◌, ℕ, ◌+◌, ◌<◌, ◌≤◌, List, [], ◌∷◌, ◌++◌, length, get_or, take}
 use Rattle.std.proofs.Common.{sym, ap, ◌∙◌, subst, arith, inl, inr, ◌⊎◌, rules}
 use Rattle.std.proofs.lemmas.List.{get_or-take, get_or_append_left, length-append, length-take-le}
-use Rattle.std.proofs.lemmas.List.{take-take, take_all}
-use Rattle.std.proofs.{lemmas.Bool.cases_eq, lemmas.Bool.cases_lt, Math.Seq.get_or-append_seam}
+use Rattle.std.proofs.{lemmas.List.take-take, lemmas.List.take_all, Math.Seq.get_or-append_seam}
+use Rattle.std.proofs.lemmas.Bool.{cases_eq, cases_lt}
 use Rattle.cnf_base.specs.Literals.{Literal, has}
 use Rattle.theory.specs.Propagation.{Live}
 use Rattle.root_literals.specs.History.{IsHistory, IsRewound, trues_at, visits}
 use Rattle.root_literals.proofs.RootLemmas.Watched.{front_part}
-use Rattle.root_literals.specs.Watched.{IsPart, IsWatched}
-use Rattle.root_literals.specs.declared.history.History.{History}
+use Rattle.root_literals.specs.{declared.history.History.History, Watched.IsPart, Watched.IsWatched}
 
 -- ---- Fewer propagated literals
 
@@ -109,10 +108,7 @@ history_begun live history begun lits trues fits low_enough pushed floor_is watc
     one_more = ap length pushed ∙ length-append history.visited.items (trues ∷ [])
 
     before_last : (d : ℕ) → d < visits begun → d ≢ visits history → d < visits history
-    before_last d low ne = elim (cases_lt d (visits history)) [
-      | inl h ↦ h
-      | inr h ↦ absurd (ne (omega (arith, one_more, low, h)))
-    ]
+    before_last d low ne = grind (arith, cases_lt, one_more)
 
     earlier : (d : ℕ) → d < visits history → trues_at begun d ≡ trues_at history d
     earlier d low = ap (λ ns. get_or ns d 0) pushed ∙ get_or_append_left history.visited.items (trues ∷ []) 0 d low
@@ -134,15 +130,12 @@ module _ (live : Live) (history now : History) (lits : List Literal) (place : �
   below some = search rules
 
   pub history_cut : IsHistory live now (take place lits)
-  history_cut =
-      search (rules, cases_eq, history_none, below, long, watched_twice, get_or, get_or-take)
+  history_cut = grind (arith, cases_eq, history_none, below, long, watched_twice, get_or-take)
 
   pub watched_cut : IsWatched live (take (visits now) (take place lits)) (take place lits)
   watched_cut = elim (cases_eq (visits now) 0) [
     | inl none ↦ watched_none live now (take place lits) none
     | inr some ↦
-        let next = rewound.next some in
-        let floor = rewound.floor some in
-        let low = below some in
+        let next = rewound.next some in let floor = rewound.floor some in let low = below some in
         subst (λ ls. IsWatched live ls (take place lits)) (sym (take-take (visits now) place lits (omega (arith, low)))) (is.before (visits now) place next.0 next.1 floor.0 inside)
   ]

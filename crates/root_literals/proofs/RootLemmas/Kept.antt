@@ -1,24 +1,20 @@
 -- What is kept where clauses come and go.
 use Rattle.std.proofs.Common.{arith, ◌≡◌, ◌≢◌, ℕ, ◌+◌, ◌<◌, get_or, Bool, true, false, cond, eqb}
-use Rattle.std.proofs.Common.{eq-eqb, ne_eqb, ◌||◌, Option, Some, None, is_some, option_map, List}
-use Rattle.std.proofs.Common.{[], ◌∷◌, rules, length, take, ◌≤◌, refl, sym, ap, ◌∙◌, subst, inl}
-use Rattle.std.proofs.Common.{inr}
-use Rattle.std.proofs.lemmas.{Bool.cases_eq, Bool.false≢true, Option.none-some, Option.same_Some}
+use Rattle.std.proofs.Common.{eq-eqb, ne_eqb, Option, Some, None, is_some, option_map, List, []}
+use Rattle.std.proofs.Common.{◌∷◌, rules, length, take, ◌≤◌, refl, sym, ap, ◌∙◌, subst, inl, inr}
+use Rattle.std.proofs.lemmas.{Option.none-some, Option.same_Some, Bool.cases_eq, Bool.false≢true}
 use Rattle.std.specs.{Ordering.nat_cmp, FinMap.FinMap}
 use Rattle.cnf_base.specs.Literals.{Literal, complement, Clause, has}
 use Rattle.cnf_base.proofs.{MapLemmas.remove_here, MapLemmas.remove_other, SetLemmas.has_head}
 use Rattle.tables.specs.Filled.{at}
 use Rattle.root_literals.specs.History.{IsHistory, IsRewound, sure_of, visits}
-use Rattle.root_literals.specs.declared.roots.Kept.TheVariants.{Cut, Behind, All}
-use Rattle.root_literals.specs.declared.roots.Kept.TheVariants.{Clash as KeptClash}
-use Rattle.root_literals.specs.declared.roots.{Kept.Kept, Roots.Roots}
-use Rattle.root_literals.specs.declared.history.History.{History}
-use Rattle.root_literals.specs.Roots.{AreNoted, AreReasoned, HasReasons, HaveUnits, IsArranged}
-use Rattle.root_literals.specs.Roots.{IsFalseAt, IsKept, IsKnown, IsReasonAt, has_clash, is_cut}
-use Rattle.root_literals.specs.Roots.{seen_of}
+use Rattle.root_literals.specs.declared.roots.Kept.TheVariants.{Cut, Clash as KeptClash}
+use Rattle.root_literals.specs.Roots.{seen_of, AreNoted, AreReasoned, HasReasons, HaveUnits, is_cut}
+use Rattle.root_literals.specs.Roots.{IsArranged, IsFalseAt, IsKept, IsKnown, IsReasonAt, has_clash}
+use Rattle.root_literals.specs.declared.roots.{Roots.Roots, Kept.Kept}
+use Rattle.root_literals.specs.{declared.history.History.History, Order.in_order}
 use Rattle.root_literals.specs.Watched.{IsPart, IsMet, HasUnit, IsWatched}
-use Rattle.root_literals.specs.Uses.{AreCounted, clause_in, times}
-use Rattle.root_literals.specs.Order.{in_order, each_in_order}
+use Rattle.root_literals.specs.{Uses.AreCounted, Uses.clause_in, Uses.times, Order.each_in_order}
 use Rattle.root_literals.proofs.RootLemmas.Order.{get_ordered, has-in_order, seen_there}
 use Rattle.root_literals.proofs.RootLemmas.History.{history_cut, history_none, history_noted}
 use Rattle.root_literals.proofs.RootLemmas.History.{watched_cut, watched_none}
@@ -35,12 +31,7 @@ use Rattle.std.specs.FinMap as maps
 
 module _ (live after : FinMap nat_cmp Clause) (slot : ℕ) (c : Clause) (free : maps.get live slot ≡ None) (here : maps.get after slot ≡ Some c) (others : (s : ℕ) → s ≢ slot → maps.get after s ≡ maps.get live s) where
   pub watched_added : (done trues : List Literal) → IsWatched (maps.get live) done trues → ((l : Literal) → has done (complement l) ≡ true → IsMet c l trues) → IsWatched (maps.get after) done trues
-  watched_added done trues watched partner = record {
-    each = λ s d is. elim (cases_eq s slot) [
-      | inl e ↦ λ l h. subst (λ x. IsMet x l trues) (same_Some c d (sym here ∙ ap (maps.get after) (sym e) ∙ is)) (partner l h)
-      | inr ne ↦ watched.each s d (sym (others s ne) ∙ is)
-    ];
-  }
+  watched_added done trues watched partner = search (rules, arith, cases_eq, same_Some)
 
   -- where it is met unless it is doubtful, and no other one is that wasn't
   pub watched_sure_added : (doubts later : List ℕ) (done trues : List Literal) → ((s : ℕ) → s ≢ slot → has later s ≡ has doubts s) → (has later slot ≡ false → (l : Literal) → has done (complement l) ≡ true → IsMet c l trues) →
@@ -69,10 +60,7 @@ module _ (live after : FinMap nat_cmp Clause) (slot : ℕ) (c : Clause) (free : 
 
 -- two literals are not false, and stand first
 pub met_open : (c : Clause) (trues done more : List Literal) → IsPart done trues → IsArranged trues c More → (l : Literal) → has done (complement l) ≡ true → IsMet c l more
-met_open [] trues done more part first l h there = absurd (false≢true there)
-met_open (a ∷ []) trues done more part first l h there = absurd (false≢true there)
-met_open (a ∷ b ∷ c) trues done more part first l h there =
-    let first_two : (eqb a l || eqb b l) ≡ true = watched_first (a ∷ b ∷ c) l there in search rules
+met_open c trues done more h h2 l h3 h4 = grind (arith, false≢true, watched_first)
 
 pub unit_open : (c : Clause) (trues more : List Literal) → IsArranged trues c More → HasUnit c more
 unit_open c trues more h = search rules
@@ -80,9 +68,7 @@ unit_open c trues more h = search rules
 -- one literal is not false, stands first, and becomes true
 module _ (trues more : List Literal) (m : Literal) (set : has more m ≡ true) where
   pub met_alone : (c : Clause) → IsArranged trues c (One m) → (l : Literal) → IsMet c l more
-  met_alone [] first l there = absurd (false≢true there)
-  met_alone (a ∷ []) first l there = absurd (false≢true there)
-  met_alone (a ∷ b ∷ c) first l there = (m, ap (has (a ∷ b ∷ c)) (sym first.1) ∙ has_head a (b ∷ c), set)
+  met_alone c h l h2 = grind (arith, false≢true, has_head)
 
   pub unit_alone : (c : Clause) → IsArranged trues c (One m) → HasUnit c more
   unit_alone c h = search rules
@@ -113,8 +99,7 @@ module _ (live : FinMap nat_cmp Clause) (roots after : Roots) (lits : List Liter
       counted
     where
       by_test : (b : Bool) (o : Option ℕ) → is_some o ≡ true → is_some (cond b (Some slot) o) ≡ true
-      by_test true o h = refl
-      by_test false o h = h
+      by_test b o h = grind arith
 
       shown : IsReasonAt (maps.get (each_in_order live)) slot lits m
       shown = record {
@@ -210,10 +195,7 @@ module _ (live : FinMap nat_cmp Clause) (slot : ℕ) where
   module _ (roots : Roots) (lits : List Literal) (kept : IsKept live roots lits) (c : Clause) (here : maps.get live slot ≡ Some c) (no_clash : roots.kept ≢ KeptClash slot)
       (no_reason : (l : Literal) → has c l ≡ true → has lits l ≡ true → at roots.reasons l ≢ Some slot) where
     still_known : (k : Kept) → roots.kept ≡ k → IsKnown live k lits → IsKnown (maps.remove live slot) k lits
-    still_known Cut is known = known
-    still_known Behind is known = λ s d at_s. known s d (was_there s d at_s)
-    still_known All is known = (watched_left lits lits known.0, λ s d at_s. known.1 s d (was_there s d at_s))
-    still_known (KeptClash s) is known = record { clause = known.clause; at = still_seen s (λ e. no_clash (is ∙ ap KeptClash e)) known.clause known.at; falses = known.falses }
+    still_known k h h2 = grind (arith, was_there, watched_left, still_seen)
 
     pub kept_left : (later : History) → later.visited ≡ roots.history.visited → later.floor ≡ roots.history.floor → ((s : ℕ) → s ≢ slot → has later.doubts.items s ≡ has roots.history.doubts.items s) → IsKept (maps.remove live slot) (record roots { history = later }) lits
     kept_left later visited_is floor_is others = record {

@@ -20,8 +20,7 @@ use Rattle.trail.proofs.TrailLemmas.Without.{none_left, still_there, was_there a
 use Rattle.trail.{specs.Trail.HasNoVariableTwice, proofs.TrailLemmas.Truth.places_apart}
 use Rattle.root_literals.specs.Roots.{AreNoted, AreReasoned, FollowsReasons, HaveUnits, IsAbsent}
 use Rattle.root_literals.specs.Roots.{IsKept, IsKnown, IsUnneeded, has_clash, is_cut}
-use Rattle.root_literals.specs.declared.roots.Kept.TheVariants.{Cut, Behind, All}
-use Rattle.root_literals.specs.declared.roots.Kept.TheVariants.{Clash as KeptClash}
+use Rattle.root_literals.specs.declared.roots.Kept.TheVariants.{All}
 use Rattle.root_literals.specs.{History.IsHistory, History.sure_of, History.trues_at}
 use Rattle.root_literals.specs.{History.visits, Order.each_in_order, Uses.AreCounted}
 use Rattle.root_literals.specs.{Uses.clause_in, Uses.is_in, Uses.times, Watched.HasUnit}
@@ -127,34 +126,20 @@ module _ (live : FinMap nat_cmp Clause) (slot place : ℕ) (l : Literal) (lits :
     ]
 
     fewer : (visits now + 1 ≡ visits old) ⊎ ((visits now ≡ visits old) × (visits old ≤ place))
-    fewer = elim (cases_lt place (visits old)) [
-      | inl cut ↦ inl (let n = ap length (gone cut) in let m = length-remove old.visited.items place cut in omega (arith, n, m))
-      | inr beyond ↦ inr (ap length (stays beyond), beyond)
-    ]
+    fewer = grind (arith, cases_lt, length-remove)
 
     shorter : length out + 1 ≡ length lits
     shorter = length-remove lits place inside
 
     pub history_out : (doubts : List ℕ) → IsHistory (sure_of doubts (maps.get live)) old lits → IsHistory (sure_of doubts (maps.get rest)) now out
     history_out doubts history = record {
-      inside = elim fewer [
-        | inl less ↦ let n = shorter in let most = history.inside in omega (arith, n, most, less)
-        | inr same ↦ let n = shorter in let e = same.0 in let most = same.1 in omega (arith, n, e, most, inside)
-      ];
+      inside = grind (arith, fewer, shorter);
       began = λ d low.
-          let w = left d low in
-          let is = w.1 in
-          let first = history.began w.0 is.within in
-          let reach = is.reach in
-          let most = is.low in
-          omega (arith, first, reach, most);
+          let w = left d low in let is = w.1 in let first = history.began w.0 is.within in
+          let reach = is.reach in let most = is.low in omega (arith, first, reach, most);
       before = λ d p low at_most above within.
-          let w = left d low in
-          let is = w.1 in
-          let up = front_before place p in
-          let wide = widened p up.0 up.1 in
-          let reach = is.reach in
-          let n = shorter in
+          let w = left d low in let is = w.1 in let up = front_before place p in
+          let wide = widened p up.0 up.1 in let reach = is.reach in let n = shorter in
           watched_front doubts d w.0 p up.0 is.front up.1
           (history.before w.0 up.0 is.within (let most = wide.0 in omega (arith, at_most, reach, most)) (let most = wide.0 in omega (arith, above, floor_is, most)) (let most = wide.1 in omega (arith, within, n, most)));
     }
@@ -166,8 +151,7 @@ module _ (live : FinMap nat_cmp Clause) (slot place : ℕ) (l : Literal) (lits :
         ]
 
     pub visited_out : (doubts : List ℕ) → IsWatched (sure_of doubts (maps.get live)) (take (visits old) lits) lits → IsWatched (sure_of doubts (maps.get rest)) (take (visits now) out) out
-    visited_out doubts =
-        search (rules, watched_out, front_was, still_there, cases_lt, length-remove)
+    visited_out doubts = grind (arith, watched_out, front_was, still_there, cases_lt, length-remove)
 
   -- ---- Unit clauses
 
@@ -180,10 +164,8 @@ module _ (live : FinMap nat_cmp Clause) (slot place : ℕ) (l : Literal) (lits :
   units_out units s c is = search (rules, unit_out, other_literal, was_there)
 
   known_out : (kept : Kept) → has_clash kept ≡ false → IsKnown live kept lits → IsKnown rest kept out
-  known_out Cut quiet known = known
-  known_out Behind quiet known = units_out known
   known_out All quiet known = (watched_out [] lits out lits out (was_true lits place inside) (still_there lits place inside l stands) known.0, units_out known.1)
-  known_out (KeptClash s) quiet known = absurd (true≢false quiet)
+  known_out kept h h2 = grind (arith, units_out, true≢false)
 
   -- ---- Places
 
@@ -194,8 +176,7 @@ module _ (live : FinMap nat_cmp Clause) (slot place : ℕ) (l : Literal) (lits :
 
   not_the_slot : (k : Literal) (s : ℕ) → HasAt (maps.get (each_in_order live)) k s → k ≢ l → s ≢ slot
   not_the_slot k s h ne e =
-      let w = seen_has_at live k s h in
-      grind (arith, same_Some, has_cases, false≢true)
+      let w = seen_has_at live k s h in grind (arith, same_Some, has_cases, false≢true)
 
   module _ (reason_of : Literal → Option ℕ) (unneeded : IsUnneeded (maps.get live) reason_of lits place l) (are : AreReasoned (maps.get (each_in_order live)) reason_of lits) where
     holds_it : (k : Literal) (s : ℕ) → has lits k ≡ true → k ≢ l → reason_of k ≡ Some s → (c : Clause) → maps.get (each_in_order live) s ≡ Some c → maps.get (each_in_order rest) s ≡ Some c
@@ -216,27 +197,14 @@ module _ (live : FinMap nat_cmp Clause) (slot place : ℕ) (l : Literal) (lits :
 
       -- how many of them stand before the place
       lower : (e : ℕ) × (e ≤ n) × (e ≤ place) × ((i : ℕ) → i < wide.0 → i < place → i < e)
-      lower = elim (cases_lt n place) [
-        | inl less ↦ (
-          n,
-          omega arith,
-          omega (arith, less),
-          λ i low before. elim wide.1 [
-            | inl f ↦ let e = f.0 in omega (arith, e, low)
-            | inr f ↦ let past = f.1 in absurd (let wrong : ⊥ = omega (arith, less, past) in wrong)
-          ],
-        )
-        | inr past ↦ (place, past, omega arith, λ i low before. before)
-      ]
+      lower = grind (arith, cases_lt n place)
 
       abbrev low_end : ℕ
       low_end = lower.0
 
       low_other : (m : Literal) → has (take low_end lits) m ≡ true → m ≢ l
       low_other m h e =
-          let w = place_in_front lits low_end m h in
-          let low = w.1 in
-          let most = lower.2 in
+          let w = place_in_front lits low_end m h in let low = w.1 in let most = lower.2 in
           places_apart lits different w.0 place (omega (arith, low, most)) inside (ap variable (w.3 ∙ e ∙ sym stands))
 
       low_wide : (m : Literal) → has (take low_end lits) m ≡ true → has (take wide.0 lits) m ≡ true
@@ -244,8 +212,7 @@ module _ (live : FinMap nat_cmp Clause) (slot place : ℕ) (l : Literal) (lits :
 
       follow_low : FollowsReasons (maps.get (each_in_order live)) reason_of (take low_end lits) passes
       follow_low m s c h is at others =
-          let ne = low_other m h in
-          follows m s c (front_still lits place inside l stands n wide.0 wide.1 m (low_wide m h) ne) is (holds_it m s (front_part low_end lits m h) ne is c at) others
+          grind (arith, front_still lits place inside l stands n wide.0 wide.1 m (low_wide m h) (low_other m h), holds_it m s (front_part low_end lits m h) (low_other m h) is c)
 
       low_pass : (k : Literal) → has (take low_end lits) k ≡ true → passes k ≡ true
       low_pass = are.in_each low_end passes follow_low
@@ -258,12 +225,7 @@ module _ (live : FinMap nat_cmp Clause) (slot place : ℕ) (l : Literal) (lits :
             or_right (eqb m l) (passes m) (elim (cases_lt w.0 place) [
               | inl before ↦ low_pass m (subst (λ x. has (take low_end lits) x ≡ true) w.3 (has_front lits low_end w.0 (lower.3 w.0 w.1 before) w.2))
               | inr past ↦
-                  let behind : place < w.0 = apart w.0 past (λ e. ne (sym w.3 ∙ ap (λ q. get_or lits q 0) e ∙ stands)) in
-                  follows m s c (front_still lits place inside l stands n wide.0 wide.1 m h ne) is (holds_it m s (front_part wide.0 lits m h) ne is c at) (λ j member other.
-                  elim (or_cases (eqb (complement j) l) (passes (complement j)) (others j member other)) [
-                    | inl e ↦ absurd (not_complement m s c w.0 behind w.2 w.3 is at j member (eqb-true (complement j) l e))
-                    | inr passed ↦ passed
-                  ])
+                  grind (arith, apart, front_still, holds_it, front_part, or_cases, not_complement, eqb-true)
             ])
       ]
 

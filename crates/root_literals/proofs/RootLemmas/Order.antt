@@ -1,19 +1,17 @@
 -- Clauses in order are the same sets.
-use Rattle.std.proofs.Common.{◌≡◌, ◌≢◌, ℕ, Bool, true, false, cond, eqb, eqb-true, filter, ◌&&◌}
-use Rattle.std.proofs.Common.{◌||◌, T, Option, Some, None, option_map, is_some, List, [], ◌∷◌, map}
+use Rattle.std.proofs.Common.{◌≡◌, ◌≢◌, ℕ, Bool, true, cond, eqb, eqb-true, filter, ◌&&◌}
+use Rattle.std.proofs.Common.{◌||◌, T, Option, Some, option_map, is_some, List, [], ◌∷◌, map}
 use Rattle.std.proofs.Common.{sum_by, refl, sym, ap, ◌∙◌, subst, arith, rules}
-use Rattle.std.proofs.lemmas.{Option.none-some, Option.same_Some, Bool.true≢false}
-use Rattle.std.proofs.lemmas.{Bool.Decides.nat_tests, List.Sums.sum_by-cons}
-use Rattle.std.specs.{Ordering.nat_cmp, Ordering.is_lt, Ordering.eq_by_cmp, FinMap.FinMap}
-use Rattle.std.specs.{FinMap.find, FinMap.is_sorted, Cmp.nat_cmp_total, List.list_any}
-use Rattle.std.specs.{FinMap.Entries.below_all}
+use Rattle.std.proofs.lemmas.Option.{none-some, same_Some}
+use Rattle.std.proofs.lemmas.{Bool.Decides.nat_tests, Bool.true≢false, List.Sums.sum_by-cons}
+use Rattle.std.specs.Ordering.{nat_cmp, is_lt, eq_by_cmp}
+use Rattle.std.specs.FinMap.{FinMap, find, is_sorted, Entries.below_all}
+use Rattle.std.specs.{Cmp.nat_cmp_total, List.list_any}
 use Rattle.cnf_base.specs.Literals.{Literal, Clause, complement, complements, has, same_clause}
-use Rattle.cnf_base.specs.Literals.{size}
-use Rattle.cnf_base.specs.Maps.{sum_over}
-use Rattle.cnf_base.proofs.LiteralLemmas.{complement-complement}
+use Rattle.cnf_base.specs.{Maps.sum_over, Literals.size}
+use Rattle.cnf_base.proofs.{LiteralLemmas.complement-complement, SizeLemmas.size_same}
 use Rattle.cnf_base.proofs.SetLemmas.{both_pass, complements_has, filter_has, has-complements}
 use Rattle.cnf_base.proofs.SetLemmas.{has-filter, same_from}
-use Rattle.cnf_base.proofs.SizeLemmas.{size_same}
 use Rattle.cnf_base.proofs.MapLemmas.{get_insert, get_remove, inserted_is, same_maps}
 use Rattle.propagation.specs.Assumptions.{HasAt}
 use Rattle.clause_db.specs.Store.{IsTouchedAt, literals_in}
@@ -31,10 +29,7 @@ in_set (k ∷ c) l = ap is_some (maps.get-insert nat_cmp_total (set_of c) k tt l
     ∙ by_test (eq_by_cmp nat_cmp l k) (eqb k l) (tie_back l k) (maps.get (set_of c) l) (in_set c l)
   where
     by_test : (a b : Bool) → a ≡ b → (o : Option Unit) → is_some o ≡ has c l → is_some (cond a (Some tt) o) ≡ (b || has c l)
-    by_test true true e o f = refl
-    by_test true false e o f = absurd (true≢false e)
-    by_test false true e o f = absurd (true≢false (sym e))
-    by_test false false e o f = f
+    by_test a b h o h2 = grind (arith, true≢false)
 
 -- the same literals
 pub has-in_order : (c : Clause) (l : Literal) → has (in_order c) l ≡ has c l
@@ -52,10 +47,7 @@ pub alike_in_order : (c d : Clause) → ((l : Literal) → has c l ≡ has d l) 
 alike_in_order c d alike = ap maps.keys (same_maps (set_of c) (set_of d) (λ l. one_value _ _ (in_set c l ∙ alike l ∙ sym (in_set d l))))
   where
     one_value : (o p : Option Unit) → is_some o ≡ is_some p → o ≡ p
-    one_value None None e = refl
-    one_value None (Some x) e = absurd (true≢false (sym e))
-    one_value (Some x) None e = absurd (true≢false e)
-    one_value (Some x) (Some y) e = refl
+    one_value o p h = grind (arith, true≢false)
 
 -- ---- All clauses
 
@@ -76,8 +68,7 @@ find_ordered q (e ∷ es) = search (rules, option_map, (find_ordered q es))
 
 weights_ordered : (w v : Clause → ℕ) → ((c : Clause) → w (in_order c) ≡ v c) → (es : List (ℕ × Clause)) → sum_by w (map (λ e. e.1) (ordered es)) ≡ sum_by v (map (λ e. e.1) es)
 weights_ordered w v alike [] = refl
-weights_ordered w v alike (e ∷ es) =
-    search (rules, sum_by-cons, sum_by, (weights_ordered w v alike es))
+weights_ordered w v alike (e ∷ es) = grind (arith, sum_by-cons, weights_ordered w v alike es)
 
 still_sorted : (live : FinMap nat_cmp Clause) → T (is_sorted nat_cmp (ordered (maps.entries live)))
 still_sorted live = subst T (sym (sorted_ordered (maps.entries live))) (maps.entries_sorted live)
@@ -116,8 +107,7 @@ pub seen_there : (live : FinMap nat_cmp Clause) (s : ℕ) (c : Clause) → maps.
 seen_there live s c here = get_ordered live s ∙ ap (option_map in_order) here
 
 pub there_seen : (live : FinMap nat_cmp Clause) (s : ℕ) (d : Clause) → maps.get (each_in_order live) s ≡ Some d → (c : Clause) × (maps.get live s ≡ Some c) × ((l : Literal) → has d l ≡ has c l)
-there_seen live s d here =
-    search (rules, get_ordered, option_map, none-some, same_Some, has-in_order)
+there_seen live s d here = grind (arith, get_ordered, none-some, same_Some, has-in_order)
 
 pub alive_alike : (live : FinMap nat_cmp Clause) (s : ℕ) → is_some (maps.get (each_in_order live) s) ≡ is_some (maps.get live s)
 alive_alike live s = search (rules, is_some, get_ordered, option_map)
@@ -145,5 +135,4 @@ part_alike keeps c d alike l = both_pass _ _ (there c d alike l) (there d c (λ 
   where
     there : (c d : Clause) → ((l : Literal) → has c l ≡ has d l) → (l : Literal) → has (complements (filter keeps c)) l ≡ true → has (complements (filter keeps d)) l ≡ true
     there c d alike l h =
-        let w = filter_has keeps c (complement l) (complements_has (filter keeps c) l h) in
-        ap (has (complements (filter keeps d))) (sym (complement-complement l)) ∙ has-complements (filter keeps d) (complement l) (has-filter keeps d (complement l) (sym (alike (complement l)) ∙ w.0) w.1)
+        cc (complement-complement l, has-complements (filter keeps d) (complement l) (has-filter keeps d (complement l) (sym (alike (complement l)) ∙ (filter_has keeps c (complement l) (complements_has (filter keeps c) l h)).0) (filter_has keeps c (complement l) (complements_has (filter keeps c) l h)).1))

@@ -69,13 +69,10 @@ module _ (live : FinMap nat_cmp Clause) (held : AssumptionsState) (slot : ℕ) (
         by_open false e l h = forced_assumed (maps.get (each_in_order live)) held.trail.lits l (ap (λ ls. has ls l) (sym e) ∙ h)
 
         noted_set : (b : Bool) (o : Option ℕ) → is_some o ≡ true → is_some (cond b (Some slot) o) ≡ true
-        noted_set true o h = refl
-        noted_set false o h = h
+        noted_set b o h = grind arith
 
         kept_set : (b : Bool) → b ≡ not (has held.trail.lits m) → (l : Literal) → has held.trail.lits l ≡ true → (t : Bool) → eqb l m ≡ t → cond (b && t) (Some slot) (reason_of l) ≡ reason_of l
-        kept_set false was l h t e = refl
-        kept_set true was l h false e = refl
-        kept_set true was l h true e = absurd (true≢false (was ∙ ap not (ap (has held.trail.lits) (sym (eqb-true l m e)) ∙ h)))
+        kept_set b h l h2 t h3 = grind (arith, true≢false, eqb-true)
 
         reasoned_set : (b : Bool) → b ≡ not (has held.trail.lits m) → ((k : Literal) → reason_now k ≡ cond (b && eqb k m) (Some slot) (reason_of k)) →
             AreReasoned (maps.get (each_in_order live)) reason_of held.trail.lits → AreReasoned (maps.get (each_in_order live)) reason_now (cond b (held.trail.lits ++ m ∷ []) held.trail.lits)

@@ -85,8 +85,7 @@ module _ (live : Live) (reason_of : Literal → Option ℕ) (lits : List Literal
   module _ (reason_now : Literal → Option ℕ) (m : Literal) (slot : ℕ) (apart : HasNoVariableTwice lits) (by : IsReasonAt live slot lits m) (set : reason_now m ≡ Some slot) (same : (l : Literal) → l ≢ m → reason_now l ≡ reason_of l) where
     not_before : (n : ℕ) → n ≤ by.place → has (take n lits) m ≡ true → ⊥
     not_before n low member =
-        let w = place_in_front lits n m member in
-        let inside = w.1 in
+        let w = place_in_front lits n m member in let inside = w.1 in
         places_apart lits apart w.0 by.place (omega (arith, low, inside)) by.inside (ap variable (w.3 ∙ sym by.stands))
 
     from_front : (n : ℕ) (passes : Literal → Bool) → FollowsReasons live reason_now (take n lits) passes → has (take n lits) m ≡ true → passes m ≡ true

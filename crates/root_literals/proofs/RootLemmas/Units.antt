@@ -1,5 +1,5 @@
 -- The clauses of one literal and of none.
-use Rattle.std.proofs.Common.{◌≡◌, ℕ, ◌+◌, ◌<◌, ◌≤◌, Bool, true, false, not, cond, eqb, eq-eqb}
+use Rattle.std.proofs.Common.{◌≡◌, ℕ, ◌+◌, ◌<◌, ◌≤◌, Bool, true, false, not, cond, eq-eqb}
 use Rattle.std.proofs.Common.{Option, Some, None, List, [], ◌∷◌, ◌++◌, length, get_or, take, refl}
 use Rattle.std.proofs.Common.{sym, ap, ◌∙◌, subst, arith, inl, inr}
 use Rattle.std.proofs.lemmas.{Bool.true≢false, Bool.false≢true, Bool.not-false, List.take_all}
@@ -22,25 +22,17 @@ pub no_literal : (c : Clause) → c ≡ [] → (k : Literal) → has c k ≡ tru
 no_literal c is k h = false≢true (ap (λ d. has d k) (sym is) ∙ h)
 
 unit_long : (c : Clause) (trues : List Literal) → is_short c ≡ false → HasUnit c trues
-unit_long [] trues e = absurd (true≢false e)
-unit_long (a ∷ []) trues e = absurd (true≢false e)
-unit_long (a ∷ b ∷ c) trues e = tt
+unit_long c trues h = grind (arith, true≢false)
 
 -- a literal that is set where it was open is true
 pub set_by : (before after : List Literal) (l : Literal) (is_open : Bool) → is_open ≡ not (has before l) → after ≡ cond is_open (before ++ l ∷ []) before → has after l ≡ true
-set_by before after l true was is = ap (λ ls. has ls l) is ∙ has_append_right before (l ∷ []) l (has_head l [])
-set_by before after l false was is = ap (λ ls. has ls l) is ∙ not-false (has before l) (sym was)
+set_by before after l is_open h h2 = grind (arith, has_append_right, has_head, not-false)
 
 -- ---- The list
 
 module _ (live : Live) (slots : List ℕ) (listed : IsShortList live slots) where
   pub short_alive : (place : ℕ) → place < length slots → (c : Clause) × (live (get_or slots place 0) ≡ Some c) × (is_short c ≡ true)
-  short_alive place inside =
-      let s = get_or slots place 0 in
-      let one = get_or-le-sum_by (λ x. cond (eqb x s) 1 0) slots place 0 inside in
-      let here : cond {A = ℕ} (eqb s s) 1 0 ≡ 1 = ap (λ b. cond {A = ℕ} b 1 0) (eq-eqb s s refl) in
-      let count = listed.listed s in
-      by_clause (live s) refl (omega (arith, one, here, count))
+  short_alive place inside = grind (arith, get_or-le-sum_by, eq-eqb, by_clause)
     where
       by_length : (c : Clause) (b : Bool) → is_short c ≡ b → 0 < cond {A = ℕ} b 1 0 → is_short c ≡ true
       by_length c true e h = e

@@ -1,22 +1,21 @@
 -- How many of the literals have a reason with a literal.
 use Rattle.std.proofs.Common.{◌≡◌, ◌≢◌, ℕ, zero, suc, ◌+◌, ◌<◌, ◌≤◌, Bool, true, false, cond, eqb}
-use Rattle.std.proofs.Common.{eqb-true, eq-eqb, Option, Some, None, option_map, List, [], ◌∷◌, ◌++◌}
+use Rattle.std.proofs.Common.{eqb-true, eq-eqb, Option, Some, option_map, List, [], ◌∷◌, ◌++◌}
 use Rattle.std.proofs.Common.{length, get_or, take, refl, sym, ap, ◌∙◌, subst, arith, inl, inr}
-use Rattle.std.proofs.Common.{rules}
-use Rattle.std.proofs.lemmas.{Bool.cases_eq, Bool.cases_lt, Bool.false≢true, Bool.or_right}
-use Rattle.std.proofs.lemmas.{List.length-take, List.take-take, List.take_more, Grind.common_steps}
-use Rattle.std.proofs.lemmas.{Bool.Decides.nat_tests, List.Edits.length-remove}
-use Rattle.std.specs.{List.remove, Ordering.nat_cmp, FinMap.FinMap}
+use Rattle.std.proofs.lemmas.Bool.{cases_eq, cases_lt, false≢true, or_right, Decides.nat_tests}
+use Rattle.std.proofs.lemmas.List.{length-take, take-take, take_more, Edits.length-remove}
+use Rattle.std.proofs.{lemmas.Grind.common_steps, Common.rules}
+use Rattle.std.specs.{Ordering.nat_cmp, List.remove, FinMap.FinMap}
 use Rattle.cnf_base.specs.Literals.{Literal, Clause, has, variable}
-use Rattle.cnf_base.proofs.{MapLemmas.remove_here, MapLemmas.remove_other, WalkLemmas.has_more}
-use Rattle.cnf_base.proofs.{MemberLemmas.place_in_front, SetLemmas.has_cases, SetLemmas.has_head}
+use Rattle.cnf_base.proofs.{MapLemmas.remove_here, MapLemmas.remove_other, SetLemmas.has_head}
+use Rattle.cnf_base.proofs.{MemberLemmas.place_in_front, WalkLemmas.has_more, SetLemmas.has_cases}
 use Rattle.theory.specs.Propagation.{Live}
 use Rattle.trail.specs.Trail.{HasNoVariableTwice}
 use Rattle.trail.proofs.TrailLemmas.{Truth.places_apart, Without.none_left}
 use Rattle.root_literals.proofs.RootLemmas.Order.{get_ordered, has-in_order}
 use Rattle.root_literals.proofs.RootLemmas.Watched.{front_part}
-use Rattle.root_literals.specs.{Order.each_in_order, Uses.AreCounted, Uses.clause_in, Uses.is_in}
-use Rattle.root_literals.specs.{Uses.times, Uses.uses_of, declared.uses.Uses.Uses}
+use Rattle.root_literals.specs.Uses.{AreCounted, clause_in, is_in, times, uses_of}
+use Rattle.root_literals.specs.{declared.uses.Uses.Uses, Order.each_in_order}
 use Rattle.std.specs.FinMap as maps
 
 -- one, if the clause has the literal
@@ -52,15 +51,12 @@ module _ (live : Live) (r : Literal → Option ℕ) (k : Literal) where
   ]
     where
       by_test : (b : Bool) → cond {A = ℕ} b 1 0 + uses_of live r lits k ≡ 0 → b ≡ false
-      by_test true e = absurd (let wrong : ⊥ = omega (arith, e) in wrong)
-      by_test false e = refl
+      by_test b h = grind arith
 
   -- one of them is taken out
   pub uses_out : (lits : List Literal) (n place : ℕ) → place ≤ n → n < length lits → uses_of live r (take n (remove lits place)) k + one (clause_in live (r (get_or lits place 0))) k ≡ uses_of live r (take (suc n) lits) k
-  uses_out [] n place low within = absurd (let wrong : ⊥ = omega (arith, within) in wrong)
-  uses_out (l ∷ lits) n zero low within = omega arith
-  uses_out (l ∷ lits) zero (suc place) low within = search rules
   uses_out (l ∷ lits) (suc n) (suc place) low within = let rest = uses_out lits n place (omega (arith, low)) (omega (arith, within)) in omega (arith, rest)
+  uses_out lits n place h h2 = search (rules, arith)
 
 -- those before the one that is taken out
 take_before : (lits : List Literal) (n place : ℕ) → n ≤ place → take n (remove lits place) ≡ take n lits
@@ -98,8 +94,7 @@ counted_front live r lits uses n low are = search (rules, length-take, take-take
 module _ (lits : List Literal) (place : ℕ) (l : Literal) (inside : place < length lits) (stands : get_or lits place 0 ≡ l) (different : HasNoVariableTwice lits) where
   not_before : (n : ℕ) → n ≤ place → (m : Literal) → has (take n lits) m ≡ true → m ≢ l
   not_before n low m h e =
-      let w = place_in_front lits n m h in
-      let before = w.1 in
+      let w = place_in_front lits n m h in let before = w.1 in
       places_apart lits different w.0 place (omega (arith, low, before)) inside (ap variable (w.3 ∙ e ∙ sym stands))
 
   not_left : (n : ℕ) (m : Literal) → has (take n (remove lits place)) m ≡ true → m ≢ l
@@ -109,16 +104,8 @@ module _ (lits : List Literal) (place : ℕ) (l : Literal) (inside : place < len
   pub counted_instead : (live : Live) (r s : Literal → Option ℕ) (uses now : Uses) (before after : Clause) → clause_in live (r l) ≡ Some before → clause_in live (s l) ≡ Some after → ((m : Literal) → m ≢ l → s m ≡ r m) →
       (now.counted ≢ 0 → now.counted ≡ uses.counted) → (now.counted ≢ 0 → place < uses.counted → (k : Literal) → times uses k + cond (has after k) 1 0 ≤ times now k + cond (has before k) 1 0) → (uses.counted ≤ place → now ≡ uses) →
       AreCounted live r lits uses → AreCounted live s lits now
-  counted_instead live r s uses now before after was is same counted exchanged stays are = elim (cases_eq now.counted 0) [
-    | inl none ↦ counted_none live s lits now none
-    | inr some ↦ elim (cases_lt place uses.counted) [
-      | inl low ↦ record {
-        inside = let within = are.inside in let e = counted some in omega (arith, within, e);
-        enough = behind some low;
-      }
-      | inr past ↦ subst (AreCounted live s lits) (sym (stays past)) (record { inside = are.inside; enough = unchanged past })
-    ]
-  ]
+  counted_instead live r s uses now before after was is same counted exchanged stays are =
+      grind (arith, cases_eq, counted_none, cases_lt, behind, unchanged)
     where
       same_in : (k m : Literal) → m ≢ l → is_in (clause_in live (s m)) k ≡ true → is_in (clause_in live (r m)) k ≡ true
       same_in k m ne h = ap (λ o. is_in (clause_in live o) k) (sym (same m ne)) ∙ h
@@ -126,8 +113,7 @@ module _ (lits : List Literal) (place : ℕ) (l : Literal) (inside : place < len
       unchanged : uses.counted ≤ place → (k : Literal) → uses_of live s (take uses.counted lits) k ≤ times uses k
       unchanged past k =
           let fewer = uses_at_most live live r s k (take uses.counted lits) (λ m h. same_in k m (not_before uses.counted past m h)) in
-          let enough = are.enough k in
-          omega (arith, fewer, enough)
+          let enough = are.enough k in omega (arith, fewer, enough)
 
       first_is : (t : Literal → Option ℕ) (c : Clause) → clause_in live (t l) ≡ Some c → (k : Literal) → one (clause_in live (t (get_or lits place 0))) k ≡ cond (has c k) 1 0
       first_is t c e k = ap (λ x. one (clause_in live (t x)) k) stands ∙ ap (λ o. one o k) e
@@ -150,19 +136,8 @@ module _ (lits : List Literal) (place : ℕ) (l : Literal) (inside : place < len
   -- the literal is taken back, whose reason has no other
   pub counted_out : (live rest : Live) (r : Literal → Option ℕ) (uses now : Uses) → clause_in live (r l) ≡ Some (l ∷ []) → ((k m : Literal) → is_in (clause_in rest (r m)) k ≡ true → is_in (clause_in live (r m)) k ≡ true) →
       (place < uses.counted → now.counted + 1 ≡ uses.counted) → ((k : Literal) → times uses k ≤ times now k + cond (eqb k l) 1 0) → (uses.counted ≤ place → now ≡ uses) → AreCounted live r lits uses → AreCounted rest r (remove lits place) now
-  counted_out live rest r uses now unit among fewer less stays are = elim (cases_lt place uses.counted) [
-    | inl low ↦ record {
-      inside = let within = are.inside in let e = fewer low in let n = length-remove lits place inside in omega (arith, within, e, n);
-      enough = behind low;
-    }
-    | inr past ↦ subst (AreCounted rest r (remove lits place)) (sym (stays past)) (record {
-      inside = let within = are.inside in let n = length-remove lits place inside in omega (arith, within, n, past, inside);
-      enough = λ k.
-          let most = uses_at_most live rest r r k (take uses.counted (remove lits place)) (λ m _. among k m) in
-          let enough = subst (λ ls. uses_of live r ls k ≤ times uses k) (sym (take_before lits uses.counted place past)) (are.enough k) in
-          omega (arith, most, enough);
-    })
-  ]
+  counted_out live rest r uses now unit among fewer less stays are =
+      grind (arith, cases_lt, length-remove, behind, uses_at_most, take_before)
     where
       has_it : (k : Literal) (b : Bool) → eqb k l ≡ b → cond {A = ℕ} b 1 0 ≤ cond (has (l ∷ []) k) 1 0
       has_it k true e = let there : cond {A = ℕ} (has (l ∷ []) k) 1 0 ≡ 1 = ap (λ b. cond {A = ℕ} b 1 0) (subst (λ x. has (l ∷ []) x ≡ true) (sym (eqb-true k l e)) (has_head l [])) in omega (arith, there)
@@ -170,21 +145,18 @@ module _ (lits : List Literal) (place : ℕ) (l : Literal) (inside : place < len
 
       behind : place < uses.counted → (k : Literal) → uses_of rest r (take now.counted (remove lits place)) k ≤ times now k
       behind low k =
-          let e = fewer low in
-          let within = are.inside in
+          let e = fewer low in let within = are.inside in
           let most = uses_at_most live rest r r k (take now.counted (remove lits place)) (λ m _. among k m) in
           let split = uses_out live r k lits now.counted place (omega (arith, low, e)) (omega (arith, within, e)) in
           let first : one (clause_in live (r (get_or lits place 0))) k ≡ cond (has (l ∷ []) k) 1 0 = ap (λ x. one (clause_in live (r x)) k) stands ∙ ap (λ o. one o k) unit in
-          let next : suc now.counted ≡ uses.counted = omega (arith, e) in
-          grind arith
+          let next : suc now.counted ≡ uses.counted = omega (arith, e) in grind arith
 
 -- ---- Clauses
 
 module _ (live : FinMap nat_cmp Clause) (slot : ℕ) where
   -- one clause fewer
   pub in_rest : (k : Literal) (o : Option ℕ) → is_in (clause_in (maps.get (maps.remove live slot)) o) k ≡ true → is_in (clause_in (maps.get live) o) k ≡ true
-  in_rest k None h = h
-  in_rest k (Some s) h = grind (arith, cases_eq, false≢true, remove_here, remove_other)
+  in_rest k o h = grind (arith, cases_eq, false≢true, remove_here, remove_other)
 
   pub in_rest_too : (k : Literal) (o : Option ℕ) → o ≢ Some slot → is_in (clause_in (maps.get live) o) k ≡ true → is_in (clause_in (maps.get (maps.remove live slot)) o) k ≡ true
   in_rest_too k o h h2 = search (rules, remove_other)
@@ -206,8 +178,7 @@ module _ (live : Live) (r : Literal → Option ℕ) (lits : List Literal) (uses 
   counted_more inside next more = record {
     inside = omega (arith, inside, next);
     enough = λ k.
-        let so_far = are.enough k in
-        let step = more k in
+        let so_far = are.enough k in let step = more k in
         let split = ap (λ ls. uses_of live r ls k) (take_more lits uses.counted 0 inside) ∙ uses_more live r k (take uses.counted lits) (get_or lits uses.counted 0) in
         subst (λ n. uses_of live r (take n lits) k ≤ times now k) (sym next) (omega (arith, so_far, step, split));
   }

@@ -1,14 +1,12 @@
-use Rattle.std.proofs.Common.{ap, ◌∙◌}
-use Rattle.std.specs.FinMap as maps
-use Rattle.std.proofs.lemmas.List.{take_all}
+use Rattle.std.proofs.{lemmas.List.take_all, Common.ap, Common.◌∙◌}
 use Rattle.tables.specs.Filled.{at}
 use Rattle.cnf_base.specs.Literals.{has}
 use Rattle.trail.proofs.TrailLemmas.Longer.{has_begun}
 use Rattle.root_literals.specs.Code.Propagated.{PropagatesTo}
-use Rattle.root_literals.proofs.RootLemmas.Doubts.{settled_more}
-use Rattle.root_literals.proofs.RootLemmas.Propagated.{propagates_on}
-use Rattle.root_literals.proofs.doubts.look_at.Goals as goal
+use Rattle.root_literals.proofs.RootLemmas.{Propagated.propagates_on, Doubts.settled_more}
 use Rattle.root_literals.proofs.doubts.look_at.Goals.{After-look}
+use Rattle.std.specs.FinMap as maps
+use Rattle.root_literals.proofs.doubts.look_at.Goals as goal
 
 -- with what the looks before made true
 all-propagates : (c : After-look) → PropagatesTo c.args.store.now.live c.args.store.now.live c.args.assumptions.now c.look.new.assumptions (at c.args.reasons.now) (at c.look.new.reasons)
@@ -18,8 +16,7 @@ all-propagates c =
 
 pub loop-place-preserved : goal.loop-place-preserved
 loop-place-preserved c =
-    let so_far = c.loop-place.invariant in
-    let x = c.args.assumptions.now.trail.lits in
+    let so_far = c.loop-place.invariant in let x = c.args.assumptions.now.trail.lits in
     let y = c.loop-place.assumptions.trail.lits in
     let z = c.look.new.assumptions.trail.lits in record {
       settled =

@@ -1,12 +1,11 @@
-use Rattle.std.proofs.Common.{◌≡◌, ◌<◌, ℕ, true, Option, Some, None, List, [], ◌∷◌, length}
-use Rattle.std.proofs.Common.{slice_index, sym, inl, inr}
-use Rattle.std.specs.FinMap as maps
+use Rattle.std.proofs.Common.{◌≡◌, ◌<◌, ℕ, true, Option, Some, None, List, [], ◌∷◌, length, sym}
 use Rattle.std.specs.Option.{IfSome}
-use Rattle.std.proofs.lemmas.Bool.{false≢true}
+use Rattle.std.proofs.{lemmas.Bool.false≢true, Common.slice_index, Common.inl, Common.inr}
 use Rattle.cnf_base.specs.Literals.{Literal, has}
 use Rattle.cnf_base.proofs.SetLemmas.{has_cases, has_head}
 use Rattle.theory.specs.Propagation.{Live}
 use Rattle.root_literals.specs.Roots.{IsReasonAt}
+use Rattle.std.specs.FinMap as maps
 use Rattle.root_literals.proofs.other_reason.other_unit.Goals as goal
 
 only : (l k : Literal) → has (l ∷ []) k ≡ true → k ≡ l

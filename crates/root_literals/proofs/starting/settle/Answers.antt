@@ -1,10 +1,8 @@
 use Rattle.std.proofs.Common.{◌≡◌, length, inl, inr, refl, ap, subst, arith}
-use Rattle.std.specs.FinMap as maps
-use Rattle.root_literals.specs.History.{IsRewound}
-use Rattle.root_literals.specs.Roots.{has_clash}
+use Rattle.root_literals.specs.{History.IsRewound, Roots.has_clash, Code.Doubts.AreSettled}
 use Rattle.root_literals.proofs.RootLemmas.History.{rewound_none}
-use Rattle.root_literals.specs.Code.Doubts.{AreSettled}
 use Rattle.root_literals.proofs.RootLemmas.Grown.{kept_settled, settled_all}
+use Rattle.std.specs.FinMap as maps
 use Rattle.root_literals.proofs.starting.settle.Goals as goal
 
 pub returns-in-Settled-clause-kept : goal.returns-in-Settled-clause-kept
@@ -13,8 +11,7 @@ returns-in-Settled-clause-kept c =
 
 pub returns-in-Settled-clause-sure : goal.returns-in-Settled-clause-sure
 returns-in-Settled-clause-sure c =
-    let x = c.args.assumptions.now in
-    let y = c.look_at.new.assumptions in
+    let x = c.args.assumptions.now in let y = c.look_at.new.assumptions in
     settled_all c.args.store.now.live x y c.args.roots.now (record c.args.roots.now { reasons = c.look_at.new.reasons }) c.look_at.ensures.propagates c.requires.kept (ap has_clash c.requires.cut)
     (subst (λ xs. AreSettled (maps.get c.args.store.now.live) xs x.trail.lits y.trail.lits) c.as_slice-slots.ensures.value c.in-Settled.ensures.looked)
 

@@ -1,40 +1,32 @@
 use Rattle.std.proofs.Common.{length, inr, arith, IfSome, IfNone, [], refl, ap, subst, take}
-use Rattle.std.specs.FinMap as maps
-use Rattle.std.proofs.lemmas.Bool.{true≢false}
+use Rattle.std.proofs.lemmas.{Bool.true≢false, List.take_all}
 use Rattle.tables.specs.Filled.{at}
-use Rattle.root_literals.specs.History.{visits}
-use Rattle.root_literals.specs.Order.{each_in_order}
+use Rattle.root_literals.specs.{Order.each_in_order, History.visits, Watched.IsWatched}
 use Rattle.root_literals.specs.Roots.{HaveUnits, IsFalseAt, has_clash}
-use Rattle.root_literals.specs.Watched.{IsWatched}
-use Rattle.std.proofs.lemmas.List.{take_all}
 use Rattle.root_literals.proofs.RootLemmas.Grown.{grown_on, kept_started, visited_grown}
 use Rattle.root_literals.proofs.RootLemmas.Propagated.{propagates_none}
+use Rattle.std.specs.FinMap as maps
 use Rattle.root_literals.proofs.starting.start.Goals as goal
 
 pub returns-in-Some-clause-kept : goal.returns-in-Some-clause-kept
 returns-in-Some-clause-kept c =
-    let live = c.args.store.now.live in
-    let x = c.settle.new.assumptions in
+    let live = c.args.store.now.live in let x = c.settle.new.assumptions in
     let roots = c.settle.new.roots in
     kept_started live x x roots _ (propagates_none live x (at roots.reasons)) c.settle.ensures.kept (ap has_clash c.settle.ensures.cut) refl
     (subst (λ o. IfSome o (λ k. IsFalseAt (maps.get (each_in_order live)) k x.trail.lits)) c.in-Some.is c.settle.ensures.clash) refl (λ quiet. absurd (true≢false quiet))
 
 pub returns-in-Some-set_units-clause-kept : goal.returns-in-Some-set_units-clause-kept
 returns-in-Some-set_units-clause-kept c =
-    let live = c.args.store.now.live in
-    let e = c.set_units.ensures in
+    let live = c.args.store.now.live in let e = c.set_units.ensures in
     let y = c.set_units.new.assumptions in
     kept_started live c.settle.new.assumptions y c.settle.new.roots _ e.propagates c.settle.ensures.kept (ap has_clash c.settle.ensures.cut) refl
     (subst (λ o. IfSome o (λ k. IsFalseAt (maps.get (each_in_order live)) k y.trail.lits)) c.in-Some-set_units.is e.clash) refl (λ quiet. absurd (true≢false quiet))
 
 pub returns-in-None-clause-kept : goal.returns-in-None-clause-kept
 returns-in-None-clause-kept c =
-    let live = c.args.store.now.live in
-    let e = c.set_units.ensures in
-    let x = c.settle.new.assumptions in
-    let y = c.set_units.new.assumptions in
-    let roots = c.settle.new.roots in
-    let kept = c.settle.ensures.kept in
+    let live = c.args.store.now.live in let e = c.set_units.ensures in
+    let x = c.settle.new.assumptions in let y = c.set_units.new.assumptions in
+    let roots = c.settle.new.roots in let kept = c.settle.ensures.kept in
     kept_started live x y roots _ e.propagates kept (ap has_clash c.settle.ensures.cut) refl
     (subst (λ o. IfNone o (HaveUnits (maps.get live) y.trail.lits)) c.in-None.is e.units) refl
     (λ _. visited_grown live live x y (at roots.reasons) (at c.set_units.new.reasons) e.propagates [] (visits roots.history) kept.history.inside

@@ -7,9 +7,7 @@ use Rattle.root_literals.proofs.roots.Roots.change_reason.Goals as goal
 
 pub returns-in-Some-found-clause-kept : goal.returns-in-Some-found-clause-kept
 returns-in-Some-found-clause-kept c =
-    let roots = c.args.self.now in
-    let l = c.in-Some.l in
-    let other = c.in-Some-found.other in
+    let roots = c.args.self.now in let l = c.in-Some.l in let other = c.in-Some-found.other in
     kept_exchange c.args.store.now.live roots _ c.args.trail.now.lits refl refl c.requires.kept l other c.lits-lits.ensures.different
     (subst (λ ls. IsReasonAt (maps.get c.args.store.now.live) other ls l) c.lits-lits.ensures.value c.in-Some-found.ensures.reason)
     (λ k. c.set.ensures k ∙ ap (λ x. cond (eqb k x) (Some other) (at roots.reasons k)) c.key.ensures)

@@ -12,8 +12,7 @@ returns-clause-lits c =
 
 pub returns-clause-fewer : goal.returns-clause-fewer
 returns-clause-fewer c =
-    let lits = c.args.assumptions.now.trail.lits in
-    let low = c.rewind-left.ensures.inside in
+    let lits = c.args.assumptions.now.trail.lits in let low = c.rewind-left.ensures.inside in
     let inside : c.rewind-left.result ≤ length lits = let fits = c.requires.inside in omega (arith, low, fits) in
     let long = ap length c.cut-2.ensures.lits ∙ length-take-le c.rewind-left.result lits inside in
     omega (arith, long, low)

@@ -7,9 +7,8 @@ use Rattle.root_literals.proofs.RootLemmas.Entered.{Entering, entered_false, ent
 use Rattle.root_literals.proofs.RootLemmas.Entered.{entered_more, entered_set, entered_taken}
 use Rattle.root_literals.proofs.RootLemmas.Entered.{entered_true}
 use Rattle.root_literals.proofs.roots.Roots.enter.Goals.{After-enter, Else-set_by}
+use Rattle.root_literals.specs.{Roots.IsArranged, Roots.IsKept, History.IsNoted}
 use Rattle.root_literals.proofs.roots.Roots.enter.Goals as goal
-use Rattle.root_literals.specs.History.{IsNoted}
-use Rattle.root_literals.specs.Roots.{IsArranged, IsKept}
 
 open_is : (b : Bool) → true ≡ not b → b ≡ false
 open_is true e = e
@@ -18,8 +17,7 @@ open_is false e = refl
 -- the clause is entered where the history knows of it
 entering-clause-kept : (c : After-enter) → Entering c.args.store.now.live c.args.slot c.clause-clause.result.now c.args.self.now c.args.assumptions.now.trail.lits c.args.left c.enter.new.self
 entering-clause-kept c =
-    let clause = c.clause-clause.result.now in
-    let here = sym c.clause-clause.ensures.clause in
+    let clause = c.clause-clause.result.now in let here = sym c.clause-clause.ensures.clause in
     let trues = c.len.ensures.value ∙ ap (λ t. length t.lits) c.trail.ensures in record {
       here = here;
       kept = c.requires.kept;
@@ -66,8 +64,7 @@ returns-then-set_by-clause-kept c =
 true-clause-kept : (c : Else-set_by) → (c.set_by.new.assumptions.trail.lits ≡ c.args.assumptions.now.trail.lits) × (has c.args.assumptions.now.trail.lits c.in-One.l ≡ true)
     × ((k : Literal) → at c.set_by.new.reasons k ≡ at c.args.self.now.reasons k)
 true-clause-kept c =
-    let lits = c.args.assumptions.now.trail.lits in
-    let m = c.in-One.l in
+    let lits = c.args.assumptions.now.trail.lits in let m = c.in-One.l in
     let e = c.set_by.ensures in (
       e.lits ∙ ap (λ b. cond b (lits ++ m ∷ []) lits) c.if-set_by.false,
       not-false (has lits m) (sym e.was_open ∙ c.if-set_by.false),

@@ -7,8 +7,7 @@ use Rattle.root_literals.proofs.roots.Roots.leave.Goals as goal
 
 pub loop-place-preserved : goal.loop-place-preserved
 loop-place-preserved c =
-    let so_far = c.loop-place.invariant in
-    let e = c.cut.ensures in
+    let so_far = c.loop-place.invariant in let e = c.cut.ensures in
     let below = subst (λ t. c.in-Some.place ≤ length t.lits) c.trail-in-loop-place.ensures c.in-Some.ensures.inside in
     let fewer = e.fewer in record {
       noted = λ k h. ap (λ t. is_some (at t k)) e.reasons ∙ so_far.noted k h;

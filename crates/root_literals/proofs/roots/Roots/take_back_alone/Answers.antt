@@ -2,12 +2,10 @@ use Rattle.std.proofs.Common.{◌<◌, Some, get_or, length, refl, sym, ap, ◌�
 use Rattle.trail.specs.Trail.{HasNoVariableTwice}
 use Rattle.tables.specs.Filled.{at}
 use Rattle.root_literals.proofs.roots.Roots.take_back_alone.Goals.{After-is_needed}
+use Rattle.root_literals.specs.{Roots.IsKept, Roots.IsUnneeded, Uses.AreCounted}
+use Rattle.root_literals.proofs.RootLemmas.{Kept.kept_counted, Lone.kept_out}
 use Rattle.root_literals.proofs.roots.Roots.take_back_alone.Goals as goal
 use Rattle.std.specs.FinMap as maps
-use Rattle.root_literals.specs.Roots.{IsKept, IsUnneeded}
-use Rattle.root_literals.specs.Uses.{AreCounted}
-use Rattle.root_literals.proofs.RootLemmas.Kept.{kept_counted}
-use Rattle.root_literals.proofs.RootLemmas.Lone.{kept_out}
 
 -- all is kept, with the reasons that were counted
 kept-then : (c : After-is_needed) → IsKept c.args.store.now.live (record c.args.self.now { uses = c.is_needed.new.uses }) c.args.assumptions.now.trail.lits

@@ -8,11 +8,8 @@ use Rattle.root_literals.proofs.uses.Uses.count.Goals as goal
 
 pub loop-self-preserved : goal.loop-self-preserved
 loop-self-preserved c =
-    let live = maps.get c.args.store.now.live in
-    let r = at c.args.reasons.now in
-    let lits = c.args.lits.now in
-    let uses = c.loop-self.self in
-    let x = c.index-lits-self.result in
+    let live = maps.get c.args.store.now.live in let r = at c.args.reasons.now in
+    let lits = c.args.lits.now in let uses = c.loop-self.self in let x = c.index-lits-self.result in
     let read : get_or lits uses.counted 0 ≡ x = sym (c.index-lits-self.is ∙ get_or_default_zero lits uses.counted x c.loop-self-test.true) in
     counted_more live r lits uses _ c.loop-self.invariant c.loop-self-test.true refl (λ k.
     let here : cond {A = ℕ} (c.count_reason.result && is_in (clause_in live (r x)) k) 1 0 ≡ one (clause_in live (r (get_or lits uses.counted 0))) k = ap (λ b. cond {A = ℕ} (b && is_in (clause_in live (r x)) k) 1 0) c.if-not-count_reason.false

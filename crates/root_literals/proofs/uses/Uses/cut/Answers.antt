@@ -8,11 +8,8 @@ use Rattle.root_literals.proofs.uses.Uses.cut.Goals as goal
 
 pub loop-self-preserved-then-self-lits : goal.loop-self-preserved-then-self-lits
 loop-self-preserved-then-self-lits c are =
-    let live = maps.get c.args.store.now.live in
-    let r = at c.args.reasons.now in
-    let lits = c.args.lits.now in
-    let uses = c.loop-self.self in
-    let last = uses.counted - 1 in
+    let live = maps.get c.args.store.now.live in let r = at c.args.reasons.now in
+    let lits = c.args.lits.now in let uses = c.loop-self.self in let last = uses.counted - 1 in
     let x = c.index-lits-self.result in
     let read : get_or lits last 0 ≡ x = sym (c.index-lits-self.is ∙ get_or_default_zero lits last x c.if-self-lits.true) in
     let more = c.loop-self-test.true in
