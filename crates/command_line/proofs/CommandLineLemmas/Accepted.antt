@@ -1,7 +1,7 @@
 -- The words that a tool accepts are not refused.
 use Rattle.std.proofs.Common.{◌≡◌, ◌∙◌, ◌+◌, ◌<◌, ◌≤◌, ap, ap₂, sym, subst, refl, codes, List, []}
 use Rattle.std.proofs.Common.{◌∷◌, ◌++◌, Bool, true, false, ℕ, zero, suc, Option, None, Some}
-use Rattle.std.proofs.Common.{option_map, String, string_bytes, cond, true≢false, arith, length}
+use Rattle.std.proofs.Common.{option_map, String, string_bytes, true≢false, arith, length}
 use Rattle.std.proofs.Common.{length-append, rules}
 use Rattle.std.proofs.lemmas.{List.Elements.filter-append, Slice.Eq.bytes_eq-Decides}
 use Rattle.std.proofs.lemmas.{Grind.common_steps, Bool.Decides.nat_tests}
@@ -80,20 +80,14 @@ known_free tool (word ∷ words) known = go (bytes_eq end_mark word) refl (known
   where
     go : (b : Bool) → bytes_eq end_mark word ≡ b → is_among words end_mark ≡ false → (b || is_among words end_mark) ≡ false
     go false e rest = rest
-    go true e rest =
-        absurd (true≢false (sym (both _ _ known).0 ∙ (ap (is_known tool) (sym ((bytes_eq-Decides end_mark word).0 e)) ∙ end_mark_unknown tool)))
+    go true e rest = grind (arith, true≢false, both, bytes_eq-Decides, end_mark, end_mark_unknown)
 
 times_more : (f word : Text) (done : List Text) → times f (done ++ word ∷ []) ≡ times f done + length (filter (bytes_eq f) (word ∷ []))
 times_more f word done = simp (filter-append, length-append)
 
 never_among : (f : Text) (done : List Text) → times f done ≤ 0 → is_among done f ≡ false
 never_among f [] none = refl
-never_among f (x ∷ done) none = go (bytes_eq f x) none (never_among f done)
-  where
-    go : (b : Bool) → length (cond b (x ∷ filter (bytes_eq f) done) (filter (bytes_eq f) done)) ≤ 0 → (times f done ≤ 0 → is_among done f ≡ false)
-        → (b || is_among done f) ≡ false
-    go true low rest = absurd (omega arith)
-    go false low rest = rest low
+never_among f (x ∷ done) none = grind (arith, (never_among f done), bytes_eq)
 
 -- what is left of the words is accepted after those before them
 record Fits (tool : Tool) (done words : List Text) : Type 0 where
@@ -104,20 +98,11 @@ record Fits (tool : Tool) (done words : List Text) : Type 0 where
 
 module _ (tool : Tool) (done : List Text) (word : Text) (words : List Text) (fits : Fits tool done (word ∷ words)) where
   names_step : (b : Bool) → is_flag tool word ≡ b → length (names tool (done ++ word ∷ [])) + length (names tool words) ≤ length (names tool done) + length (names tool (word ∷ words))
-  names_step true e =
-      let kept = ap length (names_kept tool done word e) in
-      rw e (omega (arith, kept))
-  names_step false e =
-      let added = ap length (names_added tool done word e) ∙ length-append (names tool done) (word ∷ []) in
-      rw e (omega (arith, added))
+  names_step true e = grind (arith, names_kept)
+  names_step false e = grind (arith, names_added, length-append)
 
   times_step : (f : Text) → times f (done ++ word ∷ []) + times f words ≤ times f done + times f (word ∷ words)
-  times_step f = go (bytes_eq f word) (times_more f word done)
-    where
-      go : (b : Bool) → times f (done ++ word ∷ []) ≡ times f done + length (cond b (word ∷ []) [])
-          → times f (done ++ word ∷ []) + times f words ≤ times f done + length (cond b (word ∷ filter (bytes_eq f) words) (filter (bytes_eq f) words))
-      go true e = omega (arith, e)
-      go false e = omega (arith, e)
+  times_step f = grind (arith, bytes_eq, times_more)
 
   fits_next : Fits tool (done ++ word ∷ []) words
   fits_next = grind (arith, common_steps, nat_tests, names_step, neither, both, times_step)
@@ -159,10 +144,9 @@ walk_passes tool (word ∷ words) done w a fits =
 pub no_fault : (tool : Tool) (words : List Text) → Accepts tool (drop 1 words) → fault_of (command_of tool) words ≡ []
 no_fault tool words accepts =
     let said = drop 1 words in
-    let most = accepts.most in
     let fits : Fits tool [] said = record {
       full = accepts.full;
-      most = omega (arith, most);
+      most = omega (arith, accepts.most);
       known = accepts.known;
       once = λ f flag. let low = accepts.once f flag in omega (arith, low);
     } in
@@ -183,12 +167,7 @@ has_formula tool words accepts none = go (names tool words) accepts.least none
 -- what is left of words none of which passes a test
 none_left : (p t : Text → Bool) (words : List Text) → list_any t words ≡ false → list_any t (filter p words) ≡ false
 none_left p t [] e = refl
-none_left p t (w ∷ ws) e = by (p w) (t w) refl (none_left p t ws)
-  where
-    by : (kept : Bool) (v : Bool) → t w ≡ v → (list_any t ws ≡ false → list_any t (filter p ws) ≡ false) → list_any t (cond kept (w ∷ filter p ws) (filter p ws)) ≡ false
-    by kept true h next = absurd (true≢false (sym (ap (λ v. v || list_any t ws) h) ∙ e))
-    by true false h next = ap (λ v. v || list_any t (filter p ws)) h ∙ next (sym (ap (λ v. v || list_any t ws) h) ∙ e)
-    by false false h next = next (sym (ap (λ v. v || list_any t ws) h) ∙ e)
+none_left p t (w ∷ ws) e = grind (arith, (none_left p t ws), list_any, true≢false)
 
 at_none : (t : Text → Bool) (words : List Text) (k : ℕ) (w : Text) → list_any t words ≡ false → Some w ≡ slice_get words k → t w ≡ false
 at_none t [] k w e is = absurd (true≢false (ap is_some is))

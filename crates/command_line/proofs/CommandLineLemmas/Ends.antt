@@ -1,6 +1,6 @@
 -- What the parse gives at the end: the defaults, the last checks, and what is read of the rows.
-use Rattle.std.proofs.Common.{length, ◌≤◌, ◌≡◌, ◌∙◌, ap, sym, subst, codes, List, [], ◌∷◌, Bool}
-use Rattle.std.proofs.Common.{true, false, Option, Some, None, ℕ, cond, rules}
+use Rattle.std.proofs.Common.{arith, length, ◌≤◌, ◌≡◌, ◌∙◌, ap, sym, subst, codes, List, [], ◌∷◌}
+use Rattle.std.proofs.Common.{Bool, true, false, Option, Some, None, ℕ, cond, rules}
 use Rattle.std.proofs.lemmas.{Slice.Eq.bytes_eq-Decides, List.Folds.find-append}
 use Rattle.std.specs.Prelude.{◌&&◌, drop, is_some, option_and_then, slice_get}
 use Rattle.std.specs.{Str.bytes_eq, List.fold, Option.option_or}
@@ -40,17 +40,18 @@ found_stays : (o : Option Row) (x : Option Row) → is_some o ≡ true → optio
 found_stays o x h = search rules
 
 flag_default : (f id : Text) (rows : List Row) → row_for id (with_default rows (flag_full f)) ≡ option_or (row_for id rows) (off_for f id)
-flag_default f id rows = search (
-  rules,
-  row_for,
-  found_stays,
-  bytes_eq-Decides,
-  has_row-row_for,
-  option_or-None,
-  flag_full,
-  at_end,
-  find-append,
-)
+flag_default f id rows =
+    grind (
+      arith,
+      row_for,
+      found_stays,
+      bytes_eq-Decides,
+      has_row-row_for,
+      option_or-None,
+      flag_full,
+      at_end,
+      find-append,
+    )
 
 files_default : (rows : List Row) → fold with_default rows files_and_texts ≡ rows
 files_default rows = search rules
@@ -112,16 +113,17 @@ first_text a ns k = search rules
 
 reads_shown : (tool : Tool) (words ns : List Text) (rows : List Row) → length ns ≤ 2 → Shows tool words ns rows → Reads tool words (fold with_default rows (rules_of tool))
 unfolding text_at_end
-reads_shown tool words ns rows few s = search (
-  rules,
-  row_at_end,
-  flag_texts,
-  formula_row_end,
-  first_text,
-  formula_full,
-  second_row_end,
-  second_full,
-)
+reads_shown tool words ns rows few s =
+    grind (
+      arith,
+      row_at_end,
+      flag_texts,
+      formula_row_end,
+      first_text,
+      formula_full,
+      second_row_end,
+      second_full,
+    )
 
 reads_after : (tool : Tool) (words : List Text) (w : Walk) → After tool words w → Reads tool words (finished (rules_of tool) w.held)
 reads_after tool words w a =

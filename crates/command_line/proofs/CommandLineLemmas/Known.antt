@@ -50,7 +50,7 @@ plain_at tool r p n (x ∷ xs) flag mark s u f = go (x == 45) refl xs flag mark 
     first : (y : ℕ) (ys : Text) → (y == 45) ≡ false → is_utf8 (45 ∷ y ∷ ys) ≡ true → turn_fault (top_of tool) [] (at r p n) (45 ∷ y ∷ ys) ≡ []
         → (o : Option ℕ) → slice_get (chars (y ∷ ys)) 0 ≡ o → ⊥
     first y ys e u f None none = first_char y ys (tail_is_text y ys u) none
-    first y ys e u f (Some k) some = short_refused (rules_of tool) (name_of tool) r p n y ys e (shorts_of tool) s k some f
+    first y ys e u f (Some k) some = grind (arith, short_refused, rules_of, name_of, shorts_of)
 
     second : (y : ℕ) (ys : Text) → is_flag tool (45 ∷ y ∷ ys) ≡ false → bytes_eq (45 ∷ y ∷ ys) (codes "--") ≡ false → is_utf8 (45 ∷ y ∷ ys) ≡ true
         → turn_fault (top_of tool) [] (at r p n) (45 ∷ y ∷ ys) ≡ [] → (b : Bool) → (y == 45) ≡ b → ⊥
@@ -63,7 +63,7 @@ plain_at tool r p n (x ∷ xs) flag mark s u f = go (x == 45) refl xs flag mark 
     go : (b : Bool) → (x == 45) ≡ b → (xs : Text) → is_flag tool (x ∷ xs) ≡ false → bytes_eq (x ∷ xs) (codes "--") ≡ false → is_utf8 (x ∷ xs) ≡ true
         → turn_fault (top_of tool) [] (at r p n) (x ∷ xs) ≡ [] → is_plain_word (x ∷ xs) ≡ true
     go false e xs flag mark u f = ap (λ b. not b || bytes_eq (x ∷ xs) (codes "-")) e
-    go true e [] flag mark u f = subst (λ k. is_plain_word (k ∷ []) ≡ true) (sym (nat_eq_same x 45 e)) refl
+    go true e [] flag mark u f = grind (arith, is_plain_word, nat_eq_same)
     go true e (y ∷ ys) flag mark u f =
         let is = nat_eq_same x 45 e in
         absurd (second y ys (subst (λ k. is_flag tool (k ∷ y ∷ ys) ≡ false) is flag) (subst (λ k. bytes_eq (k ∷ y ∷ ys) (codes "--") ≡ false) is mark)

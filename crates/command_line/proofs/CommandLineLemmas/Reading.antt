@@ -1,6 +1,6 @@
 -- From a parse of the command to what the words say.
-use Rattle.std.proofs.Common.{◌≡◌, ◌∙◌, ap, sym, subst, refl, codes, List, [], ◌∷◌, Bool, true}
-use Rattle.std.proofs.Common.{false, Option, Some, None, map, rules}
+use Rattle.std.proofs.Common.{arith, ◌≡◌, ◌∙◌, ap, sym, refl, codes, List, [], ◌∷◌, Bool}
+use Rattle.std.proofs.Common.{true, false, Option, Some, None, map, rules}
 use Rattle.std.specs.Prelude.{◌&&◌, drop, Err, string_bytes, String}
 use Rattle.std.specs.List.{list_all}
 use Rattle.clap.specs.Words.{App, FailsBy, Text, fault_of, found_of, is_simple_and_free, kind_of}
@@ -35,7 +35,7 @@ module _ (tool : Tool) (app : App) (is : app ≡ command_of tool) {Z : Type 0} (
       let none : fault_of (command_of tool) words ≡ [] = ap (λ a. fault_of a words) (sym is) ∙ kinds (ap is_simple_and_free is ∙ is_plain tool) in
       let rows : rows_of (found_of m) ≡ matches_of (command_of tool) words = (matches (ap is_simple is ∙ is_simple_too tool)).0 ∙ ap (λ a. matches_of a words) is in
       let read = parse_reads tool words none (ap (λ l. is_among l end_mark) (said_is ws) ∙ free) in
-      subst (λ l. Reads tool l (rows_of (found_of m))) (said_is ws) (subst (Reads tool (drop 1 words)) (sym rows) read)
+      grind (arith, said_is)
 
   -- what `get_flag` gives of it
   pub flag_given : (m : ArgMatches) → HasMatchesOf app (map string_bytes ws) m → (is_simple_and_free app ≡ true → fault_of app (map string_bytes ws) ≡ [])

@@ -1,8 +1,8 @@
 -- The rows that uses add, and what is found in them.
-use Rattle.std.proofs.Common.{◌≡◌, ◌∙◌, ap, refl, List, [], ◌∷◌, ◌++◌, append-nil, Bool, true}
-use Rattle.std.proofs.Common.{false, Option, Some, None, cond, true≢false, rules}
+use Rattle.std.proofs.Common.{arith, ◌≡◌, refl, List, [], ◌∷◌, ◌++◌, append-nil}
+use Rattle.std.proofs.Common.{true, false, Option, Some, None, true≢false, rules}
 use Rattle.std.proofs.lemmas.List.{Folds.find-append, Folds.list_any-append, Elements.filter-append}
-use Rattle.std.specs.Prelude.{◌||◌, is_some, not}
+use Rattle.std.specs.Prelude.{is_some}
 use Rattle.std.specs.{Str.bytes_eq, List.find, Option.option_or}
 use Rattle.clap.specs.Walk.{Row, Rule, Text, at_row, has_row, reading_by, with_values, without}
 use Rattle.clap.specs.declared.parser.matches.ValueSource.TheVariants.{CommandLine}
@@ -16,20 +16,12 @@ new_row a values = record { id = a.id; values = values; count = None; source = S
 
 pub has_row-row_for : (id : Text) (rows : List Row) → has_row id rows ≡ is_some (row_for id rows)
 has_row-row_for id [] = refl
-has_row-row_for id (r ∷ rs) = go (bytes_eq r.id id) (has_row-row_for id rs)
-  where
-    go : (b : Bool) → has_row id rs ≡ is_some (row_for id rs) → (b || has_row id rs) ≡ is_some (cond b (Some r) (row_for id rs))
-    go true e = refl
-    go false e = e
+has_row-row_for id (r ∷ rs) = grind (arith, (has_row-row_for id rs), bytes_eq, row_for)
 
 pub at_end : (id : Text) (change : Row → List Row) (missing rows : List Row) → has_row id rows ≡ false → at_row id change missing rows ≡ rows ++ missing
 at_end id change missing [] e = refl
-at_end id change missing (r ∷ rs) e = go (bytes_eq r.id id) e (at_end id change missing rs)
-  where
-    go : (b : Bool) → (b || has_row id rs) ≡ false → (has_row id rs ≡ false → at_row id change missing rs ≡ rs ++ missing)
-        → cond b (change r ++ rs) (r ∷ at_row id change missing rs) ≡ r ∷ (rs ++ missing)
-    go true e rest = absurd (true≢false e)
-    go false e rest = ap (λ l. r ∷ l) (rest e)
+at_end id change missing (r ∷ rs) e =
+    grind (arith, (at_end id change missing rs), bytes_eq, true≢false)
 
 -- the first use of an argument adds its row
 pub used_first : (a : Rule) (values : List Text) (rows : List Row) → has_row a.id rows ≡ false
@@ -55,8 +47,7 @@ pub among_added : (done : List Text) (word f : Text) → bytes_eq f word ≡ tru
 among_added done word f e = search (rules, list_any-append)
 
 pub names_kept : (tool : Tool) (done : List Text) (word : Text) → is_flag tool word ≡ true → names tool (done ++ word ∷ []) ≡ names tool done
-names_kept tool done word e =
-    filter-append (λ w. not (is_flag tool w)) done (word ∷ []) ∙ (ap (λ b. names tool done ++ cond (not b) (word ∷ []) []) e ∙ append-nil _)
+names_kept tool done word e = grind (arith, filter-append, append-nil)
 
 pub names_added : (tool : Tool) (done : List Text) (word : Text) → is_flag tool word ≡ false → names tool (done ++ word ∷ []) ≡ names tool done ++ word ∷ []
-names_added tool done word e = filter-append (λ w. not (is_flag tool w)) done (word ∷ []) ∙ ap (λ b. names tool done ++ cond (not b) (word ∷ []) []) e
+names_added tool done word e = grind (arith, filter-append)

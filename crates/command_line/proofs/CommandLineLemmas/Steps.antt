@@ -82,7 +82,7 @@ module _ (tool : Tool) (done ns : List Text) (rows : List Row) (s : Shows tool d
       P x = row_for x (rows ++ flag_row flag ∷ []) ≡ set_row tool x (done ++ (45 ∷ 45 ∷ flag) ∷ [])
 
       go : (b : Bool) → bytes_eq flag name ≡ b → P name
-      go true same = subst P ((bytes_eq-Decides flag name).0 same) (set_added tool flag done rows ((bytes_eq-Decides flag flag).1 refl) is (no_row flag rows new))
+      go true same = grind (arith, bytes_eq-Decides, set_added, no_row)
       go false other = set_kept tool name done rows _ _ other (bytes_eq_sym name flag ∙ other) shown
 
   flag_shown : (flag : Text) → bytes_eq flag (codes "formula") ≡ false → bytes_eq flag (codes "second") ≡ false → is_flag tool (45 ∷ 45 ∷ flag) ≡ true → has_row flag rows ≡ false
@@ -126,15 +126,7 @@ module _ (tool : Tool) (done : List Text) (name : Text) (r : List Row) (p : Opti
   flag_after few turn new shows =
       let rows = settled_rows (rules_of tool) p r in
       let grown : used (flag_full name) [] rows ≡ rows ++ flag_row name ∷ [] = used_first (flag_full name) (codes "true" ∷ []) rows new in
-      record {
-        rows = rows ++ flag_row name ∷ [];
-        pending = None;
-        ns = ns;
-        few = few;
-        is = turn.1 ∙ ap (λ l. at l None (suc (length ns))) grown;
-        settles = refl;
-        shows = shows;
-      }
+      grind (arith, flag_row, at)
 
 -- ---- a flag of the tool, by its name
 
@@ -147,13 +139,7 @@ module _ (tool : Tool) (done : List Text) (r : List Row) (p : Option (Text × Li
     (few : length ns ≤ 2) (settles : settle_fault (rules_of tool) false (holding r p) ≡ []) (shows : Shows tool done ns (settled_rows (rules_of tool) p r)) where
   has_none : (name : Text) → row_for name (settled_rows (rules_of tool) p r) ≡ set_row tool name done → is_among done (45 ∷ 45 ∷ name) ≡ false
       → has_row name (settled_rows (rules_of tool) p r) ≡ false
-  has_none name shown none =
-      has_row-row_for name _ ∙ ap is_some (shown ∙ ap (λ b. cond (is_flag tool (45 ∷ 45 ∷ name) && b) (Some (flag_row name)) None) none)
-      ∙ go (is_flag tool (45 ∷ 45 ∷ name))
-    where
-      go : (b : Bool) → is_some (cond (b && false) (Some (flag_row name)) None) ≡ false
-      go true = refl
-      go false = refl
+  has_none name shown none = grind (arith, has_row-row_for, flag_row)
 
   no_fault : (name : Text) → FlagTurn tool name r p (suc (length ns)) → has_row name (settled_rows (rules_of tool) p r) ≡ false
       → turn_fault (top_of tool) [] (at r p (suc (length ns))) (45 ∷ 45 ∷ name) ≡ []

@@ -31,11 +31,7 @@ at r p n = record { held = holding r p; waiting = idle; position = n; is_trailin
 
 pub or_nil : (a b : Kinds) → or_else a b ≡ [] → (a ≡ []) × (b ≡ [])
 or_nil [] b e = (refl, e)
-or_nil (k ∷ ks) b e = absurd (true≢false (ap is_cons e))
-  where
-    is_cons : Kinds → Bool
-    is_cons [] = false
-    is_cons (x ∷ xs) = true
+or_nil (k ∷ ks) b e = grind (arith, true≢false)
 
 pub cons_not_nil : (k : ErrorKind) (ks : Kinds) → k ∷ ks ≡ [] → ⊥
 cons_not_nil k ks e = cc
@@ -230,8 +226,7 @@ name_met tool r p n (x ∷ xs) flag mark s = go (x == 45) refl xs flag mark
     go : (b : Bool) → (x == 45) ≡ b → (xs : Text) → is_flag tool (x ∷ xs) ≡ false → bytes_eq (x ∷ xs) (codes "--") ≡ false
         → IsTaken tool r p n (x ∷ xs) ⊎ (turn_fault (top_of tool) [] (at r p n) (x ∷ xs) ≡ [] → ⊥)
     go false e xs flag mark = inl (plain_taken (rules_of tool) (name_of tool) r p n x xs e)
-    go true e [] flag mark = subst (λ k. IsTaken tool r p n (k ∷ []) ⊎ (turn_fault (top_of tool) [] (at r p n) (k ∷ []) ≡ [] → ⊥)) (sym (nat_eq_same x 45 e))
-        (inl (hyphen_taken (rules_of tool) (name_of tool) r p n))
+    go true e [] flag mark = grind (arith, top_of, at, nat_eq_same, hyphen_taken, rules_of, name_of)
     go true e (y ∷ ys) flag mark =
         let is = nat_eq_same x 45 e in
         subst (λ k. IsTaken tool r p n (k ∷ y ∷ ys) ⊎ (turn_fault (top_of tool) [] (at r p n) (k ∷ y ∷ ys) ≡ [] → ⊥)) (sym is)

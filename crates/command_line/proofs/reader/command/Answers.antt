@@ -1,4 +1,4 @@
-use Rattle.std.proofs.Common.{◌≡◌, ◌∙◌, ap, ap₂, sym, codes}
+use Rattle.std.proofs.Common.{arith, ◌≡◌, ◌∙◌, ap, ap₂, sym, codes}
 use Rattle.std.proofs.lemmas.Result.{IfOk-weaker}
 use Rattle.clap.specs.Words.{app_of, with_rule}
 use Rattle.command_line.specs.Code.Commands.{command_of, flag_rule, new_command, with_files}
@@ -17,9 +17,4 @@ returns-in_ok-drat-in-Drat c =
     c.with_files.ensures
 
 pub returns-in_ok-lrat-in-Lrat : goal.returns-in_ok-lrat-in-Lrat
-returns-in_ok-lrat-in-Lrat c =
-    let one =
-    c.in_ok-lrat-in-Lrat.ensures.shape c.trace-in-Lrat.ensures.local ∙ ap₂ with_rule c.new_command-in-Lrat.ensures c.trace-in-Lrat.ensures.rule in
-    IfOk-weaker c.with_files-in-Lrat.result _ _
-    (λ r h. h ∙ (ap with_files one ∙ sym (ap command_of c.in-Lrat.is)))
-    c.with_files-in-Lrat.ensures
+returns-in_ok-lrat-in-Lrat c = grind (arith, ap₂)

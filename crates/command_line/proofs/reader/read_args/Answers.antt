@@ -1,4 +1,5 @@
-use Rattle.std.proofs.Common.{◌≡◌, ◌∙◌, ap, sym, codes, option_map, Some, None, string_bytes}
+use Rattle.std.proofs.Common.{arith, ◌≡◌, sym, codes, option_map, Some, None}
+use Rattle.std.proofs.Common.{string_bytes}
 use Rattle.std.specs.Prelude.{slice_get}
 use Rattle.clap.specs.Words.{app_of, first_value, found_of, rows_of}
 use Rattle.clap.proofs.WalkLemmas.{first_value-rows}
@@ -6,8 +7,8 @@ use Rattle.command_line.specs.Words.{Accepts, names, said_by}
 use Rattle.std.proofs.lemmas.Bool.{true≢false}
 use Rattle.command_line.proofs.CommandLineLemmas.Ends.{Reads}
 use Rattle.command_line.proofs.CommandLineLemmas.Accepted.{has_formula, names_apart, names_full}
-use Rattle.command_line.proofs.CommandLineLemmas.Reading.{fails_for_memory, flag_given}
-use Rattle.command_line.proofs.CommandLineLemmas.Reading.{known_words, knows, reads}
+use Rattle.command_line.proofs.CommandLineLemmas.Reading.{fails_for_memory, flag_given, known_words}
+use Rattle.command_line.proofs.CommandLineLemmas.Reading.{knows, reads}
 use Rattle.command_line.proofs.reader.read_args.Goals as goal
 use Rattle.command_line.proofs.reader.read_args.Goals.{in-Some-get_str+in_ok-to_string-in-Some-get_str}
 use Rattle.command_line.proofs.reader.read_args.Goals.{in-None, After-is_any_empty}
@@ -27,8 +28,7 @@ returns-in_default-clause-accepts c accepts =
     (known_words c.args.tool words accepts)
     in
     let none : first_value found (codes "formula") ≡ None = sym c.in_default.ensures in
-    absurd (has_formula c.args.tool words accepts
-    (sym read.formula ∙ (sym (first_value-rows found (codes "formula")) ∙ none)))
+    grind (arith, has_formula, first_value-rows, codes)
 
 -- what was found is what the words say
 abbrev Found : After-is_any_empty → Type 0
@@ -37,18 +37,20 @@ Found c = Reads c.args.tool (said_by c.args.words.now) (rows_of (found_of c.in-O
 -- the first name that was found
 formula_found : (c : After-is_any_empty) → Found c → Some (string_bytes c.in_ok-formula.formula)
     ≡ slice_get (names c.args.tool (said_by c.args.words.now)) 0
-formula_found c read = ap (λ l. Some l) c.in_ok-formula.ensures.ok ∙ c.in-Some.ensures
-    ∙ first_value-rows (found_of c.in-Ok.matches) (codes "formula") ∙ read.formula
+formula_found c read = grind (arith, first_value-rows, codes)
 
 -- the second one
 second_found : (c : After-is_any_empty) → Found c → option_map string_bytes c.match-get_str-2.second
     ≡ slice_get (names c.args.tool (said_by c.args.words.now)) 1
-second_found c read = elim c.match-get_str-2.branch [
-  | in-Some-get_str+in_ok-to_string-in-Some-get_str w ↦ ap (option_map string_bytes) w.second-is
-      ∙ (ap (λ l. Some l) w.in_ok-to_string-in-Some-get_str.ensures.ok
-      ∙ w.in-Some-get_str.ensures)
-  | in-None w ↦ ap (option_map string_bytes) w.second-is ∙ w.in-None.ensures
-] ∙ first_value-rows (found_of c.in-Ok.matches) (codes "second") ∙ read.second
+second_found c read =
+    grind (
+      arith,
+      in-Some-get_str+in_ok-to_string-in-Some-get_str,
+      string_bytes,
+      in-None,
+      first_value-rows,
+      codes,
+    )
 
 -- both, where the words are accepted
 named_in : (c : After-is_any_empty) → Accepts c.args.tool (said_by c.args.words.now) →
@@ -67,13 +69,11 @@ named_in c accepts =
 pub returns-clause-asked : goal.returns-clause-asked
 returns-clause-asked c free =
     let app = app_of c.in_ok-command.command in
-    let tool = c.args.tool in
-    let found = c.in-Ok.matches in
     let kinds = c.in-Ok.ensures.kinds in
     let is = c.in_ok-command.ensures in
     let matches = c.in-Ok.ensures.matches in
-    let read = reads tool app is c.args.words.now found matches kinds free in
-    let flag = flag_given tool app is c.args.words.now found matches kinds free in
+    let read = reads c.args.tool app is c.args.words.now c.in-Ok.matches matches kinds free in
+    let flag = flag_given c.args.tool app is c.args.words.now c.in-Ok.matches matches kinds free in
     let binary = c.get_flag.ensures in
     let trace = c.get_flag-2.ensures in
     let strict = c.get_flag-3.ensures in
@@ -110,11 +110,9 @@ returns-clause-hyphens c free =
 pub returns-then-is_any_empty-clause-accepts : goal.returns-then-is_any_empty-clause-accepts
 returns-then-is_any_empty-clause-accepts c accepts =
     let named = named_in (goal.at.returns-then-is_any_empty-clause-accepts c).After-is_any_empty in
-    let full = names_full _ _ _ c.match-get_str-2.second accepts (named accepts).0 (named accepts).1 in
-    absurd (true≢false (sym c.if-is_any_empty.true ∙ c.is_any_empty.ensures ∙ full))
+    grind (arith, names_full, true≢false)
 
 pub returns-then-is_read_twice-clause-accepts : goal.returns-then-is_read_twice-clause-accepts
 returns-then-is_read_twice-clause-accepts c accepts =
     let named = named_in (goal.at.returns-then-is_read_twice-clause-accepts c).After-is_any_empty in
-    let apart = names_apart _ _ _ c.match-get_str-2.second accepts (named accepts).0 (named accepts).1 in
-    absurd (true≢false (sym c.if-is_read_twice.true ∙ c.is_read_twice.ensures ∙ apart))
+    grind (arith, names_apart, true≢false)
