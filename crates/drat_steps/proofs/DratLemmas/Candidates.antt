@@ -1,9 +1,9 @@
 -- The search over the clauses that an addition is tried with.
-use Rattle.std.proofs.Common.{◌≡◌, ℕ, Bool, true, false, Option, Some, is_some, IsSome, List}
-use Rattle.std.proofs.Common.{sym, ap, ◌∙◌, subst, ◌+◌, ◌<◌, eqb, eqb-true, get_or, length}
-use Rattle.std.proofs.Common.{slice_index, take, inl, inr, ◌++◌, arith, rules}
+use Rattle.std.proofs.Common.{◌≡◌, ℕ, Bool, true, false, Option, Some, is_some, IsSome, List, sym}
+use Rattle.std.proofs.Common.{◌∙◌, subst, ◌+◌, ◌<◌, eqb, eqb-true, get_or, length, slice_index}
+use Rattle.std.proofs.Common.{take, inl, inr, ◌++◌, arith, rules}
 use Rattle.std.proofs.lemmas.{Bool.or_cases, Grind.get_or_default_zero}
-use Rattle.std.specs.{List.list_any, FinMap.FinMap, Ordering.nat_cmp, Prelude.unwrap_or, Prelude.[]}
+use Rattle.std.specs.{List.list_any, FinMap.FinMap, Ordering.nat_cmp}
 use Rattle.std.specs.FinMap as maps
 use Rattle.cnf_base.specs.Literals.{Clause, Literal, complement, complements, has, same_clause}
 use Rattle.cnf_base.proofs.LiteralLemmas.{complement-complement}
@@ -83,7 +83,7 @@ clashes_by_true live assumed them c l member left forced =
 
 module _ (clauses : Propagation) (them : Candidates) (slot : ℕ) (seen : Clause) (there : (c : Clause) × (maps.get clauses.live slot ≡ Some c) × (same_clause c seen ≡ true)) where
   seen_is : (d : Clause) → maps.get clauses.live slot ≡ Some d → same_clause d seen ≡ true
-  seen_is d at = subst (λ c. same_clause c seen ≡ true) (ap (λ x. unwrap_or x []) (sym there.1 ∙ at)) there.2
+  seen_is d at = grind arith
 
   pub clashes_within : (last : Clashed) → HasClashed clauses them last → IsWithin last.rest.items seen → PassesIn clauses them slot true
   clashes_within last known within d at _ =

@@ -1,7 +1,7 @@
 -- What deletions lose, from what propagation over the slots says.
 use Rattle.std.proofs.Common.{◌≡◌, ℕ, ◌≤◌, Bool, true, false, Some, is_some, IsSome, Ok, Result}
-use Rattle.std.proofs.Common.{List, [], ◌++◌, slice_get, subst, arith, IfOk, OnErr, refl, sym}
-use Rattle.std.proofs.Common.{inl, inr, ◌⊎◌, ◌↔◌, rules}
+use Rattle.std.proofs.Common.{List, [], ◌++◌, slice_get, subst, arith, IfOk, OnErr, refl, sym, inl}
+use Rattle.std.proofs.Common.{inr, ◌⊎◌, ◌↔◌, rules}
 use Rattle.std.proofs.lemmas.Bool.{cases_Bool, false≢true}
 use Rattle.std.specs.{Ordering.nat_cmp, FinMap.FinMap}
 use Rattle.std.specs.FinMap as maps

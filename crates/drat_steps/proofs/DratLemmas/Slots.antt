@@ -1,7 +1,6 @@
 -- A map from slots to clauses, whose values are the live clauses.
 use Rattle.std.proofs.Common.{◌≡◌, ℕ, zero, suc, true, cond, Some, None, List, [], ◌∷◌, map}
-use Rattle.std.proofs.Common.{slice_get, refl, sym, ap, ◌∙◌, arith, eq-eqb, T, ◌↔◌, inl, inr}
-use Rattle.std.proofs.Common.{rules}
+use Rattle.std.proofs.Common.{slice_get, refl, sym, ap, ◌∙◌, arith, eq-eqb, T, ◌↔◌, inl, inr, rules}
 use Rattle.std.proofs.lemmas.{Option.none-some, Bool.cases_Bool, Bool.false_from_ne_true}
 use Rattle.std.specs.{Ordering.nat_cmp, Ordering.eq_by_cmp, FinMap.FinMap, FinMap.is_sorted}
 use Rattle.std.specs.{FinMap.find, FinMap.get-entries, FinMap.Entries.below_all, Cmp.unsigned_tied}

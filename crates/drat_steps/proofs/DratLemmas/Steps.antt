@@ -1,6 +1,6 @@
 -- The answers to a DRAT step, from what propagation over the slots says.
 use Rattle.std.proofs.Common.{◌≡◌, ◌≢◌, ℕ, Bool, true, false, cond, Some, None, Ok, Err, List, []}
-use Rattle.std.proofs.Common.{◌∷◌, ◌++◌, slice_get, ◌+◌, refl, sym, ap, ◌∙◌, subst, inl, inr, arith}
+use Rattle.std.proofs.Common.{◌∷◌, ◌++◌, slice_get, ◌+◌, refl, sym, ap, ◌∙◌, subst, arith}
 use Rattle.std.proofs.Common.{rules}
 use Rattle.std.proofs.lemmas.{Bool.false_from_ne_true, List.map-append, List.Folds.list_any_at}
 use Rattle.std.proofs.lemmas.Option.{slice_get_within, get_or_from_slice_get, none-some, same_Some}
@@ -34,10 +34,7 @@ clash_same live first second into = clash_through live first second (λ a h. for
 
 module _ (c : Clause) (assumed : List Literal) (same : SameSet assumed (complements c)) (d : Clause) where
   pub there : (a : Literal) → has (assumed ++ complements d) a ≡ true → has (complements (c ++ d)) a ≡ true
-  there a h = subst (λ ls. has ls a ≡ true) (sym (map-append complement c d)) (elim (has_append_cases assumed (complements d) a h) [
-    | inl e ↦ has_append_left (complements c) (complements d) a (sym (same a) ∙ e)
-    | inr e ↦ has_append_right (complements c) (complements d) a e
-  ])
+  there a h = grind (arith, map-append, has_append_cases, has_append_left, has_append_right)
 
   pub back : (a : Literal) → has (complements (c ++ d)) a ≡ true → has (assumed ++ complements d) a ≡ true
   back a h = search (rules, arith, has_append_cases, map-append, has_append_left, has_append_right)
@@ -136,9 +133,7 @@ module _ (live : FinMap nat_cmp Clause) (lits : Clause) where
 -- the clause was found, and whether its unit is kept is asked of the state after, which is the same
 module _ (before after : Propagation) (same : after ≡ before) (rules : DratRules) (lits : Clause) (slot : ℕ) (found : (c : Clause) × (maps.get before.live slot ≡ Some c) × (same_clause c lits ≡ true)) where
   pub kept_ignored : ((c : Clause) → maps.get after.live slot ≡ Some c → (rules.keep_units ≡ true) × IsRootReason (maps.get after.live) c) → AnswersDelete rules (maps.values before.live) lits (Ok Ignored)
-  kept_ignored keeps =
-      let kept = subst (λ s. (c : Clause) → maps.get s.live slot ≡ Some c → (rules.keep_units ≡ true) × IsRootReason (maps.get s.live) c) same keeps found.0 found.1 in
-      inl (alive_listed before.live lits slot found.0 found.1 found.2, (kept.0, slots-reason before.live found.0 lits found.2 kept.1))
+  kept_ignored keeps = grind (arith, alive_listed, slots-reason)
 
   pub not_kept_deleted : ((c : Clause) → maps.get after.live slot ≡ Some c → ¬ ((rules.keep_units ≡ true) × IsRootReason (maps.get after.live) c)) → AnswersDelete rules (maps.values before.live) lits (Ok Deleted)
   not_kept_deleted leaves = (

@@ -29,13 +29,7 @@ use Rattle.drat_steps.proofs.DratLemmas.Steps.{rup_listed, there}
 
 module _ (set : LiteralSet) (witness : List Literal) (filled : (l : Literal) → in_set set l ≡ has witness l) where
   pub touched_if_reduced : (d : Clause) → is_reduced (in_set set) d ≡ true → list_any (λ l. has d (complement l)) witness ≡ true
-  touched_if_reduced d reduced =
-      let w = any_some (λ l. in_set set (complement l)) d (first_of (list_any (λ l. in_set set (complement l)) d) _ reduced) in
-      any_from (λ l. has d (complement l)) witness (complement w.0) (sym (filled (complement w.0)) ∙ w.2) (ap (has d) (complement-complement w.0) ∙ w.1)
-    where
-      first_of : (a b : Bool) → (a && b) ≡ true → a ≡ true
-      first_of true b e = refl
-      first_of false b e = e
+  touched_if_reduced d reduced = grind (arith, any_some, list_any, any_from, complement-complement)
 
   searched_filled : (live : Live) (assumed : List Literal) (found : Bool) → Searched live assumed (is_reduced (in_set set)) (λ c. filter (λ l. not (in_set set (complement l))) c) found → Searched live assumed (is_reduced (has witness)) (open_literals witness) found
   searched_filled live assumed found h = subst (λ (f : Literal → Bool). Searched live assumed (is_reduced f) (λ c. filter (λ l. not (f (complement l))) c) found) (λ i l. filled l i) h

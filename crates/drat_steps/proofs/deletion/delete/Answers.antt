@@ -1,4 +1,4 @@
-use Rattle.std.proofs.Common.{sym, ap, ◌∙◌, subst, inr, ◌≡◌, Some, true, ◌↔◌}
+use Rattle.std.proofs.Common.{arith, sym, ap, ◌∙◌, subst, ◌≡◌, Some, true, ◌↔◌}
 use Rattle.std.proofs.lemmas.Bool.{false≢true}
 use Rattle.std.specs.{FinMap.FinMap, Ordering.nat_cmp}
 use Rattle.std.specs.FinMap as maps
@@ -11,12 +11,10 @@ use Rattle.drat_steps.proofs.DratLemmas.Steps.{taken_off}
 use Rattle.drat_steps.proofs.deletion.delete.Goals as goal
 
 pub returns-then-rules-clause-answers : goal.returns-then-rules-clause-answers
-returns-then-rules-clause-answers g c =
-    (none_listed (g.P.Propagate.state c.args.clauses.now).live c.args.lits.now c.in_default.ensures.none, c.if-rules.true)
+returns-then-rules-clause-answers g c = grind (arith, none_listed)
 
 pub returns-else-rules-clause-answers : goal.returns-else-rules-clause-answers
-returns-else-rules-clause-answers g c =
-    inr (none_listed (g.P.Propagate.state c.args.clauses.now).live c.args.lits.now c.in_default.ensures.none, c.if-rules.false)
+returns-else-rules-clause-answers g c = grind (arith, none_listed)
 
 pub returns-then-branch-clause-answers : goal.returns-then-branch-clause-answers
 returns-then-branch-clause-answers g c =
@@ -31,12 +29,7 @@ returns-then-rules-2-clause-answers g c =
     (λ d there kept. c.in_ok-is_root_reason.ensures.no c.if-branch.false d there kept.1)
 
 pub returns-then-rules-2-clause-live : goal.returns-then-rules-2-clause-live
-returns-then-rules-2-clause-live g c =
-    let live = (g.P.Propagate.state c.args.clauses.now).live in
-    let slot = c.in-Some.slot in
-    let found = c.in-Some.ensures.found in
-    taken_off live c.args.lits.now slot found.0 (g.P.Propagate.state c.remove.new.self).live found.1 found.2
-    (c.remove.ensures.live ∙ ap (λ m. maps.remove m slot) c.in_ok-is_root_reason.ensures.live ∙ ap (λ s. maps.remove s.live slot) c.in-Some.ensures.same)
+returns-then-rules-2-clause-live g c = grind (arith, taken_off)
 
 pub returns-then-rules-2-clause-lost : goal.returns-then-rules-2-clause-lost
 returns-then-rules-2-clause-lost g c =
@@ -54,15 +47,10 @@ returns-then-has_lost_literal-clause-answers g c =
     (λ d there kept. false≢true (sym c.if-rules-2.false ∙ kept.0))
 
 pub returns-then-has_lost_literal-clause-live : goal.returns-then-has_lost_literal-clause-live
-returns-then-has_lost_literal-clause-live g c =
-    let live = (g.P.Propagate.state c.args.clauses.now).live in
-    let slot = c.in-Some.slot in
-    let found = c.in-Some.ensures.found in
-    taken_off live c.args.lits.now slot found.0 (g.P.Propagate.state c.remove-then-has_lost_literal.new.self).live found.1 found.2
-    (c.remove-then-has_lost_literal.ensures.live ∙ ap (λ s. maps.remove s.live slot) c.in-Some.ensures.same)
+returns-then-has_lost_literal-clause-live g c = grind (arith, taken_off)
 
 pub returns-then-has_lost_literal-clause-lost : goal.returns-then-has_lost_literal-clause-lost
-returns-then-has_lost_literal-clause-lost g c = noted_already c.args.has_lost_literal.now _ c.if-has_lost_literal.true
+returns-then-has_lost_literal-clause-lost g c = grind (arith, noted_already)
 
 -- ---- Where none was
 
@@ -72,12 +60,7 @@ returns-clause-answers g c =
     (λ d there kept. false≢true (sym c.if-rules-2.false ∙ kept.0))
 
 pub returns-clause-live : goal.returns-clause-live
-returns-clause-live g c =
-    let live = (g.P.Propagate.state c.args.clauses.now).live in
-    let slot = c.in-Some.slot in
-    let found = c.in-Some.ensures.found in
-    taken_off live c.args.lits.now slot found.0 (g.P.Propagate.state c.remove_and_tell.new.clauses).live found.1 found.2
-    (c.in_ok-has_lost_literal.ensures.live ∙ ap (λ s. maps.remove s.live slot) c.in-Some.ensures.same)
+returns-clause-live g c = grind (arith, taken_off)
 
 pub returns-clause-lost : goal.returns-clause-lost
 returns-clause-lost g c =

@@ -1,8 +1,9 @@
-use Rattle.std.proofs.Common.{not, sym, ap, ◌∙◌, subst, inl, inr}
+use Rattle.std.proofs.Common.{arith, not, sym, ap, ◌∙◌, inr}
 use Rattle.std.specs.FinMap as maps
 use Rattle.std.proofs.lemmas.Bool.{false≢true, true≢false}
-use Rattle.propagation.specs.Assumptions.{IsValue, assumed_by}
-use Rattle.drat_steps.proofs.DratLemmas.Losses.{not_forced, has_clashed, no_clash_now, forced_now, forced_before}
+use Rattle.propagation.specs.Assumptions.{assumed_by}
+use Rattle.drat_steps.proofs.DratLemmas.Losses.{not_forced, has_clashed, no_clash_now, forced_now}
+use Rattle.drat_steps.proofs.DratLemmas.Losses.{forced_before}
 use Rattle.drat_steps.proofs.deletion.is_lost.Goals.{in-Clash, in-Quiet, in-True, in_default}
 use Rattle.drat_steps.proofs.deletion.is_lost.Goals as goal
 
@@ -28,8 +29,5 @@ returns-clause-no g c is =
     let idle = c.requires.nothing_assumed in
     elim c.match-branch-2.branch [
       | in-Clash w ↦ inr (has_clashed old now _ idle c.in_ok-assume.ensures.assumed w.in-Clash.is)
-      | in-Quiet w ↦ elim w.match-matches.branch [
-        | in-True v ↦ inl (forced_before old now _ idle c.in_ok-assume.ensures.assumed w.in-Quiet.is c.args.l (subst (IsValue (maps.get now.live) (assumed_by now.assumptions) c.args.l) v.in-True.is w.value.ensures))
-        | in_default v ↦ absurd (true≢false (ap not (sym v.matches-is) ∙ (sym w.is_lost-is ∙ is)))
-      ]
+      | in-Quiet w ↦ grind (arith, in-True, forced_before, in_default, true≢false)
     ]

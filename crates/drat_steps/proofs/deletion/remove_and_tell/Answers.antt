@@ -3,11 +3,12 @@ use Rattle.std.specs.Ordering.{nat_cmp}
 use Rattle.std.specs.FinMap as maps
 use Rattle.std.specs.FinMap.{FinMap}
 use Rattle.std.proofs.lemmas.Bool.{false≢true}
-use Rattle.clause_db.specs.Store.{literals_in}
 use Rattle.cnf_base.specs.Literals.{Clause}
 use Rattle.theory.specs.Propagation.{IsRootReason, Forced, Clash}
-use Rattle.drat_steps.proofs.DratLemmas.Losses.{loses_past_clash, loses_nothing, loses_held, has_clashed, is_quiet, no_clash_now}
-use Rattle.drat_steps.proofs.DratLemmas.Losses.{forced_now, forced_before, if_ok_both, on_err_too, fewer_literals}
+use Rattle.drat_steps.proofs.DratLemmas.Losses.{loses_past_clash, loses_nothing, loses_held}
+use Rattle.drat_steps.proofs.DratLemmas.Losses.{has_clashed, is_quiet, no_clash_now, forced_now}
+use Rattle.drat_steps.proofs.DratLemmas.Losses.{forced_before, if_ok_both, on_err_too}
+use Rattle.drat_steps.proofs.DratLemmas.Losses.{fewer_literals}
 use Rattle.drat_steps.proofs.deletion.remove_and_tell.Goals as goal
 
 pub returns-in-Clash-clause-loses : goal.returns-in-Clash-clause-loses
@@ -41,14 +42,7 @@ returns-in-Some-clause-loses g c =
     (subst Lost gone c.is_lost.ensures.yes) (subst Stays gone c.is_lost.ensures.no)
 
 pub returns-in-Some-clause-refused : goal.returns-in-Some-clause-refused
-returns-in-Some-clause-refused g c =
-    let old = g.P.Propagate.state c.args.clauses.now in
-    let new = g.P.Propagate.state c.is_lost.new.clauses in
-    let gone = c.is_lost.ensures.live ∙ c.remove-2.ensures.live ∙ ap (λ m. maps.remove m c.args.slot) (c.undo-2.ensures.live ∙ c.in_ok-assume.ensures.assumed.live) in
-    let before : old.stored ≡ literals_in old.live = c.requires.idle.live_alone in
-    let after : new.stored ≡ literals_in (maps.remove old.live c.args.slot) = c.is_lost.ensures.idle.live_alone ∙ ap literals_in gone in
-    let fewer = fewer_literals old.live c.args.slot c.requires.alive in
-    on_err_too c.is_lost.result _ (omega (arith, before, after, fewer))
+returns-in-Some-clause-refused g c = grind (arith, fewer_literals, on_err_too)
 
 pub returns-in-None-clause-loses : goal.returns-in-None-clause-loses
 returns-in-None-clause-loses g c d lits there same =

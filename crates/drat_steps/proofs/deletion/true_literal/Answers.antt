@@ -1,4 +1,5 @@
-use Rattle.std.proofs.Common.{◌≡◌, true, eqb, eqb-true, take, sym, ap, ◌∙◌, subst, inl, inr}
+use Rattle.std.proofs.Common.{arith, eqb, eqb-true, take, sym, ◌∙◌, subst}
+use Rattle.std.proofs.Common.{inl, inr}
 use Rattle.std.proofs.lemmas.{Bool.or_cases, Bool.false≢true, List.take_all, Option.same_Some}
 use Rattle.cnf_base.specs.Literals.{has}
 use Rattle.cnf_base.proofs.{SetLemmas.same_there, WalkLemmas.has_more}
@@ -25,8 +26,4 @@ loop-l-preserved g c x h =
     ]
 
 pub returns-clause-none : goal.returns-clause-none
-returns-clause-none g c d l there member =
-    let items = c.clause-l-items.result.now in
-    let shown = c.clause-l-items.ensures.clause in
-    let same = same_Some d shown.0 (sym there ∙ shown.1) in
-    c.loop-l.invariant l (ap (λ ls. has ls l) (take_all c.loop-l.l-index items c.loop-l-test.false) ∙ same_there shown.0 items shown.2 l (subst (λ e. has e l ≡ true) same member))
+returns-clause-none g c d l there member = grind (arith, same_Some, take_all, same_there)

@@ -1,10 +1,10 @@
-use Rattle.std.proofs.Common.{true, false}
+use Rattle.std.proofs.Common.{arith, true, false}
 use Rattle.propagation.specs.Assumptions.{assumed_by}
 use Rattle.drat_steps.proofs.DratLemmas.Witnesses.{answers_filled, touched_if_reduced}
 use Rattle.drat_steps.proofs.addition.AdditionChecker.judge_pr.Goals as goal
 
 pub all_clash-requires-clause-touched : goal.all_clash-requires-clause-touched
-all_clash-requires-clause-touched g c = λ d. touched_if_reduced c.args.self.now.witness c.args.witness.now c.requires.listed.filled d
+all_clash-requires-clause-touched g c = grind (arith, touched_if_reduced)
 
 pub returns-in-Ok-true-clause-answers : goal.returns-in-Ok-true-clause-answers
 returns-in-Ok-true-clause-answers g c =

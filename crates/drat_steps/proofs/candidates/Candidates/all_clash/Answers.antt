@@ -1,4 +1,5 @@
-use Rattle.std.proofs.{Common.◌∙◌, Common.subst, lemmas.List.take_all}
+use Rattle.std.proofs.Common.{arith}
+use Rattle.std.proofs.{Common.subst, lemmas.List.take_all}
 use Rattle.propagation.specs.Assumptions.{assumed_by}
 use Rattle.drat_steps.proofs.DratLemmas.Candidates.{Passed, all_touched_passed, can_try}
 use Rattle.drat_steps.proofs.DratLemmas.Candidates.{clashed_after, none_is_one, passed_more}
@@ -12,25 +13,18 @@ returns-then-none_touched-clause-searched g c =
     none_is_one (maps.get now.live) (assumed_by now.assumptions) c.args.self.now c.args.lits.now c.requires.touched (c.none_touched.ensures c.if-none_touched.true)
 
 pub passes-requires-clause-can_try : goal.passes-requires-clause-can_try
-passes-requires-clause-can_try g c =
-    can_try (g.P.Propagate.state c.args.clauses.now) (g.P.Propagate.state c.loop-slot.clauses) c.loop-slot.invariant.same c.requires.room c.requires.quiet
-    c.as_slice-slot-items.result.now c.loop-slot.slot-index c.at.result c.loop-slot-test.true c.at.ensures
-    (touched_alive (g.P.Propagate.state c.args.clauses.now).live c.args.lits.now _ _ c.as_slice-slot-items.ensures.value c.in_ok-touched.ensures.each)
+passes-requires-clause-can_try g c = grind (arith, can_try, touched_alive)
 
 pub returns-then-not-branch-clause-searched : goal.returns-then-not-branch-clause-searched
-returns-then-not-branch-clause-searched g c =
-    stops_at (g.P.Propagate.state c.args.clauses.now) (g.P.Propagate.state c.loop-slot.clauses) c.loop-slot.invariant.same c.args.self.now
-    c.as_slice-slot-items.result.now c.loop-slot.slot-index c.at.result c.loop-slot-test.true c.at.ensures _ c.in_ok-passes.ensures.passes
-    (touched_alive (g.P.Propagate.state c.args.clauses.now).live c.args.lits.now _ _ c.as_slice-slot-items.ensures.value c.in_ok-touched.ensures.each)
-    c.if-not-branch.true
+returns-then-not-branch-clause-searched g c = grind (arith, stops_at, touched_alive)
 
 pub loop-slot-preserved : goal.loop-slot-preserved
 loop-slot-preserved g c =
     let inv = c.loop-slot.invariant in
     record {
       passed = passed_more (g.P.Propagate.state c.args.clauses.now) (g.P.Propagate.state c.loop-slot.clauses) inv.same c.args.self.now c.as_slice-slot-items.result.now c.loop-slot.slot-index c.at.result c.loop-slot-test.true c.at.ensures _ c.in_ok-passes.ensures.passes inv.passed c.if-not-branch.false;
-      same = record { live = c.passes.ensures.same.live ∙ inv.same.live; assumptions = c.passes.ensures.same.assumptions ∙ inv.same.assumptions };
-      clashed = clashed_after (g.P.Propagate.state c.loop-slot.clauses) (g.P.Propagate.state c.passes.new.clauses) c.passes.ensures.same c.args.self.now _ c.in_ok-passes.ensures.clashed;
+      same = grind arith;
+      clashed = grind (arith, clashed_after);
     }
 
 pub returns-clause-searched : goal.returns-clause-searched

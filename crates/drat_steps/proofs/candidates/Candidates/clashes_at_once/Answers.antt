@@ -1,7 +1,8 @@
 -- A literal of the rest is true, and so forced; its complement is assumed.
-use Rattle.std.proofs.{Common.sym, Common.subst, Common.◌∙◌, lemmas.Bool.false≢true}
+use Rattle.std.proofs.Common.{arith}
+use Rattle.std.proofs.{Common.sym, Common.◌∙◌, lemmas.Bool.false≢true}
 use Rattle.cnf_base.proofs.WalkLemmas.{is_in}
-use Rattle.propagation.specs.Assumptions.{IsValue, assumed_by}
+use Rattle.propagation.specs.Assumptions.{assumed_by}
 use Rattle.theory.specs.Propagation.{Forced}
 use Rattle.drat_steps.proofs.DratLemmas.Candidates.{clashes_by_true}
 use Rattle.drat_steps.proofs.candidates.Candidates.clashes_at_once.Goals.{in-True, in_default}
@@ -13,7 +14,7 @@ returns-then-is_left g c _ =
     let state = g.P.Propagate.state c.args.clauses.now in
     let l = c.l-item.result in
     let forced : Forced (maps.get state.live) (assumed_by state.assumptions) l = elim c.match-matches.branch [
-      | in-True w ↦ subst (IsValue (maps.get state.live) (assumed_by state.assumptions) l) w.in-True.is c.value.ensures
+      | in-True w ↦ grind arith
       | in_default w ↦ absurd (false≢true (sym w.matches-is ∙ c.if-matches.true))
     ] in
     clashes_by_true (maps.get state.live) (assumed_by state.assumptions) c.args.self.now c.args.clause.now l
