@@ -1,6 +1,6 @@
 -- Each step of a DRAT proof has an answer: whether propagation clashes can be decided.
-use Rattle.std.proofs.Common.{◌≡◌, ℕ, zero, suc, ◌<◌, ◌≤◌, true, false, Option, Some, Ok, Err, List}
-use Rattle.std.proofs.Common.{[], ◌∷◌, ◌++◌, slice_get, refl, sym, ◌∙◌, subst, inl, inr, ◌⊎◌, arith}
+use Rattle.std.proofs.Common.{◌≡◌, ℕ, zero, suc, ◌<◌, ◌≤◌, true, false, Some, Ok, Err, List}
+use Rattle.std.proofs.Common.{[], ◌∷◌, ◌++◌, slice_get, refl, sym, ◌∙◌, inl, inr, ◌⊎◌, arith}
 use Rattle.std.proofs.Common.{rules}
 use Rattle.std.proofs.lemmas.{Bool.true≢false, Bool.cases_Bool, Option.none-some}
 use Rattle.std.specs.List.{list_any}
@@ -65,10 +65,7 @@ each_or_one P decide (c ∷ live) = elim (decide c) [
 ]
   where
     all_pass : P c → ((k : ℕ) (d : Clause) → slice_get live k ≡ Some d → P d) → (k : ℕ) (d : Clause) → slice_get (c ∷ live) k ≡ Some d → P d
-    all_pass here rest zero d at = subst P (same at) here
-      where
-        same : ◌≡◌ {A = Option Clause} (Some c) (Some d) → c ≡ d
-        same e = cc
+    all_pass here rest zero d at = grind arith
     all_pass here rest (suc k) d at = rest k d at
 
 module _ (live : List Clause) (c : Clause) (pivot : Literal) where

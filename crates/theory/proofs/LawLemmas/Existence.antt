@@ -1,7 +1,7 @@
 -- Each step has an answer, under either rule.
 use Rattle.std.proofs.Common.{◌≡◌, ℕ, suc, ◌<◌, ◌≤◌, max, not, ◌&&◌, eqb, nat_le, Bool, true, false}
 use Rattle.std.proofs.Common.{◌⊎◌, inl, inr, Option, None, Some, List, [], ◌∷◌, length, slice_get}
-use Rattle.std.proofs.Common.{refl, ap, ◌∙◌, arith, Ok, Err, rules}
+use Rattle.std.proofs.Common.{refl, arith, Ok, Err, rules}
 use Rattle.std.proofs.lemmas.Bool.{cases_lt, cases_eq}
 use Rattle.std.specs.{Bool.MatchBool, List.list_any}
 use Rattle.cnf_base.specs.Literals.{Literal, Clause, complements}
@@ -13,7 +13,7 @@ use Rattle.theory.specs.declared.refusal.Refusal.TheVariants.{IdOutOfOrder, Unkn
 use Rattle.theory.specs.declared.refusal.Refusal.TheVariants.{NoConflict, Unnamed}
 use Rattle.theory.specs.{Propagation.Live, Answers.StepAnswer, Drat.drat_step}
 use Rattle.theory.specs.Lrat.{ChainEnd, conflict, open_with, unknown, not_unit, chain, Group}
-use Rattle.theory.specs.Lrat.{LratStep, add, delete, LratState, groups_refusal, is_unsettled}
+use Rattle.theory.specs.Lrat.{LratStep, add, delete, LratState, groups_refusal}
 use Rattle.theory.specs.Lrat.{is_left_out, AnswersGroups, AnswersChain, AnswersLrat, after_lrat}
 use Rattle.theory.specs.Lrat.{lrat_step, without_id, without_ids, deletion_refusal, answer_of}
 use Rattle.theory.specs.Lrat.{numbered}
@@ -31,7 +31,7 @@ lowest p (suc n) = elim (lowest p n) [
   where
     by : (v : Bool) → p n ≡ v → ((k : ℕ) → k < n → p k ≡ false) → ((k : ℕ) → k < suc n → p k ≡ false) ⊎ ((k : ℕ) × (p k ≡ true) × ((j : ℕ) → j < k → p j ≡ false))
     by true e none = inr (n, e, none)
-    by false e none = inl (λ k h. elim (cases_eq k n) [ inl same ↦ ap p same ∙ e | inr apart ↦ none k (omega arith) ])
+    by false e none = grind (arith, cases_eq)
 
 and_false : (b : Bool) → (b && false) ≡ false
 and_false b = search rules
@@ -43,7 +43,7 @@ groups_answer live b ls pivot groups None = elim (lowest (is_left_out live ls pi
   | inl none ↦ (
     Ok Rat,
     λ k. elim (cases_lt b.bound k) [
-      | inl past ↦ ap (λ o. not (list_any (λ group. eqb group.candidate k) groups) && is_unsettled ls pivot o) (b.none k past) ∙ and_false (not (list_any (λ group. eqb group.candidate k) groups))
+      | inl past ↦ grind (arith, not, list_any, eqb, and_false)
       | inr within ↦ none k (omega arith)
     ],
   )
@@ -78,8 +78,7 @@ without_all_finite (id ∷ ids) live b = without_all_finite ids (without_id live
 lrat_finite : (state : LratState) (step : LratStep) → IsFiniteMap state.live → IsFiniteMap (after_lrat state step).live
 lrat_finite state (add id c units groups) b = record {
   bound = max b.bound id;
-  none = λ k h.
-      with_other state.live id c k (λ e. absurd (let bad : ⊥ = omega arith in bad)) ∙ b.none k (omega arith);
+  none = grind (arith, with_other);
 }
 lrat_finite state (delete ids) b = without_all_finite ids state.live b
 

@@ -3,7 +3,7 @@
 use Rattle.std.proofs.Common.{◌≡◌, ◌≢◌, ℕ, zero, suc, true, cond, Some, Ok, List, [], ◌∷◌}
 use Rattle.std.proofs.Common.{slice_get, sym, subst, inl, inr, ◌⊎◌, arith, rules}
 use Rattle.std.specs.Prelude.{IsTrue}
-use Rattle.std.proofs.lemmas.Bool.{false≢true, cases_Bool, MatchBool-at_true, MatchBool-at_false}
+use Rattle.std.proofs.lemmas.Bool.{false≢true, cases_Bool, MatchBool-at_false}
 use Rattle.std.proofs.lemmas.Option.{none-some}
 use Rattle.cnf_base.specs.Literals.{Literal, complement, Clause, has, same_clause}
 use Rattle.cnf_base.proofs.SetLemmas.{same_there, same_back}
@@ -132,7 +132,7 @@ ends_keep rules (step ∷ steps) live [] ending on ends deleted = deleted
 ends_keep rules (step ∷ steps) live (word ∷ words) ending on ends deleted = elim deleted [
   | inl now ↦ step_keeps rules live step word on ends.0 now
   | inr later ↦ elim (cases_Bool (is_last word)) [
-    | inl last ↦ none_before steps _ (subst (DeletedReason _ steps) (MatchBool-at_true _ _ last ends.1).0 later)
+    | inl last ↦ grind (arith, none_before)
     | inr goes_on ↦ ends_keep rules steps (after_drat live (drat_step rules step) word) words ending on (MatchBool-at_false _ _ goes_on ends.1) later
   ]
 ]

@@ -83,10 +83,7 @@ module _ (live : List Clause) where
       elim (cases_Bool (list_any (λ m. has all m && others_fail all c m) c)) [
         | inl some ↦
             let m = any_some (λ m. has all m && others_fail all c m) c some in
-            let parts = and_parts (has all m.0) (others_fail all c m.0) m.2 in
-            inl (record { literal = m.0; member = m.1; forced = w.1.sound m.0 parts.0; others = λ k h ne. w.1.sound (complement k) (fail_each all c m.0 parts.1 k h ne) })
-        | inr none ↦ inr (λ r.
-            let forced = r.forced.in_each (λ l. has all l) w.1.closed (λ a h. absurd (false≢true h)) in
-            let others = each_fail all c r.literal (λ k h ne. (r.others k h ne).in_each (λ l. has all l) w.1.closed (λ a h. absurd (false≢true h))) in
-            true≢false (sym (any_from (λ m. has all m && others_fail all c m) c r.literal r.member (and_from (has all r.literal) (others_fail all c r.literal) forced others)) ∙ none))
+            grind (arith, and_parts, others_fail, fail_each)
+        | inr none ↦
+            grind (arith, false≢true, each_fail, true≢false, any_from, others_fail, and_from)
       ]

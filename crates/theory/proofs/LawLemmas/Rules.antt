@@ -1,10 +1,10 @@
 -- What both rules share: answers, states and sums depend only on the clauses.
-use Rattle.std.proofs.Common.{◌≡◌, Ok, List, slice_get, ◌∙◌, subst, arith, rules}
+use Rattle.std.proofs.Common.{◌≡◌, Ok, List, slice_get, ◌∙◌, arith, rules}
 use Rattle.cnf_base.specs.Literals.{Clause}
 use Rattle.proofs.specs.Steps.{Step}
 use Rattle.theory.specs.declared.accepted.Accepted.{Accepted, TheVariants.Empty}
-use Rattle.theory.specs.{Answers.StepAnswer, Drat.SameLive, Drat.after_drat, Drat.drat_step}
-use Rattle.theory.specs.{Lrat.lrat_step, Rules.State, Rules.by_ids, Rules.by_copies, Rules.Answers}
+use Rattle.theory.specs.{Answers.StepAnswer}
+use Rattle.theory.specs.{Rules.State, Rules.by_ids, Rules.by_copies, Rules.Answers}
 use Rattle.theory.specs.{Rules.after, Rules.sum_of, Rules.Same, Rules.IsSatisfiable, Rules.Rule}
 use Rattle.theory.specs.{Rules.start, Models.HasModel}
 use Rattle.theory.proofs.LawLemmas.Keeping.{lrat_keeps, drat_keeps, lrat_refutes, drat_refutes}
@@ -15,16 +15,16 @@ use Rattle.theory.proofs.DratLemmas.Copies as copies
 use Rattle.theory.proofs.LratLemmas.States as ids
 
 pub answers_same : (s t : State) (step : Step) (answer : StepAnswer) → Same s t → Answers s step answer → Answers t step answer
-answers_same (by_ids s) (by_ids t) step answer same a = ids.answers_same s t (lrat_step step) answer (record { live = same.0; top = same.1 }) a
+answers_same (by_ids s) (by_ids t) step answer same a = grind (arith, ids.answers_same)
 answers_same (by_copies rules x) (by_copies rules_too y) step answer same a =
     grind (arith, drat_same)
 answers_same (by_ids s) (by_copies rules y) step answer same a = absurd same
 answers_same (by_copies rules x) (by_ids t) step answer same a = absurd same
 
 pub after_same : (s t : State) (step : Step) (word : Accepted) → Same s t → Same (after s step word) (after t step word)
-after_same (by_ids s) (by_ids t) step word same = let w = ids.after_same s t (lrat_step step) (record { live = same.0; top = same.1 }) in (w.live, w.top)
+after_same (by_ids s) (by_ids t) step word same = grind (arith, ids.after_same)
 after_same (by_copies rules x) (by_copies rules_too y) step word same =
-    (same.0, subst (λ b. SameLive (after_drat x (drat_step rules step) word) (after_drat y (drat_step b step) word)) same.0 (copies.after_same x y (drat_step rules step) word same.1))
+    grind (arith, copies.after_same)
 after_same (by_ids s) (by_copies rules y) step word same = absurd same
 after_same (by_copies rules x) (by_ids t) step word same = absurd same
 

@@ -97,10 +97,8 @@ pr_keeps v live c witness models pr =
     elim (cases_Bool (satisfies v c)) [ inl e ↦ (v, models, e) | inr e ↦ (override v witness, kept e, any_from _ c pr.meets.0 pr.meets.1 (override_true v witness pr.meets.0 pr.meets.2 (pr.consistent pr.meets.0 pr.meets.2))) ]
   where
     in_rest : satisfies v c ≡ false → (d : Clause) → (l : Literal) → has (c ++ open_literals witness d) l ≡ true → holds v l ≡ true → (has d l ≡ true) × (has witness (complement l) ≡ false)
-    in_rest fails d l member h = elim (has_append_cases c (open_literals witness d) l member) [
-      | inl g ↦ absurd (true≢false (sym h ∙ any_none (holds v) c l fails g))
-      | inr g ↦ search (rules, arith, filter_has, not-true)
-    ]
+    in_rest fails d l member h =
+        grind (arith, has_append_cases, true≢false, any_none, filter_has, not-true)
 
     kept : satisfies v c ≡ false → Models (override v witness) live
     kept fails k d at = elim (pr.others k d at) [
@@ -126,10 +124,8 @@ rat_keeps v live c pivot models rat =
     made_true = search (rules, arith, override_true, has_head, other, complement-other)
 
     in_rest : satisfies v c ≡ false → (d : Clause) (l : Literal) → has (c ++ without d (complement pivot)) l ≡ true → holds v l ≡ true → (has d l ≡ true) × (pivot ≢ complement l)
-    in_rest fails d l member h = elim (has_append_cases c (without d (complement pivot)) l member) [
-      | inl g ↦ absurd (true≢false (sym h ∙ any_none (holds v) c l fails g))
-      | inr g ↦ search (rules, arith, without_has, complement-complement)
-    ]
+    in_rest fails d l member h =
+        grind (arith, has_append_cases, true≢false, any_none, without_has, complement-complement)
 
     kept : satisfies v c ≡ false → Models changed live
     kept fails k d at = elim (cases_Bool (has d (complement pivot))) [

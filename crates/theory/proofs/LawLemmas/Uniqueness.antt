@@ -1,5 +1,5 @@
 -- A step has at most one answer, under each rule.
-use Rattle.std.proofs.Common.{◌≡◌, ℕ, ◌<◌, true, false, nat_le, Ok, Err, List, [], ◌∷◌}
+use Rattle.std.proofs.Common.{◌≡◌, true, false, nat_le, Ok, Err, List, [], ◌∷◌}
 use Rattle.std.proofs.Common.{slice_get, refl, sym, ap, ◌∙◌, arith, rules}
 use Rattle.std.proofs.lemmas.Bool.{true≢false, cases_Bool}
 use Rattle.std.specs.List.{list_any}

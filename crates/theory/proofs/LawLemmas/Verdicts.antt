@@ -98,7 +98,7 @@ last_is_empty word h = search rules
 
 ends_sound : (steps : List Step) (s : State) (words : List Accepted) → Ends s steps words verified → IsSatisfiable s → ⊥
 ends_sound (step ∷ steps) s (word ∷ words) e has_model = elim (cases_Bool (is_last word)) [
-  | inl last ↦ refutes s step (subst (λ w. Answers s step (Ok w)) (last_is_empty word last) e.0) has_model
+  | inl last ↦ search (rules, refutes, last_is_empty)
   | inr goes_on ↦ ends_sound steps (after s step word) words (MatchBool-at_false _ _ goes_on e.1) (keeps s step word e.0 has_model)
 ]
 ends_sound steps s words h h2 = search rules
