@@ -1,15 +1,12 @@
 -- The rule itself never answers that the session had ended.
-use Rattle.std.proofs.Common.{◌≡◌, ℕ, Bool, true, false, not, Option, Some, None, Ok, Err}
-use Rattle.std.proofs.Common.{List, [], ◌∷◌, sym, subst, arith, rules}
-use Rattle.std.specs.{Prelude.⊤, Bool.then_some, Option.option_or}
-use Rattle.theory.specs.declared.refusal.Refusal.{Refusal}
-use Rattle.theory.specs.declared.refusal.Refusal.TheVariants.{Ended, NotCandidate, NamedTwice}
-use Rattle.theory.specs.declared.refusal.Refusal.TheVariants.{GroupWithoutConflict}
-use Rattle.theory.specs.{Propagation.Live, Answers.StepAnswer, Answers.UnlessOutOfMemory}
-use Rattle.theory.specs.Lrat.{ChainEnd, conflict, open_with, unknown, not_unit, chain, Group}
-use Rattle.theory.specs.Lrat.{with_candidate, chain_refusal, group_refusal, groups_refusal}
-use Rattle.theory.specs.Lrat.{AnswersGroups, AnswersChain}
-use Rattle.cnf_base.specs.Literals.{Literal, complement, Clause, has}
+use Rattle.std.proofs.Common.{◌≡◌, ℕ, Bool, Option, Some, None, Ok, Err, List, [], ◌∷◌, sym, subst}
+use Rattle.std.proofs.Common.{arith, rules}
+use Rattle.std.specs.{Bool.then_some, Prelude.⊤, Option.option_or}
+use Rattle.theory.specs.{declared.refusal.Refusal.Refusal, Propagation.Live, Lrat.group_refusal}
+use Rattle.theory.specs.Lrat.{AnswersGroups, AnswersChain, ChainEnd, Group, chain_refusal}
+use Rattle.theory.specs.{declared.refusal.Refusal.TheVariants.Ended, Lrat.groups_refusal}
+use Rattle.theory.specs.Answers.{StepAnswer, UnlessOutOfMemory}
+use Rattle.cnf_base.specs.Literals.{Literal, Clause}
 
 -- a cause other than that
 abbrev IsRuled : Option Refusal → Type 0
@@ -17,26 +14,17 @@ IsRuled (Some Ended) = ⊥
 IsRuled _ = ⊤
 
 ruled_or : (a b : Option Refusal) → IsRuled a → IsRuled b → IsRuled (option_or a b)
-ruled_or None b h g = g
-ruled_or (Some r) b h g = h
+ruled_or a b h h2 = grind arith
 
 ruled_then : (b : Bool) (r : Refusal) → IsRuled (Some r) → IsRuled (then_some b r)
-ruled_then true r h = h
-ruled_then false r h = tt
+ruled_then b r h = grind arith
 
 ruled_chain : (r : Refusal) → IsRuled (Some r) → (end : ChainEnd) → IsRuled (chain_refusal r end)
-ruled_chain r h conflict = tt
-ruled_chain r h (open_with ls) = h
-ruled_chain r h (unknown k) = tt
-ruled_chain r h (not_unit k) = tt
+ruled_chain r h end = grind arith
 
 module _ (live : Live) (ls : List Literal) (pivot : Literal) where
   ruled_group : (earlier : List ℕ) (group : Group) (o : Option Clause) → IsRuled (group_refusal live ls pivot earlier group o)
-  ruled_group earlier group None = tt
-  ruled_group earlier group (Some c) =
-      ruled_or (then_some (not (has c (complement pivot))) (NotCandidate group.candidate)) _ (ruled_then (not (has c (complement pivot))) (NotCandidate group.candidate) tt)
-      (ruled_or (then_some (has earlier group.candidate) (NamedTwice group.candidate)) _ (ruled_then (has earlier group.candidate) (NamedTwice group.candidate) tt)
-      (ruled_chain (GroupWithoutConflict group.candidate) tt (chain live (with_candidate ls c pivot) group.hints)))
+  ruled_group earlier group o = grind (arith, ruled_or, ruled_then, ruled_chain)
 
   ruled_groups : (groups : List Group) (earlier : List ℕ) → IsRuled (groups_refusal live ls pivot earlier groups)
   ruled_groups [] earlier = tt

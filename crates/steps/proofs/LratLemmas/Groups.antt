@@ -1,44 +1,30 @@
 -- Groups of hints, one at a time.
-use Rattle.std.proofs.Common.{◌≡◌, ℕ, ◌+◌, ◌<◌, Bool, true, false, not, ◌||◌, ◌&&◌, Ok, Err, cond}
-use Rattle.std.proofs.Common.{eqb, eqb-true, inl, inr, Option, Some, None, is_some, option_map}
-use Rattle.std.proofs.Common.{subst, List, [], ◌∷◌, ◌++◌, length, get_or, take, drop, refl, sym, ap}
-use Rattle.std.proofs.Common.{◌∙◌, ℤ, pos, nat_abs, w64}
-use Rattle.std.proofs.lemmas.Bool.{false≢true, true≢false, or_cases}
-use Rattle.std.proofs.lemmas.List.Folds.{list_any-append}
-use Rattle.std.specs.{Bool.then_some, Option.option_or, Option.IfNone}
-use Rattle.theory.specs.declared.refusal.Refusal.{Refusal}
-use Rattle.theory.specs.declared.refusal.Refusal.TheVariants.{UnknownId, NotUnit, NotCandidate}
-use Rattle.theory.specs.declared.refusal.Refusal.TheVariants.{NamedTwice, GroupWithoutConflict}
-use Rattle.theory.specs.declared.refusal.Refusal.TheVariants.{Unnamed}
-use Rattle.theory.specs.declared.accepted.Accepted.TheVariants.{Rat}
-use Rattle.theory.specs.Propagation.{Live, open_literals}
-use Rattle.theory.specs.Lrat.{ChainEnd, conflict, open_with, unknown, not_unit, look_at, chain}
-use Rattle.theory.specs.Lrat.{Group, with_candidate, chain_refusal, group_refusal, groups_refusal}
-use Rattle.theory.specs.Lrat.{units_of, groups_of, is_unsettled, is_left_out, AnswersGroups}
-use Rattle.theory.specs.Sets.{conflicts, SameSet}
+use Rattle.std.proofs.Common.{arith, ◌≡◌, ℕ, ◌+◌, ◌<◌, Bool, true, false, not, ◌||◌, ◌&&◌, Ok, Err}
+use Rattle.std.proofs.Common.{cond, eqb, eqb-true, Option, Some, None, is_some, option_map, subst}
+use Rattle.std.proofs.Common.{List, [], ◌∷◌, ◌++◌, length, get_or, take, drop, refl, sym, ap, ◌∙◌}
+use Rattle.std.proofs.{Common.ℤ, Common.pos, Common.nat_abs, Common.w64, lemmas.Bool.or_cases}
+use Rattle.std.proofs.lemmas.{List.Folds.list_any-append, Bool.false≢true, Bool.true≢false}
+use Rattle.std.specs.{Option.option_or, Option.IfNone, Bool.then_some}
+use Rattle.theory.specs.declared.refusal.Refusal.TheVariants.{NotCandidate, NamedTwice}
+use Rattle.theory.specs.declared.refusal.Refusal.TheVariants.{GroupWithoutConflict, Unnamed}
+use Rattle.theory.specs.{Propagation.Live, Propagation.open_literals, Sets.SameSet}
+use Rattle.theory.specs.declared.{accepted.Accepted.TheVariants.Rat, refusal.Refusal.Refusal}
+use Rattle.theory.specs.Lrat.{ChainEnd, conflict, open_with, look_at, chain, Group, with_candidate}
+use Rattle.theory.specs.Lrat.{chain_refusal, group_refusal, groups_refusal, units_of, groups_of}
+use Rattle.theory.specs.{Lrat.is_unsettled, Lrat.is_left_out, Lrat.AnswersGroups, Sets.conflicts}
 use Rattle.theory.proofs.LratLemmas.SameSets.{same_set_more}
-use Rattle.steps.specs.declared.lrat.walk.WalkEnd.{WalkEnd, TheVariants.Conflict, TheVariants.Open}
-use Rattle.steps.specs.declared.lrat.walk.WalkEnd.{TheVariants.UnknownId as EndUnknown}
-use Rattle.steps.specs.declared.lrat.walk.WalkEnd.{TheVariants.NotUnit as EndNotUnit}
-use Rattle.steps.specs.Code.Walk.{IsEnd, refusal_at}
+use Rattle.steps.specs.{declared.lrat.walk.WalkEnd.WalkEnd, Code.Walk.IsEnd, Code.Walk.refusal_at}
+use Rattle.steps.specs.declared.lrat.walk.WalkEnd.TheVariants.{Conflict}
 use Rattle.steps.specs.Code.Groups.{named_in, IsGroupEnd, is_unnamed, IsFirstLeftOut}
-use Rattle.steps.proofs.LratLemmas.Walks.{chain_same}
-use Rattle.steps.proofs.LratLemmas.Hints.{read, groups_skip, groups_more, named_skip, named_more}
-use Rattle.steps.proofs.LratLemmas.Hints.{any_named}
+use Rattle.steps.proofs.LratLemmas.Hints.{any_named, read, groups_skip, groups_more, named_skip}
+use Rattle.steps.proofs.LratLemmas.{Hints.named_more, Walks.chain_same}
 use Rattle.cnf_base.specs.Literals.{Literal, complement, Clause, has, complements, without}
 use Rattle.live_clauses.specs.LiveClauses.{Holds}
 use lib.Signed.{lt_z}
 use mir.Val.{SFits}
 
 refusal_at_is : (r : Refusal) (trues : List Literal) (walked : WalkEnd) (end : ChainEnd) → IsEnd trues walked end → refusal_at r walked ≡ chain_refusal r end
-refusal_at_is r trues Conflict conflict h = refl
-refusal_at_is r trues Open (open_with ls) h = refl
-refusal_at_is r trues (EndUnknown j) (unknown k) h = ap (λ x. Some (UnknownId x)) h
-refusal_at_is r trues (EndNotUnit j) (not_unit k) h = ap (λ x. Some (NotUnit x)) h
-refusal_at_is r trues Conflict _ h = absurd h
-refusal_at_is r trues Open _ h = absurd h
-refusal_at_is r trues (EndUnknown j) _ h = absurd h
-refusal_at_is r trues (EndNotUnit j) _ h = absurd h
+refusal_at_is r trues walked end h = grind arith
 
 -- what a test of a clause in code says
 pub tested : (b : Bool) (ls items : List Literal) (n pivot : Literal) → b ≡ has ls n → ls ≡ items → n ≡ complement pivot → has items (complement pivot) ≡ b
@@ -50,10 +36,7 @@ module _ (live : Live) (ls : List Literal) (pivot : Literal) (earlier : List ℕ
   group_is : (member named : Bool) → has c (complement pivot) ≡ member → has earlier k ≡ named →
       group_refusal live ls pivot earlier (record { candidate = k; hints = hints }) (live k)
       ≡ option_or (then_some (not member) (NotCandidate k)) (option_or (then_some named (NamedTwice k)) (chain_refusal (GroupWithoutConflict k) (chain live (with_candidate ls c pivot) hints)))
-  group_is member named e f =
-      ap (group_refusal live ls pivot earlier (record { candidate = k; hints = hints })) at
-      ∙ ap (λ t. option_or (then_some (not t) (NotCandidate k)) (option_or (then_some (has earlier k) (NamedTwice k)) (chain_refusal (GroupWithoutConflict k) (chain live (with_candidate ls c pivot) hints)))) e
-      ∙ ap (λ t. option_or (then_some (not member) (NotCandidate k)) (option_or (then_some t (NamedTwice k)) (chain_refusal (GroupWithoutConflict k) (chain live (with_candidate ls c pivot) hints)))) f
+  group_is member named e f = grind arith
 
   pub group_not_candidate : has c (complement pivot) ≡ false → Some (NotCandidate k) ≡ group_refusal live ls pivot earlier (record { candidate = k; hints = hints }) (live k)
   group_not_candidate e = sym (group_is false _ e refl)
@@ -65,9 +48,7 @@ module _ (live : Live) (ls : List Literal) (pivot : Literal) (earlier : List ℕ
       refusal ≡ refusal_at (GroupWithoutConflict k) walked → IsGroupEnd live ls c opposite hints walked →
       refusal ≡ group_refusal live ls pivot earlier (record { candidate = k; hints = hints }) (live k)
   group_walked e f opposite opposite_is walked refusal is end =
-      is ∙ refusal_at_is (GroupWithoutConflict k) end.trues walked (chain live (ls ++ complements (without c opposite)) hints) end.is
-      ∙ ap (λ m. chain_refusal (GroupWithoutConflict k) (chain live (ls ++ complements (without c m)) hints)) opposite_is
-      ∙ sym (group_is true false e f)
+      grind (arith, refusal_at_is, group_is)
 
 -- the walk over a group's hints, from literals that conflict, or that do not
 pub chain_conflict : (live : Live) (ls : List Literal) (hints : List ℕ) → conflicts ls ≡ true → chain live ls hints ≡ conflict
@@ -76,10 +57,7 @@ chain_conflict live ls (k ∷ hints) h = ap (λ b. cond b conflict (look_at k (o
 
 module _ (live : Live) (ls : List Literal) (c : Clause) (opposite : Literal) (hints : List ℕ) where
   pub group_conflicts : conflicts (ls ++ complements (without c opposite)) ≡ true → (end : WalkEnd) → end ≡ Conflict → IsGroupEnd live ls c opposite hints end
-  group_conflicts h end end_is = record {
-    trues = [];
-    is = subst (λ w. IsEnd [] w (chain live (ls ++ complements (without c opposite)) hints)) (sym end_is) (subst (IsEnd [] Conflict) (sym (chain_conflict live (ls ++ complements (without c opposite)) hints h)) tt);
-  }
+  group_conflicts h end end_is = grind (arith, chain_conflict)
 
   pub group_walks : (start trues : List Literal) → SameSet start (ls ++ complements (without c opposite)) → (walked end : WalkEnd) → IsEnd trues walked (chain live start hints) → end ≡ walked → IsGroupEnd live ls c opposite hints end
   group_walks start trues same walked end h end_is = record {
@@ -91,16 +69,12 @@ module _ (live : Live) (ls : List Literal) (c : Clause) (opposite : Literal) (hi
 
 module _ (live : Live) (ls : List Literal) (pivot : Literal) where
   group_earlier : (group : Group) (o : Option Clause) (first second : List ℕ) → SameSet first second → group_refusal live ls pivot first group o ≡ group_refusal live ls pivot second group o
-  group_earlier group None first second same = refl
-  group_earlier group (Some c) first second same =
-      ap (λ t. option_or (then_some (not (has c (complement pivot))) (NotCandidate group.candidate)) (option_or (then_some t (NamedTwice group.candidate))
-      (chain_refusal (GroupWithoutConflict group.candidate) (chain live (with_candidate ls c pivot) group.hints)))) (same group.candidate)
+  group_earlier group o first second h = grind arith
 
   groups_earlier : (groups : List Group) (first second : List ℕ) → SameSet first second → groups_refusal live ls pivot first groups ≡ groups_refusal live ls pivot second groups
   groups_earlier [] first second same = refl
   groups_earlier (group ∷ groups) first second same =
-      ap (λ o. option_or o (groups_refusal live ls pivot (group.candidate ∷ first) groups)) (group_earlier group (live group.candidate) first second same)
-      ∙ ap (option_or (group_refusal live ls pivot second group (live group.candidate))) (groups_earlier groups (group.candidate ∷ first) (group.candidate ∷ second) (same_set_more first second group.candidate same))
+      grind (arith, group_earlier, same_set_more, groups_earlier groups (group.candidate ∷ first) (group.candidate ∷ second) (same_set_more first second group.candidate same))
 
   module _ (hints : List ℤ) (i : ℕ) (inside : i < length hints) (fits : SFits w64 (get_or hints i (pos 0))) (named : List ℕ) (all : Option Refusal)
       (so_far : groups_refusal live ls pivot named (groups_of (drop i hints)) ≡ all) where
@@ -110,33 +84,13 @@ module _ (live : Live) (ls : List Literal) (pivot : Literal) where
     module _ (k : ℕ) (test : lt_z (read hints i) (pos 0) ≡ true) (k_is : k ≡ nat_abs (read hints i)) (rest : List ℤ) (rest_is : rest ≡ drop (i + 1) hints)
         (refusal : Option Refusal) (is : refusal ≡ group_refusal live ls pivot named (record { candidate = k; hints = units_of rest }) (live k)) where
       unroll : option_or refusal (groups_refusal live ls pivot (k ∷ named) (groups_of (drop (i + 1) hints))) ≡ all
-      unroll =
-          ap (λ o. option_or o (groups_refusal live ls pivot (k ∷ named) (groups_of (drop (i + 1) hints))))
-          (is ∙ ap (λ r. group_refusal live ls pivot named (record { candidate = k; hints = units_of r }) (live k)) rest_is)
-          ∙ ap (groups_refusal live ls pivot named) (sym (groups_more hints i inside fits k test k_is))
-          ∙ so_far
+      unroll = grind (arith, groups_more)
 
       pub groups_stop : is_some refusal ≡ true → refusal ≡ all
-      groups_stop h = sym (first_wins refusal _ h) ∙ unroll
-        where
-          first_wins : (o p : Option Refusal) → is_some o ≡ true → option_or o p ≡ o
-          first_wins None p h = absurd (false≢true h)
-          first_wins (Some r) p h = refl
+      groups_stop h = grind (arith, unroll, false≢true)
 
       pub groups_go_on : is_some refusal ≡ false → (after : List ℕ) → ((j : ℕ) → has after j ≡ has named j || eqb k j) → groups_refusal live ls pivot after (groups_of (drop (i + 1) hints)) ≡ all
-      groups_go_on h after more =
-          groups_earlier (groups_of (drop (i + 1) hints)) after (k ∷ named) (λ j. more j ∙ or-comm (has named j) (eqb k j))
-          ∙ sym (second_wins refusal _ h) ∙ unroll
-        where
-          second_wins : (o p : Option Refusal) → is_some o ≡ false → option_or o p ≡ p
-          second_wins None p h = refl
-          second_wins (Some r) p h = absurd (true≢false h)
-
-          or-comm : (a b : Bool) → a || b ≡ b || a
-          or-comm true true = refl
-          or-comm true false = refl
-          or-comm false true = refl
-          or-comm false false = refl
+      groups_go_on h after more = grind (arith, groups_earlier, unroll, true≢false)
 
 -- ---- The candidates that were named
 
@@ -149,18 +103,13 @@ module _ (hints : List ℤ) (i : ℕ) (inside : i < length hints) (fits : SFits 
       more j ∙ ap (λ b. b || eqb k j) (same j) ∙ sym (ap (λ ks. has ks j) (named_more hints i inside fits k test k_is) ∙ list_any-append (λ m. eqb m j) (named_in (take i hints)) (k ∷ []) ∙ last (has (named_in (take i hints)) j) (eqb k j))
     where
       last : (a b : Bool) → a || (b || false) ≡ a || b
-      last a true = refl
-      last a false = refl
+      last a b = grind arith
 
 pub when_none : {X : Type 0} (o : Option X) (P : Type 0) → is_some o ≡ false → IfNone o P → P
-when_none None P e h = h
-when_none (Some x) P e h = absurd (true≢false e)
+when_none o P h h2 = grind (arith, true≢false)
 
 pub held_grow : (live : Live) (l : Literal) (named after : List ℕ) (k : ℕ) → ((j : ℕ) → has after j ≡ has named j || eqb k j) → ((j : ℕ) → has named j ≡ true → Holds live l j) → Holds live l k → (j : ℕ) → has after j ≡ true → Holds live l j
-held_grow live l named after k more hold new j member = elim (or_cases (has named j) (eqb k j) (sym (more j) ∙ member)) [
-  | inl old ↦ hold j old
-  | inr e ↦ subst (Holds live l) (eqb-true k j e) new
-]
+held_grow live l named after k more hold new j member = grind (arith, or_cases, eqb-true)
 
 -- a candidate that no group names, by the list of those that are named
 pub unnamed_is : (live : Live) (ls : List Literal) (pivot : Literal) (named : List ℕ) (hints : List ℤ) → SameSet named (named_in hints) → (k : ℕ) → is_unnamed live ls pivot named k ≡ is_left_out live ls pivot (groups_of hints) k
@@ -173,10 +122,7 @@ module _ (live : Live) (ls : List Literal) (pivot : Literal) (named : List ℕ) 
   left_out o is = subst (IsFirstLeftOut live ls pivot named) is (subst (λ ls. IsFirstLeftOut live ls pivot named found) stay first)
 
   pub answers_unnamed : (id : ℕ) → found ≡ Some id → AnswersGroups live ls pivot (groups_of hints) refusal (Err (Unnamed id))
-  answers_unnamed id is =
-      let it = left_out (Some id) is in
-      subst (λ r. AnswersGroups live ls pivot (groups_of hints) r (Err (Unnamed id))) none
-      (sym (unnamed_is live ls pivot named hints same id) ∙ it.0, λ j below. sym (unnamed_is live ls pivot named hints same j) ∙ it.1 j below)
+  answers_unnamed id is = grind (arith, left_out, unnamed_is)
 
   pub answers_rat : found ≡ None → AnswersGroups live ls pivot (groups_of hints) refusal (Ok Rat)
   answers_rat is = subst (λ r. AnswersGroups live ls pivot (groups_of hints) r (Ok Rat)) none (λ k. sym (unnamed_is live ls pivot named hints same k) ∙ left_out None is k)

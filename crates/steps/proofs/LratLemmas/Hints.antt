@@ -45,11 +45,7 @@ module _ (hints : List ℤ) (i : ℕ) (inside : i < length hints) (fits : SFits 
 
   pub groups_more : (k : ℕ) → lt_z (read hints i) (pos 0) ≡ true → k ≡ nat_abs (read hints i) →
       groups_of (drop i hints) ≡ record { candidate = k; hints = units_of (drop (i + 1) hints) } ∷ groups_of (drop (i + 1) hints)
-  groups_more k test e = ap groups_of drop_read ∙ by_sign (read hints i) test e
-    where
-      by_sign : (x : ℤ) → lt_z x (pos 0) ≡ true → k ≡ nat_abs x → groups_of (x ∷ drop (i + 1) hints) ≡ record { candidate = k; hints = units_of (drop (i + 1) hints) } ∷ groups_of (drop (i + 1) hints)
-      by_sign (pos n) h e = absurd (not_below n h)
-      by_sign (negsuc n) h e = ap (λ j. record { candidate = j; hints = units_of (drop (i + 1) hints) } ∷ groups_of (drop (i + 1) hints)) (sym e)
+  groups_more k test e = grind (arith, drop_read, nat_abs, not_below, negsuc)
 
   pub abs_more : (k : ℕ) → k ≡ nat_abs (read hints i) → map nat_abs (drop i hints) ≡ k ∷ map nat_abs (drop (i + 1) hints)
   abs_more k e = ap (map nat_abs) drop_read ∙ ap (λ j. j ∷ map nat_abs (drop (i + 1) hints)) (sym e)

@@ -1,6 +1,6 @@
 -- Candidates without a group: whether there are any, and those that are passed over.
-use Rattle.std.proofs.Common.{◌≡◌, ℕ, ◌+◌, ◌<◌, ◌≤◌, Bool, true, false, not, ◌&&◌, eqb, Option}
-use Rattle.std.proofs.Common.{Some, None, List, ◌∷◌, length, take, get_or, refl, ap, sym, ◌∙◌}
+use Rattle.std.proofs.Common.{◌≡◌, ℕ, ◌+◌, ◌<◌, ◌≤◌, Bool, true, false, not, ◌&&◌, eqb}
+use Rattle.std.proofs.Common.{Some, None, List, ◌∷◌, length, take, get_or, ap, sym, ◌∙◌}
 use Rattle.std.proofs.Common.{subst, slice_index, arith, nat_eq, eqb-true, inl, inr, rules}
 use Rattle.std.proofs.lemmas.Bool.{false≢true, true≢false, false_from_ne_true, and_parts, not-true}
 use Rattle.std.proofs.lemmas.Bool.{cases_lt, cases_eq, or_cases, Decides.nat_tests}
@@ -22,8 +22,7 @@ both_false b = search rules
 -- of numbers that rise, those below one stand before it
 in_front : (ids : List ℕ) → IsStrictlyIncreasing ids → (i x j : ℕ) → i < length ids → x ≡ get_or ids i x → j < x → has ids j ≡ true → has (take i ids) j ≡ true
 in_front ids rising i x j inside is below member =
-    let place = place_of ids j member in
-    let m = place.0 in
+    let place = place_of ids j member in let m = place.0 in
     elim (cases_lt m i) [
       | inl before ↦ cc (has_front ids i m before place.1)
       | inr from_on ↦ elim (cases_eq i m) [
@@ -32,8 +31,7 @@ in_front ids rising i x j inside is below member =
             let later : i < m = omega (arith, from_on, apart) in
             let rise = from_less (get_or ids i 0) (get_or ids m 0) (Less-from_sorted nat_cmp ids i m 0 (sorted_from_strictly_increasing ids rising) later place.1) in
             let here : x ≡ get_or ids i 0 = is ∙ get_or_default_zero ids i x inside in
-            let wrong : ⊥ = omega (arith, below, rise, here, place.2) in
-            absurd wrong
+            let wrong : ⊥ = omega (arith, below, rise, here, place.2) in absurd wrong
       ]
     ]
   where
@@ -42,11 +40,7 @@ in_front ids rising i x j inside is below member =
 
 module _ (live : Live) (ls : List Literal) (pivot : Literal) (named : List ℕ) where
   unnamed_holds : (k : ℕ) → is_unnamed live ls pivot named k ≡ true → Holds live (complement pivot) k
-  unnamed_holds k h = by_clause (live k) refl (and_parts _ _ h).1
-    where
-      by_clause : (o : Option Clause) → live k ≡ o → is_unsettled ls pivot o ≡ true → Holds live (complement pivot) k
-      by_clause None e h = absurd (false≢true h)
-      by_clause (Some c) e h = record { clause = c; at = e; member = (and_parts _ _ h).0 }
+  unnamed_holds k h = grind (arith, and_parts, false≢true)
 
   -- where no more clauses have the complement than are named, none is left out
   pub none_left : ((k : ℕ) → has named k ≡ true → Holds live (complement pivot) k) → IsDistinct nat_eq named →
@@ -55,10 +49,7 @@ module _ (live : Live) (ls : List Literal) (pivot : Literal) (named : List ℕ) 
       false_from_ne_true (is_unnamed live ls pivot named k) (λ h.
       let one_more = most (k ∷ named) (record {
         different = distinct_more k named (not-true (has named k) (and_parts _ _ h).0) different;
-        each = λ j member. elim (has_cases k named j member) [
-          | inl e ↦ subst (Holds live (complement pivot)) e (unnamed_holds k h)
-          | inr known ↦ hold j known
-        ];
+        each = grind (arith, has_cases, unnamed_holds);
       }) in
       let wrong : ⊥ = omega (arith, one_more, few) in
       wrong)

@@ -1,19 +1,17 @@
 -- Room for the literals of all live clauses, as clauses come and go.
 use Rattle.std.proofs.Common.{◌≡◌, ℕ, true, Some, List, [], ◌∷◌, map, nat_abs, ℤ, sym, ap, ◌∙◌}
-use Rattle.std.proofs.Common.{arith, rules}
-use Rattle.std.proofs.lemmas.Option.{none-some}
-use Rattle.std.specs.{Ordering.nat_cmp, FinMap.FinMap, FinMap.get-empty, Result.OnOk}
+use Rattle.std.proofs.{lemmas.Option.none-some, Common.arith, Common.rules}
+use Rattle.std.specs.{Ordering.nat_cmp, Result.OnOk, FinMap.FinMap, FinMap.get-empty}
 use Rattle.std.specs.declared.result.Result.{Result}
-use Rattle.std.specs.FinMap as maps
 use Rattle.cnf_base.specs.Literals.{Clause, has}
 use Rattle.cnf_base.proofs.SetLemmas.{same_there}
 use Rattle.trail.specs.Trail.{TrailState, HasRoom, HasRoomForAll}
 use Rattle.proofs.specs.{declared.step_buf.StepKind.TheVariants.Delete, Steps.Step}
-use Rattle.theory.specs.Propagation.{Live}
-use Rattle.theory.specs.Lrat.{with_clause, without_id, without_ids, step_of, lrat_step, LratState}
-use Rattle.theory.specs.Lrat.{after_lrat, SameClauses}
+use Rattle.theory.specs.Lrat.{with_clause, without_id, without_ids, lrat_step, LratState}
+use Rattle.theory.specs.{Lrat.after_lrat, Lrat.SameClauses, Propagation.Live}
 use Rattle.theory.proofs.LratLemmas.LiveSets.{SameClauses-eq}
 use Rattle.steps.specs.Code.Ready.{IsReady}
+use Rattle.std.specs.FinMap as maps
 
 -- ---- A clause that is added
 
@@ -35,12 +33,8 @@ ready_without trues live after ids is ready = search (rules, arith, without_stay
 
 pub deleted_same : (state : LratState) (step : Step) (hints : List ℤ) (after : Live) (top : ℕ) → step.kind ≡ Delete → hints ≡ step.hints → ((k : ℕ) → after k ≡ without_ids state.live (map nat_abs hints) k) → top ≡ state.top →
     SameClauses after (after_lrat state (lrat_step step)).live × (top ≡ (after_lrat state (lrat_step step)).top)
-deleted_same state step hints after top kind_is hints_are is top_is = (
-  SameClauses-eq after (after_lrat state (lrat_step step)).live (λ k. is k
-      ∙ ap (λ hs. without_ids state.live (map nat_abs hs) k) hints_are
-      ∙ sym (ap (λ kind. (after_lrat state (step_of kind step.id step.lits step.hints)).live k) kind_is)),
-  top_is ∙ sym (ap (λ kind. (after_lrat state (step_of kind step.id step.lits step.hints)).top) kind_is),
-)
+deleted_same state step hints after top kind_is hints_are is top_is =
+    grind (arith, SameClauses-eq, nat_abs)
 
 pub ready_roomed : (before after : TrailState) (live : Live) → after.lits ≡ before.lits → ((v : ℕ) → has before.reserved v ≡ true → has after.reserved v ≡ true) → IsReady live before → IsReady live after
 ready_roomed before after live same within ready = search rules

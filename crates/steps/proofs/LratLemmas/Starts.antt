@@ -1,38 +1,27 @@
 -- The answer depends on the set of true literals alone, from which groups and candidates start.
-use Rattle.std.proofs.Common.{◌≡◌, ℕ, not, ◌||◌, eqb, Option, Some, None, List, [], ◌∷◌, ◌++◌}
-use Rattle.std.proofs.Common.{true, slice_get, refl, sym, ap, ◌∙◌, subst, arith, rules}
-use Rattle.std.proofs.lemmas.{List.Folds.list_any-append, Option.same_Some, Option.none-some}
-use Rattle.std.specs.{Bool.then_some, Option.option_or}
+use Rattle.std.proofs.Common.{◌≡◌, ℕ, Option, Some, List, [], ◌∷◌, ◌++◌, true}
+use Rattle.std.proofs.Common.{slice_get, sym, ap, ◌∙◌, subst, arith, rules}
+use Rattle.std.proofs.lemmas.{Option.same_Some, Option.none-some, List.Folds.list_any-append}
 use Rattle.theory.specs.declared.refusal.Refusal.{Refusal}
-use Rattle.theory.specs.declared.refusal.Refusal.TheVariants.{NotCandidate, NamedTwice}
-use Rattle.theory.specs.declared.refusal.Refusal.TheVariants.{GroupWithoutConflict}
-use Rattle.theory.specs.{Propagation.Live, Answers.StepAnswer}
 use Rattle.theory.specs.Lrat.{chain, ChainEnd, Group, with_candidate, group_refusal, groups_refusal}
 use Rattle.theory.specs.Lrat.{is_unsettled, is_left_out, AnswersGroups, AnswersChain}
-use Rattle.theory.specs.Sets.{conflicts, SameSet}
-use Rattle.theory.proofs.LratLemmas.{SameSets.chain_alike, LiveSets.SameClauses-refl}
+use Rattle.theory.specs.{Sets.conflicts, Sets.SameSet, Propagation.Live, Answers.StepAnswer}
+use Rattle.theory.proofs.LratLemmas.{LiveSets.SameClauses-refl, SameSets.chain_alike}
 use Rattle.theory.proofs.PropagationLemmas.Conflicts.{conflicts_same}
-use Rattle.steps.specs.declared.lrat.walk.WalkEnd.{WalkEnd, TheVariants.Open, TheVariants.Conflict}
-use Rattle.steps.specs.Code.Walk.{IsEnd}
-use Rattle.steps.proofs.LratLemmas.{Walks.chain_same, Groups.chain_conflict}
-use Rattle.cnf_base.specs.Literals.{Literal, complement, Clause, has, complements, without}
+use Rattle.steps.specs.{declared.lrat.walk.WalkEnd.WalkEnd, Code.Walk.IsEnd}
+use Rattle.steps.specs.declared.lrat.walk.WalkEnd.TheVariants.{Open, Conflict}
+use Rattle.steps.proofs.LratLemmas.{Groups.chain_conflict, Walks.chain_same}
+use Rattle.cnf_base.specs.Literals.{Literal, Clause, complements}
 
 module _ (live : Live) (first second : List Literal) (same : SameSet first second) (pivot : Literal) where
   start_same : (c : Clause) → SameSet (with_candidate first c pivot) (with_candidate second c pivot)
-  start_same c l = list_any-append (λ k. eqb k l) first (complements (without c (complement pivot)))
-      ∙ ap (λ b. b || has (complements (without c (complement pivot))) l) (same l)
-      ∙ sym (list_any-append (λ k. eqb k l) second (complements (without c (complement pivot))))
+  start_same c l = grind (arith, list_any-append)
 
   group_start : (earlier : List ℕ) (group : Group) (o : Option Clause) → group_refusal live first pivot earlier group o ≡ group_refusal live second pivot earlier group o
-  group_start earlier group None = refl
-  group_start earlier group (Some c) =
-      ap (λ e. option_or (then_some (not (has c (complement pivot))) (NotCandidate group.candidate)) (option_or (then_some (has earlier group.candidate) (NamedTwice group.candidate)) e))
-      (chain_alike live live (SameClauses-refl live) (GroupWithoutConflict group.candidate) group.hints (with_candidate first c pivot) (with_candidate second c pivot) (start_same c))
+  group_start earlier group o = grind (arith, chain_alike, SameClauses-refl, start_same)
 
   groups_start : (groups : List Group) (earlier : List ℕ) → groups_refusal live first pivot earlier groups ≡ groups_refusal live second pivot earlier groups
-  groups_start [] earlier = refl
-  groups_start (group ∷ groups) earlier =
-      search (rules, arith, group_start, (groups_start groups (group.candidate ∷ earlier)))
+  groups_start groups earlier = grind (arith, group_start)
 
   unsettled_start : (o : Option Clause) → is_unsettled first pivot o ≡ is_unsettled second pivot o
   unsettled_start o = search (rules, arith, conflicts_same, start_same)

@@ -1,33 +1,22 @@
 -- A walk depends on the set of true literals alone, and goes on hint by hint.
-use Rattle.std.proofs.Common.{◌≡◌, ℕ, Bool, true, false, not, cond, eqb, Option, Some, None}
-use Rattle.std.proofs.Common.{option_map, List, [], ◌∷◌, ◌++◌, refl, sym, ap, ◌∙◌, subst, inl, inr}
-use Rattle.std.proofs.lemmas.{Bool.false≢true, List.Elements.filter_agree}
-use Rattle.std.specs.List.{list_all}
-use Rattle.trail.specs.declared.left.Left.{Left}
+use Rattle.std.proofs.Common.{arith, ◌≡◌, ℕ, true, false, not, cond, Option, Some, None, option_map}
+use Rattle.std.proofs.Common.{List, [], ◌∷◌, ◌++◌, refl, sym, ap, subst}
+use Rattle.std.proofs.lemmas.{List.Elements.filter_agree, Bool.false≢true}
+use Rattle.trail.specs.{declared.left.Left.Left, Left.how_many}
 use Rattle.trail.specs.declared.left.Left.TheVariants.{Nothing, One, More}
-use Rattle.trail.specs.Left.{how_many}
 use Rattle.cnf_base.specs.Literals.{Literal, complement, Clause, has}
 use Rattle.cnf_base.proofs.SetLemmas.{both_pass, has_head, has_tail, has_cases, has_append_left}
 use Rattle.cnf_base.proofs.SetLemmas.{has_append_right, has_append_cases}
-use Rattle.theory.specs.Propagation.{Live, open_literals}
+use Rattle.theory.specs.{Propagation.Live, Propagation.open_literals, Sets.conflicts, Sets.SameSet}
 use Rattle.theory.specs.Lrat.{ChainEnd, conflict, open_with, not_unit, look_at, chain}
-use Rattle.theory.specs.Sets.{conflicts, SameSet}
 use Rattle.theory.proofs.LratLemmas.SameSets.{same_set_more}
 use Rattle.theory.proofs.PropagationLemmas.Conflicts.{conflicts_same}
-use Rattle.steps.specs.declared.lrat.walk.WalkEnd.{WalkEnd}
-use Rattle.steps.specs.declared.lrat.walk.WalkEnd.TheVariants.{Conflict, Open, UnknownId, NotUnit}
-use Rattle.steps.specs.Code.Walk.{IsEnd}
+use Rattle.steps.specs.{declared.lrat.walk.WalkEnd.WalkEnd, Code.Walk.IsEnd}
+use Rattle.steps.specs.declared.lrat.walk.WalkEnd.TheVariants.{Conflict, UnknownId, NotUnit}
 
 pub same_set_push : (ls : List Literal) (m : Literal) → SameSet (ls ++ m ∷ []) (m ∷ ls)
-same_set_push ls m l = both_pass (has (ls ++ m ∷ []) l) (has (m ∷ ls) l)
-    (λ h. elim (has_append_cases ls (m ∷ []) l h) [
-      | inl g ↦ has_tail m ls l g
-      | inr g ↦ elim (has_cases m [] l g) [ inl e ↦ subst (λ x. has (m ∷ ls) x ≡ true) e (has_head m ls) | inr absent ↦ absurd (false≢true absent) ]
-    ])
-    (λ h. elim (has_cases m ls l h) [
-      | inl e ↦ has_append_right ls (m ∷ []) l (subst (λ x. has (m ∷ []) x ≡ true) e (has_head m []))
-      | inr g ↦ has_append_left ls (m ∷ []) l g
-    ])
+same_set_push ls m l =
+    grind (arith, both_pass, has_append_cases, has_tail, has_cases, has_head, false≢true, has_append_right, has_append_left)
 
 open_same : (first second : List Literal) (c : Clause) → SameSet first second → open_literals first c ≡ open_literals second c
 open_same first second c same = filter_agree (λ l. not (has first (complement l))) (λ l. not (has second (complement l))) (λ l. ap not (same (complement l))) c
@@ -37,28 +26,14 @@ abbrev pub Gives : ChainEnd → ChainEnd → Type 0
 Gives first second = (trues : List Literal) (end : WalkEnd) → IsEnd trues end first → IsEnd trues end second
 
 gives_look : (k : ℕ) (o : Option Clause) (first second : Literal → ChainEnd) → ((l : Literal) → Gives (first l) (second l)) → Gives (look_at k o first) (look_at k o second)
-gives_look k None first second each trues end h = h
-gives_look k (Some []) first second each trues end h = h
-gives_look k (Some (l ∷ ls)) first second each trues end h = by_test (list_all (λ m. eqb m l) ls) trues end h
-  where
-    by_test : (b : Bool) → Gives (cond b (first l) (not_unit k)) (cond b (second l) (not_unit k))
-    by_test true trues end h = each l trues end h
-    by_test false trues end h = h
+gives_look k o first second h h2 h3 h4 = grind arith
 
 gives_open : (first second : List Literal) → SameSet first second → Gives (open_with first) (open_with second)
-gives_open first second same trues Open h = λ l. h l ∙ same l
-gives_open first second same trues Conflict h = h
-gives_open first second same trues (UnknownId j) h = h
-gives_open first second same trues (NotUnit j) h = h
+gives_open first second h h2 h3 h4 = grind arith
 
 -- a walk depends on the set alone
 pub chain_same : (live : Live) (hints : List ℕ) (first second : List Literal) → SameSet first second → Gives (chain live first hints) (chain live second hints)
-chain_same live [] first second same =
-    subst (λ b. Gives (chain live first []) (cond b conflict (open_with second))) (conflicts_same first second same)
-    (elim (conflicts first) as (λ b. Gives (cond b conflict (open_with first)) (cond b conflict (open_with second))) [
-      | true ↦ λ trues end h. h
-      | false ↦ gives_open first second same
-    ])
+chain_same live [] first second same = grind (arith, conflicts_same, gives_open)
 chain_same live (k ∷ hints) first second same =
     let look_first : Option Clause = option_map (open_literals first) (live k) in
     let look_second : Option Clause = option_map (open_literals second) (live k) in
@@ -82,31 +57,19 @@ look_left k More go_on = not_unit k
 
 -- it goes on as the rule does
 looks_left : (k : ℕ) (ls : List Literal) (go_on : Literal → ChainEnd) → look_at k (Some ls) go_on ≡ look_left k (how_many ls) go_on
-looks_left k [] go_on = refl
-looks_left k (l ∷ ls) go_on = by_test (list_all (λ m. eqb m l) ls)
-  where
-    by_test : (b : Bool) → cond b (go_on l) (not_unit k) ≡ look_left k (cond b (One l) More) go_on
-    by_test true = refl
-    by_test false = refl
+looks_left k ls go_on = grind arith
 
 -- the next hint names nothing
 pub walk_unknown : (live : Live) (ls : List Literal) (left more : List ℕ) (k : ℕ) → left ≡ k ∷ more → (end : ChainEnd) → Gives (chain live ls left) end → conflicts ls ≡ false →
     live k ≡ None → (trues : List Literal) → IsEnd trues (UnknownId k) end
 walk_unknown live ls left more k left_is end so_far quiet none trues =
-    let next : chain live ls left ≡ look_at k None (λ l. chain live (l ∷ ls) more) =
-    ap (chain live ls) left_is
-    ∙ ap (λ b. cond b conflict (look_at k (option_map (open_literals ls) (live k)) (λ l. chain live (l ∷ ls) more))) quiet
-    ∙ ap (λ o. look_at k o (λ l. chain live (l ∷ ls) more)) (ap (option_map (open_literals ls)) none) in
+    let next : chain live ls left ≡ look_at k None (λ l. chain live (l ∷ ls) more) = grind arith in
     so_far trues (UnknownId k) (subst (IsEnd trues (UnknownId k)) (sym next) refl)
 
 -- a walk whose next hint is k
 module _ (live : Live) (ls : List Literal) (left more : List ℕ) (k : ℕ) (left_is : left ≡ k ∷ more) (end : ChainEnd) (so_far : Gives (chain live ls left) end) (quiet : conflicts ls ≡ false) (c : Clause) (at : live k ≡ Some c) where
   next : (left_of : Left) → how_many (open_literals ls c) ≡ left_of → chain live ls left ≡ look_left k left_of (λ l. chain live (l ∷ ls) more)
-  next left_of e = ap (chain live ls) left_is
-      ∙ ap (λ b. cond b conflict (look_at k (option_map (open_literals ls) (live k)) (λ l. chain live (l ∷ ls) more))) quiet
-      ∙ ap (λ o. look_at k o (λ l. chain live (l ∷ ls) more)) (ap (option_map (open_literals ls)) at)
-      ∙ looks_left k (open_literals ls c) (λ l. chain live (l ∷ ls) more)
-      ∙ ap (λ left_of. look_left k left_of (λ l. chain live (l ∷ ls) more)) e
+  next left_of e = grind (arith, looks_left)
 
   pub walk_nothing : (trues : List Literal) → Nothing ≡ how_many (open_literals ls c) → IsEnd trues Conflict end
   walk_nothing trues e = so_far trues Conflict (subst (IsEnd trues Conflict) (sym (next Nothing (sym e))) tt)

@@ -1,5 +1,5 @@
 -- States under other names.
-use Rattle.std.proofs.Common.{◌≡◌, ℕ, zero, suc, ◌+◌, ◌-◌, ◌<◌, Bool, true, false, cond, eqb}
+use Rattle.std.proofs.Common.{◌≡◌, ℕ, zero, suc, ◌+◌, ◌-◌, ◌<◌, Bool, true, cond, eqb}
 use Rattle.std.proofs.Common.{Option, Some, None, option_map, List, [], ◌∷◌, map, slice_get, refl}
 use Rattle.std.proofs.Common.{sym, ap, ◌∙◌, subst, arith, inl, inr, eqb-true, eq-eqb, rules}
 use Rattle.std.proofs.lemmas.{Bool.or_right, Bool.false≢true, List.Sums.sum_by-cons}
@@ -7,27 +7,23 @@ use Rattle.std.proofs.lemmas.Option.{none-some, same_Some, slice_get-map}
 use Rattle.std.specs.{Prelude.sum_by, List.list_any}
 use Rattle.cnf_base.specs.Literals.{Literal, Clause, variable, has, same_clause, size, complement}
 use Rattle.cnf_base.proofs.SetLemmas.{has_head, has_tail, same_itself, same_trans}
-use Rattle.theory.specs.declared.accepted.Accepted.{Accepted}
 use Rattle.theory.specs.declared.accepted.Accepted.TheVariants.{Deleted, Rup, Rat, Pr, Empty}
-use Rattle.theory.specs.declared.accepted.Accepted.TheVariants.{Ignored}
-use Rattle.theory.specs.{Drat.take_off, Drat.copies_of, Drat.SameLive, Lrat.SameAt}
+use Rattle.theory.specs.declared.accepted.Accepted.{TheVariants.Ignored, Accepted}
+use Rattle.theory.specs.{Drat.take_off, Drat.copies_of, Drat.SameLive, Lrat.SameAt, Sizes.size_at}
 use Rattle.theory.specs.Rules.{State, by_ids, by_copies, Same, with_input, literals_of}
-use Rattle.theory.specs.Sizes.{size_at}
 use Rattle.theory.specs.Renaming.{renamed, IsUndone, AreUndone, IsRenamed, step_renamed}
 use Rattle.theory.specs.Losses.{LosesRootLiteral, DeleteLoses, StepLoses}
 use Rattle.theory.specs.Propagation.{Live, IsClosed, Forced}
-use Rattle.theory.specs.Drat as d
 use Rattle.theory.proofs.DratLemmas.Copies.{copies-cons, copies-take_off, copies_alive}
 use Rattle.theory.proofs.DratLemmas.Copies.{alive_copies, alive_at}
-use Rattle.theory.proofs.LratLemmas.Sums.{sum_agree}
 use Rattle.theory.proofs.RenamingLemmas.Clauses.{same_mapped, has_is, AreAmong, Renames, GoesTo}
-use Rattle.theory.proofs.RenamingLemmas.Clauses.{back_there}
-use Rattle.theory.proofs.RenamingLemmas.Drat.{after_mapped}
+use Rattle.theory.proofs.{RenamingLemmas.Clauses.back_there, LratLemmas.Sums.sum_agree}
 use Rattle.theory.proofs.RenamingLemmas.Verdicts.{renames, renamed_complement}
 use Rattle.theory.proofs.RenamingLemmas.Forced.{Carries, carries_back, forced_image, clash_image}
-use Rattle.theory.proofs.RenamingLemmas.Forced.{reason_image}
+use Rattle.theory.proofs.RenamingLemmas.{Forced.reason_image, Drat.after_mapped}
 use Rattle.steps.proofs.NamingLemmas.Among.{taken_among}
 use Rattle.proofs.specs.Steps.{Step}
+use Rattle.theory.specs.Drat as d
 
 -- literals whose names can be told
 abbrev pub IsTold : (name back : ℕ → ℕ) → Literal → Type 0
@@ -71,11 +67,9 @@ module _ (name back : ℕ → ℕ) where
   copies_renamed [] (c ∷ second) first_told second_told same e =
       absurd (let own = copies_own c second in let is : 0 ≡ copies_of c (c ∷ second) = same.copies c in let wrong : ⊥ = omega arith in wrong)
   copies_renamed (c ∷ first) second first_told second_told same e =
-      let own = copies_own c first in
-      let is = same.copies c in
+      let own = copies_own c first in let is = same.copies c in
       let positive : 0 < copies_of c second = omega arith in
-      let alive = copies_alive c second positive in
-      let told = first_told zero c refl in
+      let alive = copies_alive c second positive in let told = first_told zero c refl in
       let rest : SameLive first (take_off c second) = record { copies = λ x. less (cond (same_clause x c) 1 0) (copies_of x first) _ _ _ (copies-cons x c first) (same.copies x) (copies-take_off x c second) } in
       let below = copies_renamed first (take_off c second) (λ k. first_told (suc k)) (taken_among (IsTold name back) c second second_told) rest e in
       copies-cons e (map (renamed name) c) (map (map (renamed name)) first)
@@ -88,18 +82,11 @@ module _ (name back : ℕ → ℕ) where
       less n x more there rest h i j = omega arith
 
       whole : (b : Bool) (n : ℕ) → (b ≡ true → 0 < n) → cond b 1 0 + (n - cond b 1 0) ≡ n
-      whole true n positive = let p = positive refl in omega arith
-      whole false n positive = omega arith
+      whole b n h = grind arith
 
   pub renamed_same : (s t other_s other_t : State) → IsRenamed name back s other_s → IsRenamed name back t other_t → Same s t → Same other_s other_t
-  renamed_same (by_ids s) (by_ids t) (by_ids other_s) (by_ids other_t) p q same = (
-    record {
-      at = λ k. subst (λ o. SameAt o (other_t.live k)) (sym (p.0 k))
-          (subst (SameAt (option_map (map (renamed name)) (s.live k))) (sym (q.0 k))
-          (at_same (s.live k) (t.live k) (p.2 k) (q.2 k) (same.0.at k)));
-    },
-    p.1 ∙ same.1 ∙ sym q.1,
-  )
+  renamed_same (by_ids s) (by_ids t) (by_ids other_s) (by_ids other_t) p q same =
+      grind (arith, at_same)
   renamed_same (by_copies rules live) (by_copies rules_too others) (by_copies rules_s other_s) (by_copies rules_t other_t) p q same = (
     p.0 ∙ same.0 ∙ sym q.0,
     record { copies = λ e. ap (copies_of e) p.1 ∙ copies_renamed live others p.2 q.2 same.1 e ∙ ap (copies_of e) (sym q.1) },
@@ -149,8 +136,7 @@ module _ (name back : ℕ → ℕ) where
 module _ (there back : Literal → Literal) (among : Literal → Type 0) where
   -- where nothing is assumed, what is forced can be told
   forced_told : (live other : Live) → Carries there back among live other → (l : Literal) → Forced live [] l → back (there l) ≡ l
-  forced_told live other s l forced =
-      eqb-true (back (there l)) l (forced.in_each (λ k. eqb (back (there k)) k) closed (λ a member. absurd (false≢true member)))
+  forced_told live other s l forced = grind (arith, eqb-true, closed, false≢true)
     where
       closed : IsClosed live (λ k. eqb (back (there k)) k)
       closed = record { unit = λ k c at m member others. eq-eqb (back (there m)) m (s.renames.undone m (s.within k c at m member)) }
@@ -171,8 +157,7 @@ module _ (there back : Literal → Literal) (among : Literal → Type 0) where
 
 module _ (there back : Literal → Literal) (among : Literal → Type 0) (r : Renames there back among) where
   image_back : (o : Option Clause) → ((c : Clause) → o ≡ Some c → AreAmong among c) → (e : Clause) → option_map (map there) o ≡ Some e → o ≡ Some (map back e)
-  image_back None within e at = absurd (none-some e at)
-  image_back (Some c) within e at = ap Some (sym (back_there there back among r c (within c refl)) ∙ ap (map back) (same_Some (map there c) e at))
+  image_back o h e h2 = grind (arith, none-some, back_there, same_Some)
 
   listed : (live : List Clause) → ((k : ℕ) (c : Clause) → slice_get live k ≡ Some c → AreAmong among c) → Carries there back among (slice_get live) (slice_get (map (map there) live))
   listed live within = record {
@@ -217,9 +202,7 @@ module _ (name back : ℕ → ℕ) where
   pub renamed_loses : (s other : State) (step : Step) (word : Accepted) → IsRenamed name back s other → IsUndone name back step.lits →
       (StepLoses s step word → StepLoses other (step_renamed (renamed name) step) word) × (StepLoses other (step_renamed (renamed name) step) word → StepLoses s step word)
   renamed_loses (by_ids s) (by_ids t) step word r told = (λ loses. loses, λ loses. loses)
-  renamed_loses (by_copies rules live) (by_copies rules_too other) step word r told = (
-    λ loses. subst (λ o. DeleteLoses o (map (renamed name) step.lits) word) (sym r.1) (loses_there live step.lits r.2 told word loses),
-    λ loses. loses_back live step.lits r.2 told word (subst (λ o. DeleteLoses o (map (renamed name) step.lits) word) r.1 loses),
-  )
+  renamed_loses (by_copies rules live) (by_copies rules_too other) step word r told =
+      grind (arith, loses_there, loses_back)
   renamed_loses (by_ids s) (by_copies _ _) step word r told = absurd r
   renamed_loses (by_copies _ _) (by_ids t) step word r told = absurd r

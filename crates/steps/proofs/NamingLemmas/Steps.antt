@@ -1,9 +1,8 @@
 -- A step under numbers is the step under the names that were given.
-use Rattle.std.specs.{Ordering.nat_cmp, List.list_all, List.list_any}
-use Rattle.std.specs.FinMap as maps
-use Rattle.std.proofs.Common.{◌≡◌, ℕ, suc, ◌+◌, ◌*◌, ◌%◌, Bool, true, false, Option, Some, None, Ok}
-use Rattle.std.proofs.Common.{Err, List, [], ◌∷◌, map, option_map, slice_get, length, refl, sym, ap}
-use Rattle.std.proofs.Common.{◌∙◌, subst, arith, Result, OnOk, IfOk, ◌↔◌, ◌⊎◌, ◌&&◌, inl, inr}
+use Rattle.std.proofs.Common.{rules, ◌≡◌, ℕ, suc, ◌+◌, ◌*◌, ◌%◌, Bool, true, false, Option, Some}
+use Rattle.std.proofs.Common.{None, Ok, Err, List, [], ◌∷◌, map, option_map, slice_get, length, inr}
+use Rattle.std.proofs.Common.{refl, sym, ap, ◌∙◌, subst, arith, Result, OnOk, IfOk, ◌↔◌, ◌⊎◌, inl}
+use Rattle.std.specs.{List.list_all, List.list_any, Ordering.nat_cmp}
 use Rattle.std.proofs.lemmas.Bool.{false≢true, false_from_ne_true, and_parts}
 use Rattle.std.proofs.lemmas.Option.{same_Some, none-some, slice_get-map}
 use Rattle.cnf_base.specs.Literals.{Literal, Clause, variable, has, same_clause}
@@ -11,26 +10,25 @@ use Rattle.cnf_base.proofs.SetLemmas.{has_head, has_tail, has_cases}
 use Rattle.numbering.specs.Names.{number_in, name_in, with_names}
 use Rattle.numbering.proofs.NameLemmas.{told, kept_has_all, kept_number_all, has_new_all}
 use Rattle.numbering.proofs.NameLemmas.{next_is_not_given}
-use Rattle.proofs.specs.{Steps.Step, declared.step_buf.StepKind.StepKind}
-use Rattle.proofs.specs.declared.step_buf.StepKind.TheVariants as kinds
-use Rattle.theory.specs.{Answers.StepAnswer, Answers.UnlessOutOfMemory, Losses.StepLoses}
+use Rattle.proofs.specs.{declared.step_buf.StepKind.StepKind, Steps.Step}
+use Rattle.theory.specs.Answers.{StepAnswer, UnlessOutOfMemory}
 use Rattle.theory.specs.Renaming.{renamed, IsUndone, IsRenamed, step_renamed}
-use Rattle.theory.specs.Rules.{Rule, lrat, drat, State, by_ids, by_copies, Same, with_input}
-use Rattle.theory.specs.Rules.{Answers, after, literals_of}
-use Rattle.theory.specs.declared.{accepted.Accepted.Accepted, refusal.Refusal.Refusal}
-use Rattle.theory.specs.declared.refusal.Refusal.TheVariants.{NeitherRupNorRat, OutOfMemory}
+use Rattle.theory.specs.Rules.{Rule, lrat, drat, State, by_ids, by_copies, Same, with_input, after}
+use Rattle.theory.specs.{declared.accepted.Accepted.Accepted, Losses.StepLoses, Rules.Answers}
+use Rattle.theory.specs.{declared.refusal.Refusal.Refusal, Rules.literals_of}
 use Rattle.theory.proofs.RenamingLemmas.Clauses.{has_mapped, mapped_has}
 use Rattle.theory.proofs.RenamingLemmas.Verdicts.{renames, step_answers, step_leaves}
 use Rattle.steps.specs.Code.Naming.{with_lits, answer_with, under_names, mapped_values, AreAmong}
 use Rattle.steps.specs.Code.Naming.{LiveAmong, AreAllAmong, IsGiven, IsAbsent, names_after}
 use Rattle.steps.specs.Session.{Held, state_of, state_under}
 use Rattle.steps.proofs.NamingLemmas.Absent.{absent_step, absent_after, absent_loses}
-use Rattle.steps.proofs.NamingLemmas.{Among.same_among, Among.after_among, Among.input_among}
-use Rattle.steps.proofs.NamingLemmas.{Among.lacks, Among.deleted_among, Maps.mapped_get}
-use Rattle.steps.proofs.NamingLemmas.{Maps.mapped_list, Maps.mapped_empty, Names.given_undone}
+use Rattle.steps.proofs.NamingLemmas.Among.{same_among, after_among, input_among, lacks}
+use Rattle.steps.proofs.NamingLemmas.{Among.deleted_among, Names.given_undone, States.renamed_size}
+use Rattle.steps.proofs.NamingLemmas.States.{renamed_loses, renamed_same, renamed_input}
+use Rattle.steps.proofs.NamingLemmas.Maps.{mapped_get, mapped_list, mapped_empty}
 use Rattle.steps.proofs.NamingLemmas.Pivots.{answer_named, deletion_names_none, plain_stays}
-use Rattle.steps.proofs.NamingLemmas.States.{renamed_same, renamed_input, renamed_size}
-use Rattle.steps.proofs.NamingLemmas.States.{renamed_loses}
+use Rattle.std.specs.FinMap as maps
+use Rattle.proofs.specs.declared.step_buf.StepKind.TheVariants as kinds
 
 -- each variable that was met keeps its number
 abbrev pub Extends : (names more : List ℕ) → Type 0
@@ -60,9 +58,7 @@ module _ (names : List ℕ) where
       ∷ named_back lits (λ k h. met k (has_tail l lits k h)) i
 
   numbered_given : (lits : List Literal) → AreMet names lits → AreAmong (IsGiven names) (numbered lits)
-  numbered_given lits met m h =
-      let w = mapped_has (renamed (number_in names)) lits m h in
-      (variable w.0, met w.0 w.1, sym (variable_under (number_in names (variable w.0)) w.0) ∙ ap variable w.2)
+  numbered_given lits met m h = grind (arith, mapped_has, variable_under)
 
 -- ---- What is held, under names
 
@@ -71,8 +67,7 @@ module _ (names more : List ℕ) (extends : Extends names more) where
   extended_given l given = (given.0, (extends given.0 given.1).0, (extends given.0 given.1).1 ∙ given.2)
 
   name_kept : (l : Literal) → IsGiven names l → name_in names (variable l) ≡ name_in more (variable l)
-  name_kept l given = ap (name_in names) (sym given.2) ∙ told names given.0 given.1
-      ∙ sym (ap (name_in more) (sym given.2 ∙ sym (extends given.0 given.1).1) ∙ told more given.0 (extends given.0 given.1).0)
+  name_kept l given = grind (arith, told)
 
   clause_kept : (c : Clause) → AreAmong (IsGiven names) c → map (renamed (name_in names)) c ≡ map (renamed (name_in more)) c
   clause_kept [] given = refl
@@ -125,8 +120,7 @@ module _ (names : List ℕ) (lits : List Literal) (old new : Held) (given : AreA
 
   pub input_given : Same (state_of new) (with_input (state_of old) (numbered later lits)) → AreAllAmong (IsGiven later) (state_of new)
   input_given same =
-      same_among (IsGiven later) (state_of new) (with_input (state_of old) (numbered later lits)) same
-      (input_among (IsGiven later) (state_of old) (numbered later lits) (all_given names later (extends_new names lits) (state_of old) given) (numbered_given later lits met_now))
+      search (rules, arith, same_among, input_among, all_given, extends_new, numbered_given, met_now)
 
   pub input_named : Same (state_of new) (with_input (state_of old) (numbered later lits)) → Same (state_of (under_names later more_beside new)) (with_input (state_of (under_names names beside old)) lits)
   input_named same =
@@ -162,8 +156,7 @@ module _ (names more : List ℕ) (extends : Extends names more) (old : Held) (be
   -- each variable was met: this is a step under other names
   shown_met : AreMet more lits → (answer : StepAnswer) → Answers inner (with_lits (numbered more lits) step) answer → IsShown names more old beside lits step answer
   shown_met met answer a =
-      let under = with_lits (numbered more lits) step in
-      let back = named_back more lits met in
+      let under = with_lits (numbered more lits) step in let back = named_back more lits met in
       let told_all = λ (l : Literal) (h : has (numbered more lits) l ≡ true). given_undone more l (numbered_given more lits met l h) in
       record {
         answers = subst (λ c. Answers outer (with_lits c step) (answer_with lits answer)) back
@@ -183,17 +176,11 @@ module _ (names more : List ℕ) (extends : Extends names more) (old : Held) (be
 -- a deletion with a variable that wasn't met is of no live clause
 module _ (names : List ℕ) (old : Held) (beside : ℕ) (lits : List Literal) (step : Step) (given : AreAllAmong (IsGiven names) (state_of old)) (unmet : Literal) (member : has lits unmet ≡ true) (new : has names (variable unmet) ≡ false) (deletes : step.kind ≡ kinds.Delete) where
   none_numbered : (c : Clause) → AreAmong (IsGiven names) c → has c (renamed (number_in names) unmet) ≡ false
-  none_numbered c c_given = false_from_ne_true (has c (renamed (number_in names) unmet)) (λ h.
-      let g = c_given (renamed (number_in names) unmet) h in
-      next_is_not_given names (variable unmet) new g.0 g.1 (g.2 ∙ variable_under (number_in names (variable unmet)) unmet))
+  none_numbered c c_given = grind (arith, false_from_ne_true, next_is_not_given, variable_under)
 
   none_named : (c : Clause) → AreAmong (IsGiven names) c → has (map (renamed (name_in names)) c) unmet ≡ false
-  none_named c c_given = false_from_ne_true (has (map (renamed (name_in names)) c) unmet) (λ h.
-      let w = mapped_has (renamed (name_in names)) c unmet h in
-      let g = c_given w.0 w.1 in
-      let is : g.0 ≡ variable unmet =
-      sym (told names g.0 g.1) ∙ ap (name_in names) g.2 ∙ sym (variable_under (name_in names (variable w.0)) w.0) ∙ ap variable w.2 in
-      false≢true (sym new ∙ subst (λ v. has names v ≡ true) is g.1))
+  none_named c c_given =
+      grind (arith, false_from_ne_true, mapped_has, told, variable_under, false≢true)
 
   absent_numbered : IsAbsent (state_of old) (numbered names lits)
   absent_numbered = by old.rule given
@@ -218,8 +205,7 @@ module _ (names : List ℕ) (old : Held) (beside : ℕ) (lits : List Literal) (s
 
   shown_absent : (answer : StepAnswer) → Answers (state_of old) (with_lits (numbered names lits) step) answer → IsShown names names old beside lits step answer
   shown_absent answer a =
-      let own = with_lits lits step in
-      let outer = state_of (under_names names beside old) in
+      let own = with_lits lits step in let outer = state_of (under_names names beside old) in
       let before = held_renamed names names (extends_itself names) old beside given in
       let answers = absent_step (name_in names) (number_in names) (state_of old) outer own (numbered names lits) answer before deletes absent_numbered absent_named a in
       let accepted = λ (word : Accepted) (is : answer ≡ Ok word). subst (Answers (state_of old) (with_lits (numbered names lits) step)) is a in
@@ -236,8 +222,7 @@ module _ (names : List ℕ) (old : Held) (beside : ℕ) (lits : List Literal) (s
 -- ---- All that a call leaves
 
 pub on_ok : {X Y : Type 0} (r : Result X Y) (P Q : Type 0) → (P → Q) → OnOk r P → OnOk r Q
-on_ok (Ok x) P Q f p = f p
-on_ok (Err y) P Q f p = tt
+on_ok r P Q h h2 = grind arith
 
 -- a clause of the formula was put under numbers
 pub inputs : (names more : List ℕ) (lits numbered : List Literal) (old new : Held) (beside : ℕ) → AreAllAmong (IsGiven names) (state_of old) → more ≡ with_names names lits → numbered ≡ map (renamed (number_in more)) lits →
@@ -262,10 +247,7 @@ some_unmet names (k ∷ c) some = at (has names (variable k)) refl (some_unmet n
   where
     at : (b : Bool) → has names (variable k) ≡ b → (list_all (λ l. has names (variable l)) c ≡ false → (l : Literal) × (has c l ≡ true) × (has names (variable l) ≡ false)) →
         (l : Literal) × (has (k ∷ c) l ≡ true) × (has names (variable l) ≡ false)
-    at false e rest = (k, has_head k c, e)
-    at true e rest =
-        let w = rest (sym (ap (λ b. b && list_all (λ l. has names (variable l)) c) e) ∙ some) in
-        (w.0, has_tail k c w.0 w.1, w.2)
+    at b h h2 = grind (arith, has_head, has_tail)
 
 -- a step was put under numbers
 shown : (names more : List ℕ) (old : Held) (beside : ℕ) (lits : List Literal) (step : Step) (answer : StepAnswer) → AreAllAmong (IsGiven names) (state_of old) → more ≡ names_after step.kind names lits →
@@ -290,18 +272,13 @@ shown names more old beside lits step answer given more_is a = by step.kind refl
             (shown_absent names old beside lits step given w.0 w.1 w.2 is answer under_first)
 
 unless_taken : (answer : StepAnswer) {P Q : Type 0} → (P → Q) → UnlessOutOfMemory answer P → UnlessOutOfMemory answer Q
-unless_taken (Ok word) f p = f p
-unless_taken (Err OutOfMemory) f p = tt
-unless_taken (Err _) f p = f p
+unless_taken answer h h2 = grind arith
 
 named_unless : (lits : List Literal) (answer : StepAnswer) (P : Type 0) → UnlessOutOfMemory answer P → UnlessOutOfMemory (answer_with lits answer) P
-named_unless lits (Ok word) P p = p
-named_unless lits (Err (NeitherRupNorRat pivot)) P p = p
-named_unless lits (Err _) P p = p
+named_unless lits answer P h = grind arith
 
 named_err : (lits : List Literal) (refusal : Refusal) (P : Accepted → Type 0) → IfOk (answer_with lits (Err refusal)) P
-named_err lits (NeitherRupNorRat pivot) P = tt
-named_err lits _ P = tt
+named_err lits refusal P = grind arith
 
 -- what the call leaves
 pub record Steps (names more : List ℕ) (old new : Held) (beside : ℕ) (lits : List Literal) (step : Step) (answer : StepAnswer) : Type 0 where
@@ -342,17 +319,11 @@ steps names more old new beside lits numbered step answer given more_is numbered
 
 -- whether a literal was lost
 pub lost_named : (lits : List Literal) (answer : StepAnswer) (A B : Type 0) (P Q : Accepted → Type 0) → IfOk answer (λ word. A ↔ (B ⊎ P word)) → IfOk (answer_with lits answer) (λ word. P word ↔ Q word) → IfOk (answer_with lits answer) (λ word. A ↔ (B ⊎ Q word))
-lost_named lits (Ok word) A B P Q lost same = (
-  λ a. elim (lost.0 a) [ inl b ↦ inl b | inr p ↦ inr (same.0 p) ],
-  λ d. lost.1 (elim d [ inl b ↦ inl b | inr q ↦ inr (same.1 q) ]),
-)
-lost_named lits (Err refusal) A B P Q lost same = named_err lits refusal _
+lost_named lits answer A B P Q h h2 = grind (arith, named_err)
 
 -- what is said where a step is accepted
 pub ok_named : (lits : List Literal) (answer : StepAnswer) (P : Type 0) → OnOk answer P → OnOk (answer_with lits answer) P
-ok_named lits (Ok word) P p = p
-ok_named lits (Err (NeitherRupNorRat pivot)) P p = tt
-ok_named lits (Err _) P p = tt
+ok_named lits answer P h = grind arith
 
 -- ---- At first
 

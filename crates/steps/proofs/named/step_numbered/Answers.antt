@@ -2,8 +2,7 @@ use Rattle.std.proofs.Common.{◌⊎◌, ◌↔◌, IfOk, OnOk, IsTrue, sym, ap,
 use Rattle.theory.specs.{Answers.UnlessOutOfMemory, Losses.StepLoses}
 use Rattle.theory.specs.Rules.{Answers, Same, after}
 use Rattle.steps.specs.Code.Naming.{answer_with, names_after, named_state, with_lits, AreAllAmong}
-use Rattle.steps.specs.Code.Naming.{IsGiven}
-use Rattle.steps.specs.Session.{state_of}
+use Rattle.steps.specs.{Code.Naming.IsGiven, Session.state_of}
 use Rattle.steps.proofs.NamingLemmas.Steps.{Steps, steps, lost_named, ok_named}
 use Rattle.steps.proofs.named.step_numbered.Given.{Over}
 use Rattle.steps.proofs.named.step_numbered.Goals as goal
@@ -34,8 +33,7 @@ returns-clause-state g c =
 
 pub returns-clause-lost : goal.returns-clause-lost
 returns-clause-lost g c =
-    let old = g.J.Judge.held c.args.judge.now in
-    let new = g.J.Judge.held c.step-answer.new.self in
+    let old = g.J.Judge.held c.args.judge.now in let new = g.J.Judge.held c.step-answer.new.self in
     let under = with_lits c.as_slice.result.now c.args.step.now in
     let named = with_lits c.args.lits.now c.args.step.now in
     let numbered = c.as_slice.ensures.value ∙ c.in_ok-number_step.ensures.literals in

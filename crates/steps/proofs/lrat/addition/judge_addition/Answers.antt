@@ -8,12 +8,9 @@ use Rattle.std.specs.FinMap as maps
 
 pub returns-in-Some-clause-answer : goal.returns-in-Some-clause-answer
 returns-in-Some-clause-answer c =
-    let live = maps.get c.args.live.now.live in
-    let clause = c.args.clause.now in
-    let hints = c.args.hints.now in
-    let groups = groups_of hints in
-    let pivot = c.in-Some.pivot.now in
-    let trues = c.walk_units.new.trues.lits in
+    let live = maps.get c.args.live.now.live in let clause = c.args.clause.now in
+    let hints = c.args.hints.now in let groups = groups_of hints in
+    let pivot = c.in-Some.pivot.now in let trues = c.walk_units.new.trues.lits in
     let end = chain live (complements clause) (units_of hints) in
     let split = first_is clause pivot c.in-Some.ensures.value in
     let is_end = subst (λ w. IsEnd trues w end) c.in-Open.is c.walk_units.ensures.end in

@@ -5,8 +5,7 @@ use Rattle.steps.proofs.lrat.candidates.first_unnamed.Goals as goal
 
 pub loop-id-preserved : goal.loop-id-preserved
 loop-id-preserved c =
-    let live = maps.get c.args.live.now.live in
-    let inv = c.loop-id.invariant in
+    let live = maps.get c.args.live.now.live in let inv = c.loop-id.invariant in
     record {
       passed = passed_more live c.args.trues.now.lits c.args.pivot c.args.named.now c.args.ids.now c.loop-id.id-index c.loop-id-test.true inv.passed
           (asked live c.args.trues.now.lits c.args.pivot c.args.named.now _ inv.lits _ _ false c.is_left_out.ensures.unnamed c.if-is_left_out.false);
@@ -16,8 +15,7 @@ loop-id-preserved c =
 
 pub returns-then-is_left_out-clause-first : goal.returns-then-is_left_out-clause-first
 returns-then-is_left_out-clause-first c =
-    let live = maps.get c.args.live.now.live in
-    let inv = c.loop-id.invariant in
+    let live = maps.get c.args.live.now.live in let inv = c.loop-id.invariant in
     first_found live c.args.trues.now.lits c.args.pivot c.args.named.now c.args.ids.now c.loop-id.id-index c.loop-id-test.true inv.passed c.requires.ascending c.requires.all
     (asked live c.args.trues.now.lits c.args.pivot c.args.named.now _ inv.lits _ _ true c.is_left_out.ensures.unnamed c.if-is_left_out.true)
 

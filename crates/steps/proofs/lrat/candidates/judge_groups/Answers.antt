@@ -1,26 +1,22 @@
 use Rattle.std.proofs.Common.{◌≡◌, ℕ, ◌+◌, ◌<◌, ◌||◌, eqb, true, drop, length, refl, sym, ap, ◌∙◌}
-use Rattle.std.proofs.Common.{subst, arith, rules}
-use Rattle.std.specs.FinMap as maps
-use Rattle.std.proofs.lemmas.List.{take_rest}
+use Rattle.std.proofs.{Common.subst, Common.arith, Common.rules, lemmas.List.take_rest}
 use Rattle.cnf_base.specs.Literals.{has}
 use Rattle.theory.specs.Lrat.{group_refusal, groups_refusal, groups_of, units_of}
 use Rattle.steps.proofs.LratLemmas.Groups.{groups_pass_over, groups_stop, groups_go_on, named_kept}
 use Rattle.steps.proofs.LratLemmas.Groups.{named_grows, when_none, held_grow}
-use Rattle.steps.proofs.lrat.candidates.judge_groups.Goals as goal
 use Rattle.steps.proofs.lrat.candidates.judge_groups.Goals.{then-hint-lt0+in_ok-refusal+else-is_some}
 use Rattle.steps.proofs.lrat.candidates.judge_groups.Goals.{else-hint-lt0}
+use Rattle.std.specs.FinMap as maps
+use Rattle.steps.proofs.lrat.candidates.judge_groups.Goals as goal
 
 pub loop-i-preserved : goal.loop-i-preserved
 loop-i-preserved c =
-    let live = maps.get c.args.live.now.live in
-    let hints = c.args.hints.now in
-    let i = c.loop-i.i in
-    let inside : i < length hints = omega arith in
+    let live = maps.get c.args.live.now.live in let hints = c.args.hints.now in
+    let i = c.loop-i.i in let inside : i < length hints = omega arith in
     let named = c.loop-i.named in
     elim c.if-hint-lt0.branch [
       | then-hint-lt0+in_ok-refusal+else-is_some w ↦
-          let k = w.unsigned_abs.result in
-          let after = c.if-hint-lt0.named in
+          let k = w.unsigned_abs.result in let after = c.if-hint-lt0.named in
           let refusal = w.in_ok-refusal.refusal in
           let none = sym w.is_some.ensures ∙ w.if-is_some.false in
           let more : (j : ℕ) → has after j ≡ has named j || eqb k j = λ j. ap (λ n. has n j) w.named-is ∙ when_none refusal _ none w.in_ok-refusal.ensures.named j in
@@ -46,12 +42,8 @@ loop-i-preserved c =
 
 pub returns-then-is_some-clause-refusal : goal.returns-then-is_some-clause-refusal
 returns-then-is_some-clause-refusal c =
-    let live = maps.get c.args.live.now.live in
-    let hints = c.args.hints.now in
-    let i = c.loop-i.i in
-    let named = c.loop-i.named in
-    let k = c.unsigned_abs.result in
-    let refusal = c.in_ok-refusal.refusal in
-    let inside : i < length hints = omega arith in
+    let live = maps.get c.args.live.now.live in let hints = c.args.hints.now in
+    let i = c.loop-i.i in let named = c.loop-i.named in let k = c.unsigned_abs.result in
+    let refusal = c.in_ok-refusal.refusal in let inside : i < length hints = omega arith in
     let is = c.in_ok-refusal.ensures.refusal ∙ ap (λ r. group_refusal live c.loop-i.trues.lits c.args.pivot named (record { candidate = k; hints = units_of r }) (live k)) (take_rest hints (i + 1)) ∙ ap (λ ls. group_refusal live ls c.args.pivot named (record { candidate = k; hints = units_of (drop (i + 1) hints) }) (live k)) c.loop-i.invariant.lits in
     groups_stop live c.args.trues.now.lits c.args.pivot hints i inside (search rules) named _ c.loop-i.invariant.refusal k c.if-hint-lt0.true c.unsigned_abs.ensures.value (drop (i + 1) hints) refl refusal is (sym c.is_some.ensures ∙ c.if-is_some.true)

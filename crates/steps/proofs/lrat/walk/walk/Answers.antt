@@ -1,12 +1,11 @@
 use Rattle.std.proofs.Common.{sym, ap, ◌∙◌, arith, rules, ◌/◌, nat_abs}
 use Rattle.std.specs.Option.{option_copied}
-use Rattle.std.specs.FinMap as maps
-use Rattle.steps.proofs.LratLemmas.Hints.{units_more, read_is}
+use Rattle.steps.proofs.LratLemmas.{Hints.units_more, Hints.read_is, Walks.same_set_push}
 use Rattle.steps.proofs.LratLemmas.Walks.{walk_one, walk_nothing, walk_more, walk_unknown}
-use Rattle.steps.proofs.LratLemmas.Walks.{same_set_push}
 use Rattle.propagation.proofs.PropagationLemmas.Exact.{begins_on}
 use Rattle.trail.proofs.TrailLemmas.Left.{left_open}
 use Rattle.trail.proofs.TrailLemmas.MakesFalse.{made_true, begins_made, longer_made}
+use Rattle.std.specs.FinMap as maps
 use Rattle.steps.proofs.lrat.walk.walk.Goals as goal
 
 pub make_true-requires-clause-not_false : goal.make_true-requires-clause-not_false
@@ -19,12 +18,9 @@ make_true-requires-clause-reserved c =
 
 pub loop-i-preserved : goal.loop-i-preserved
 loop-i-preserved c =
-    let trues = c.loop-i.trues.lits in
-    let live = maps.get c.args.live.now.live in
-    let m = c.in-One.l in
-    let after = c.make_true.new.self.lits in
-    let is_open = c.make_true.result in
-    let was = c.make_true.ensures.was_open in
+    let trues = c.loop-i.trues.lits in let live = maps.get c.args.live.now.live in
+    let m = c.in-One.l in let after = c.make_true.new.self.lits in
+    let is_open = c.make_true.result in let was = c.make_true.ensures.was_open in
     let is = c.make_true.ensures.lits in
     let left_is = units_more c.args.hints.now c.loop-i.i (omega arith) (search rules) c.unsigned_abs-k.result c.if-hint-lt0.false c.unsigned_abs-k.ensures.value in
     record {

@@ -6,8 +6,7 @@ use Rattle.steps.proofs.named.NamedJudge.step.Goals as goal
 
 pub returns-clause-keeps_models : goal.returns-clause-keeps_models
 returns-clause-keeps_models g c =
-    let old = c.args.self.now in
-    let new = c.step_numbered-answer.new in
+    let old = c.args.self.now in let new = c.step_numbered-answer.new in
     let before = λ (n : ℕ). state_of (under_names old.numbering n (g.J.Judge.held old.judge)) in
     let after = λ (n : ℕ). state_of (under_names new.numbering n (g.J.Judge.held new.judge)) in
     let answer = c.step_numbered-answer.result in
@@ -17,8 +16,7 @@ returns-clause-keeps_models g c =
 
 pub returns-clause-lost : goal.returns-clause-lost
 returns-clause-lost g c =
-    let old = c.args.self.now in
-    let new = c.step_numbered-answer.new in
+    let old = c.args.self.now in let new = c.step_numbered-answer.new in
     subst (λ n. IfOk c.step_numbered-answer.result (λ word. IsTrue (g.J.Judge.held new.judge).has_lost_literal ↔ (IsTrue (g.J.Judge.held old.judge).has_lost_literal
     ⊎ StepLoses (state_of (under_names old.numbering n (g.J.Judge.held old.judge))) (with_lits c.args.lits.now c.args.step.now) word))) (sym (ap length c.requires.0.none_beside))
     c.step_numbered-answer.ensures.lost
