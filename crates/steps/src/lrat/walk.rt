@@ -50,8 +50,8 @@ fn named_at<'a>(live: &'a LiveClauses, hints: &[i64], place: usize) -> Option<&'
 /// Walks over the hints before the first negative one, from literals without a conflict, and makes
 /// true what each of their clauses gives. It takes no memory: the room was made before.
 ///
-/// Clauses lie far apart in memory, so each is looked up before the walk over the one before it,
-/// which goes on meanwhile.
+/// Clauses lie far apart in memory, so each is looked up before the looks at the two before it,
+/// which go on meanwhile.
 pub(crate) fn walk(live: &LiveClauses, trues: &mut Trail, hints: &[i64]) -> WalkEnd
     requires quiet { IsFalse (conflicts trues.old.lits) }
     requires room { HasRoomForAll trues.old.reserved (maps.get live.now.live) }
@@ -63,6 +63,7 @@ pub(crate) fn walk(live: &LiveClauses, trues: &mut Trail, hints: &[i64]) -> Walk
     ensures reserved { SameSet trues.new.reserved trues.old.reserved }
 {
     let mut next = named_at(live, hints, 0);
+    let mut after = named_at(live, hints, 1);
     for (i, hint) in hints.iter().enumerate() {
         if *hint < 0 {
             return WalkEnd::Open;
@@ -71,7 +72,8 @@ pub(crate) fn walk(live: &LiveClauses, trues: &mut Trail, hints: &[i64]) -> Walk
         let Some(clause) = next else {
             return WalkEnd::UnknownId(k);
         };
-        next = named_at(live, hints, i + 1);
+        next = after;
+        after = named_at(live, hints, i + 2);
         match trues.unit_left(clause) {
             Left::Nothing => return WalkEnd::Conflict,
             Left::One(l) => {

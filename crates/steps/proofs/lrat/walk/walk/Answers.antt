@@ -1,4 +1,5 @@
-use Rattle.std.proofs.Common.{sym, ap, ◌∙◌, arith, rules, ◌/◌, nat_abs}
+use Rattle.std.proofs.Common.{◌≡◌, ◌<◌, length, slice_index_or, pos, subst, sym, ap, ◌∙◌, arith}
+use Rattle.std.proofs.Common.{rules, ◌/◌, nat_abs, cond, refl}
 use Rattle.std.specs.Option.{option_copied}
 use Rattle.steps.proofs.LratLemmas.{Hints.units_more, Hints.read_is, Walks.same_set_push}
 use Rattle.steps.proofs.LratLemmas.Walks.{walk_one, walk_nothing, walk_more, walk_unknown}
@@ -6,6 +7,10 @@ use Rattle.propagation.proofs.PropagationLemmas.Exact.{begins_on}
 use Rattle.trail.proofs.TrailLemmas.Left.{left_open}
 use Rattle.trail.proofs.TrailLemmas.MakesFalse.{made_true, begins_made, longer_made}
 use Rattle.std.specs.FinMap as maps
+use Rattle.std.proofs.lemmas.List.{drop_all}
+use Rattle.theory.specs.Lrat.{chain, conflict, open_with, units_of}
+use Rattle.steps.specs.Code.Walk.{IsEnd}
+use Rattle.steps.specs.declared.lrat.walk.WalkEnd.TheVariants.{Open}
 use Rattle.steps.proofs.lrat.walk.walk.Goals as goal
 
 pub make_true-requires-clause-not_false : goal.make_true-requires-clause-not_false
@@ -30,7 +35,10 @@ loop-i-preserved c =
       quiet = c.make_true.ensures.quiet;
       begins = begins_on c.args.trues.now.lits trues after c.loop-i.invariant.begins c.loop-i.invariant.longer (begins_made trues after m is_open was is);
       longer = omega (arith, longer_made trues after m is_open was is, c.loop-i.invariant.longer);
-      next = c.named_at-next-in-loop-i.ensures;
+      next = c.loop-i.invariant.after;
+      after = subst (λ n. n < length c.args.hints.now → option_copied c.named_at-after-in-loop-i.result
+          ≡ live (nat_abs (slice_index_or c.args.hints.now n (pos 0)))) (omega arith)
+          c.named_at-after-in-loop-i.ensures;
       reserved = λ v. c.make_true.ensures.reserved v ∙ c.loop-i.invariant.reserved v;
     }
 
@@ -51,3 +59,10 @@ returns-in-More-clause-end c =
     let left_is = units_more c.args.hints.now c.loop-i.i (omega arith) (search rules) c.unsigned_abs-k.result c.if-hint-lt0.false c.unsigned_abs-k.ensures.value in
     walk_more (maps.get c.args.live.now.live) c.loop-i.trues.lits _ _ c.unsigned_abs-k.result left_is _ c.loop-i.invariant.so_far c.loop-i.invariant.quiet c.in-Some.clause.now
     (let hints = c.args.hints.now in let i = c.loop-i.i in ap (λ k. maps.get c.args.live.now.live k) (c.unsigned_abs-k.ensures.value ∙ ap nat_abs (read_is hints i (omega arith) (search rules))) ∙ sym (c.loop-i.invariant.next c.loop-i-test.true) ∙ ap option_copied c.in-Some.is) c.loop-i.trues.lits c.in-More.ensures
+
+pub returns-clause-end : goal.returns-clause-end
+returns-clause-end c =
+    let trues = c.loop-i.trues.lits in let live = maps.get c.args.live.now.live in
+    c.loop-i.invariant.so_far trues Open
+    (subst (λ hints. IsEnd trues Open (chain live trues (units_of hints))) (sym (drop_all c.loop-i.i c.args.hints.now (omega arith)))
+    (subst (λ b. IsEnd trues Open (cond b conflict (open_with trues))) (sym c.loop-i.invariant.quiet) (λ l. refl)))

@@ -1,4 +1,4 @@
-use Rattle.std.proofs.Common.{◌≡◌, ◌≤◌, ◌<◌, false, length, take, drop, nat_abs, pos}
+use Rattle.std.proofs.Common.{◌≡◌, ◌≤◌, ◌<◌, ◌+◌, false, length, take, drop, nat_abs, pos}
 use Rattle.std.proofs.Common.{slice_index_or}
 use Rattle.std.specs.Option.{option_copied}
 use Rattle.std.specs.FinMap as maps
@@ -15,5 +15,7 @@ invariant-loop-i l = record {
   longer : length l.fn.trues.lits ≤ length l.trues.lits;
   next : l.i < length l.hints → option_copied l.next
       ≡ maps.get l.live.live (nat_abs (slice_index_or l.hints l.i (pos 0)));
+  after : l.i + 1 < length l.hints → option_copied l.after
+      ≡ maps.get l.live.live (nat_abs (slice_index_or l.hints (l.i + 1) (pos 0)));
   reserved : SameSet l.trues.reserved l.fn.trues.reserved;
 }
