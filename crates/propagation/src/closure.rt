@@ -175,6 +175,21 @@ impl Closure {
         ensures closure { IsClosure (maps.get store.old.live) self.new }
         ensures same { store.new ≡ store.old }
     {
+        if self.found.is_none() {
+            return Ok(());
+        }
+        self.enter_kept(store, slot)
+    }
+
+    /// The same, where something may be kept. Inlined, it would copy all that is kept.
+    #[cold]
+    #[inline(never)]
+    fn enter_kept<M: Memory>(&mut self, store: &mut Store<M>, slot: Slot) -> Result<(), OutOfMemory>
+        requires alive { IsSome (maps.get store.old.live slot) }
+        requires closure { IsClosure (maps.get (maps.remove store.old.live slot)) self.old }
+        ensures closure { IsClosure (maps.get store.old.live) self.new }
+        ensures same { store.new ≡ store.old }
+    {
         let Some(mut found) = self.found.take() else {
             return Ok(());
         };
