@@ -15,7 +15,7 @@ use Rattle.root_literals.specs.History.{IsHistory, sure_of, visits}
 use Rattle.root_literals.specs.Order.{each_in_order}
 use Rattle.root_literals.specs.Uses.{AreCounted}
 use Rattle.root_literals.specs.Watched.{HasUnit, IsWatched}
-use Rattle.root_literals.specs.declared.roots.Kept.TheVariants.{Cut, Behind, All, Clash}
+use Rattle.root_literals.specs.declared.roots.Kept.TheVariants.{WithoutUnits, WithUnits, All, Clash}
 use Rattle.root_literals.specs.declared.roots.Kept.{Kept}
 use Rattle.root_literals.specs.declared.roots.Roots.{Roots}
 
@@ -69,37 +69,37 @@ HaveUnits live trues = (s : ℕ) (c : Clause) → live s ≡ Some c → HasUnit 
 
 -- what is said of the literals that are kept is so
 abbrev pub IsKnown : FinMap nat_cmp Clause → Kept → List Literal → Type 0
-IsKnown live Cut roots = ⊤
-IsKnown live Behind roots = HaveUnits (maps.get live) roots
+IsKnown live WithoutUnits roots = ⊤
+IsKnown live WithUnits roots = HaveUnits (maps.get live) roots
 IsKnown live All roots = IsWatched (maps.get live) roots roots × HaveUnits (maps.get live) roots
 IsKnown live (Clash slot) roots = IsFalseAt (maps.get (each_in_order live)) slot roots
 
 -- whether all that follows with nothing assumed is kept, or a clash
 abbrev pub is_up_to_date : Kept → Bool
-is_up_to_date Cut = false
-is_up_to_date Behind = false
+is_up_to_date WithoutUnits = false
+is_up_to_date WithUnits = false
 is_up_to_date All = true
 is_up_to_date (Clash slot) = true
 
 -- whether a clash is kept
 abbrev pub has_clash : Kept → Bool
-has_clash Cut = false
-has_clash Behind = false
+has_clash WithoutUnits = false
+has_clash WithUnits = false
 has_clash All = false
 has_clash (Clash slot) = true
 
 -- whether literals of unit clauses may be missing
-abbrev pub is_cut : Kept → Bool
-is_cut Cut = true
-is_cut Behind = false
-is_cut All = false
-is_cut (Clash slot) = false
+abbrev pub lacks_units : Kept → Bool
+lacks_units WithoutUnits = true
+lacks_units WithUnits = false
+lacks_units All = false
+lacks_units (Clash slot) = false
 
 -- the clauses that those literals are propagated to which were visited: after a cut none that are
 -- doubtful
 abbrev pub seen_of : Roots → Live → Live
 seen_of roots live =
-    sure_of (if is_cut roots.kept then roots.history.doubts.items else []) live
+    sure_of (if lacks_units roots.kept then roots.history.doubts.items else []) live
 
 -- the kept literals follow from their reasons, which are counted, what is said of them is so, and
 -- those that were visited are propagated, unless a clash was found

@@ -21,12 +21,13 @@ ghost use Rattle.tables.specs.Filled.{at};
 ghost use Rattle.trail.specs.Trail.{HasRoom};
 ghost use Rattle.theory.specs.Sets.{SameSet};
 ghost use Rattle.root_literals.specs.History.{IsRewound};
-ghost use Rattle.root_literals.specs.Roots.{HasReasons, IsArranged, IsKept, has_clash, is_cut};
+ghost use Rattle.root_literals.specs.Roots.{HasReasons, IsArranged, IsKept, has_clash, lacks_units};
 ghost use Rattle.root_literals.specs.Roots.{is_up_to_date};
 ghost use Rattle.root_literals.specs.Uses.{AreCounted, times};
 ghost use Rattle.watch_lists.specs.Watched.{AreUnchanged};
 ghost use Rattle.trail.specs.declared.left.Left.TheVariants.{More};
-ghost use Rattle.root_literals.specs.declared.roots.Kept.TheVariants.{Behind, Clash, Cut};
+ghost use Rattle.root_literals.specs.declared.roots.Kept.TheVariants.{Clash, WithUnits};
+ghost use Rattle.root_literals.specs.declared.roots.Kept.TheVariants.{WithoutUnits};
 
 use crate::history::History;
 use crate::lone::{is_needed, lone_literal, only_literal};
@@ -44,10 +45,11 @@ use watch_lists::WatchLists;
 /// What is known of the literals that are true with nothing assumed.
 #[derive(Clone, Copy)]
 pub enum Kept {
-    /// Some are kept, and those that were visited are propagated.
-    Cut,
-    /// The same, and those of unit clauses are all among them.
-    Behind,
+    /// Some are kept, and those that were visited are propagated. Literals of unit clauses may be
+    /// missing.
+    WithoutUnits,
+    /// The same, and none of these is missing.
+    WithUnits,
     /// All are kept.
     All,
     /// All literals of the clause in this slot are false.
@@ -57,11 +59,11 @@ pub enum Kept {
 impl Kept {
     /// With one more literal that is kept, where no clash is.
     fn with_more(self) -> Self
-        ensures { result ≡ (if is_cut self then Cut else Behind) }
+        ensures { result ≡ (if lacks_units self then WithoutUnits else WithUnits) }
     {
         match self {
-            Kept::Cut => Kept::Cut,
-            _ => Kept::Behind,
+            Kept::WithoutUnits => Kept::WithoutUnits,
+            _ => Kept::WithUnits,
         }
     }
 }
@@ -144,12 +146,12 @@ fn watches_false(clause: &[Lit], left: &Left) -> bool
 impl Roots {
     /// Nothing is known.
     pub fn new(alloc: Global) -> Self
-        ensures kept { result.kept ≡ Cut }
+        ensures kept { result.kept ≡ WithoutUnits }
         ensures visited { result.history.visited.items ≡ [] }
         ensures counted { result.uses.counted ≡ 0 }
     {
         Roots {
-            kept: Kept::Cut,
+            kept: Kept::WithoutUnits,
             history: History::new(alloc),
             reasons: Filled::new(alloc),
             uses: Uses::new(alloc),
@@ -274,7 +276,7 @@ impl Roots {
     pub fn cut(&mut self, store: &Store, assumptions: &mut Assumptions, place: usize)
         requires nothing_assumed { assumptions.old.assumptions ≡ [] }
         requires inside { place ≤ length assumptions.old.trail.lits }
-        ensures kept { self.new.kept ≡ Cut }
+        ensures kept { self.new.kept ≡ WithoutUnits }
         ensures history { IsRewound self.old.history self.new.history
             (length assumptions.new.trail.lits) }
         ensures reasons { self.new.reasons ≡ self.old.reasons }
@@ -296,7 +298,7 @@ impl Roots {
         assumptions.cut(left);
         self.places.cut(left);
         self.with_room = self.with_room.min(left);
-        self.kept = Kept::Cut;
+        self.kept = Kept::WithoutUnits;
     }
 
     /// Gives the literal of a unit clause another clause of it alone as its reason, where the

@@ -9,9 +9,9 @@ ghost use Rattle.tables.specs.Filled.{at};
 ghost use Rattle.watch_lists.specs.Watched.{IsShortList};
 ghost use Rattle.root_literals.specs.Order.{each_in_order};
 ghost use Rattle.root_literals.specs.History.{HasGrown, visits};
-ghost use Rattle.root_literals.specs.Roots.{IsFalseAt, IsKept, is_cut};
+ghost use Rattle.root_literals.specs.Roots.{IsFalseAt, IsKept, lacks_units};
 ghost use Rattle.root_literals.specs.Watched.{IsWatched};
-ghost use Rattle.root_literals.specs.declared.roots.Kept.TheVariants.{Cut};
+ghost use Rattle.root_literals.specs.declared.roots.Kept.TheVariants.{WithoutUnits};
 
 use crate::doubts::{Looked, look_at};
 use crate::roots::{Kept, Roots};
@@ -28,9 +28,9 @@ fn settle(store: &Store, assumptions: &mut Assumptions, roots: &mut Roots) -> Op
     requires room { HasRoomForAll assumptions.old.trail.reserved
         (maps.get (each_in_order store.now.live)) }
     requires kept { IsKept store.now.live roots.old assumptions.old.trail.lits }
-    requires cut { roots.old.kept ≡ Cut }
+    requires cut { roots.old.kept ≡ WithoutUnits }
     ensures kept { IsKept store.now.live roots.new assumptions.new.trail.lits }
-    ensures cut { roots.new.kept ≡ Cut }
+    ensures cut { roots.new.kept ≡ WithoutUnits }
     ensures clash { IfSome result (λ s.
         IsFalseAt (maps.get (each_in_order store.now.live)) s assumptions.new.trail.lits) }
     ensures sure { IfNone result (IsWatched (maps.get store.now.live)
@@ -64,7 +64,7 @@ pub fn start(store: &Store, short: &SlotList, assumptions: &mut Assumptions, roo
         (maps.get (each_in_order store.now.live)) }
     requires kept { IsKept store.now.live roots.old assumptions.old.trail.lits }
     ensures kept { IsKept store.now.live roots.new assumptions.new.trail.lits }
-    ensures known { is_cut roots.new.kept ≡ false }
+    ensures known { lacks_units roots.new.kept ≡ false }
     ensures begun { (visits roots.new.history ≡ 0) ⊎ HasGrown roots.old.history roots.new.history
         assumptions.old.trail.lits assumptions.new.trail.lits }
     ensures noted { (l : Literal) → IsSome (at roots.old.reasons l) →
@@ -73,14 +73,14 @@ pub fn start(store: &Store, short: &SlotList, assumptions: &mut Assumptions, roo
     ensures assumptions { assumptions.new.assumptions ≡ assumptions.old.assumptions }
     ensures starts { assumptions.new.starts ≡ assumptions.old.starts }
 {
-    if let Kept::Cut = roots.kept {
+    if let Kept::WithoutUnits = roots.kept {
         if let Some(slot) = settle(store, assumptions, roots) {
             roots.kept = Kept::Clash(slot);
             return;
         }
         match set_units(store, short.slots(), assumptions, &mut roots.reasons) {
             Some(slot) => roots.kept = Kept::Clash(slot),
-            None => roots.kept = Kept::Behind,
+            None => roots.kept = Kept::WithUnits,
         }
     }
 }

@@ -13,10 +13,10 @@ use cnf_base::OutOfMemory;
 use propagation::{Assumptions, Closure};
 use root_literals::Roots;
 
-/// Whether the clause in the slot makes a literal of it hold for good: by the literals that are
+/// Whether the clause in the slot is the reason of a root-level literal: by the literals that are
 /// kept, which are all that follows with nothing assumed, or, where a clash is known, by the whole
 /// least set.
-pub(crate) fn is_reason_for_good(
+pub(crate) fn is_reason_at_root(
     store: &mut Store,
     closure: &mut Closure,
     assumptions: &Assumptions,

@@ -5,7 +5,7 @@ ghost use Rattle.std.specs.FinMap as maps;
 ghost use Rattle.theory.specs.Sets.{SameSet};
 ghost use Rattle.root_literals.specs.Order.{each_in_order};
 ghost use Rattle.root_literals.specs.History.{sure_of, visits};
-ghost use Rattle.root_literals.specs.Roots.{IsKept, is_cut, is_up_to_date};
+ghost use Rattle.root_literals.specs.Roots.{IsKept, lacks_units, is_up_to_date};
 ghost use Rattle.root_literals.specs.Watched.{IsWatched};
 ghost use Rattle.watch.specs.Code.State.{IsWatch};
 ghost use Rattle.watch.specs.Code.Visits.{CanFollow, Followed};
@@ -38,14 +38,14 @@ fn catch_up(
         (take p assumptions.old.trail.lits) }
     requires can { CanFollow store.old.live lists.old assumptions.old (at roots.old.reasons) }
     requires kept { IsKept store.old.live roots.old assumptions.old.trail.lits }
-    requires known { is_cut roots.old.kept ≡ false }
+    requires known { lacks_units roots.old.kept ≡ false }
     ensures kept { OnOk result (IsKept store.new.live roots.new assumptions.new.trail.lits) }
     ensures up_to_date { OnOk result (is_up_to_date roots.new.kept ≡ true) }
     ensures followed { Followed store.old.live store.new.live lists.old lists.new assumptions.old
         assumptions.new (at roots.old.reasons) (at roots.new.reasons) }
     ensures slots { store.new.slots ≡ store.old.slots }
 {
-    let Kept::Behind = roots.kept else {
+    let Kept::WithUnits = roots.kept else {
         return Ok(());
     };
     let mut done = roots.history.len();

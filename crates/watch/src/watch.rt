@@ -23,7 +23,7 @@ use crate::arrange::arrange;
 use crate::clause_source::{assume_from, reserve_given};
 use crate::clauses::{insert_clause, remove_clause};
 use crate::gather::gathered;
-use crate::reason::is_reason_for_good;
+use crate::reason::is_reason_at_root;
 use crate::refresh::refresh;
 use crate::room::reserve_room;
 use crate::run::run;
@@ -484,7 +484,7 @@ impl Propagate for Watch {
 
     fn is_root_reason(&mut self, slot: Slot) -> Result<bool, OutOfMemory> {
         self.prepare()?;
-        let found = is_reason_for_good(
+        let found = is_reason_at_root(
             &mut self.store,
             &mut self.closure,
             &self.assumptions,

@@ -10,10 +10,10 @@ use Rattle.cnf_base.proofs.SetLemmas.{has_append_left, has_append_right, has_hea
 use Rattle.tables.specs.Filled.{at}
 use Rattle.root_literals.specs.History.{IsHistory, IsNoted, sure_of, visits}
 use Rattle.root_literals.specs.Roots.{AreNoted, AreReasoned, HasReasons, HaveUnits, IsArranged}
-use Rattle.root_literals.specs.Roots.{IsKept, IsKnown, has_clash, is_cut}
+use Rattle.root_literals.specs.Roots.{IsKept, IsKnown, has_clash, lacks_units}
 use Rattle.root_literals.specs.{Uses.AreCounted, Uses.clause_in, Uses.is_in, Order.each_in_order}
 use Rattle.root_literals.specs.Watched.{IsPart, IsMet, HasUnit, IsWatched}
-use Rattle.root_literals.specs.declared.roots.Kept.TheVariants.{Cut, Behind, Clash}
+use Rattle.root_literals.specs.declared.roots.Kept.TheVariants.{WithoutUnits, WithUnits, Clash}
 use Rattle.root_literals.specs.declared.roots.{Roots.Roots, Kept.Kept}
 use Rattle.root_literals.proofs.RootLemmas.Watched.{front_part, watched_grown, watched_most}
 use Rattle.root_literals.proofs.RootLemmas.History.{history_none, history_noted, history_one_more}
@@ -100,8 +100,8 @@ module _ {after : FinMap nat_cmp Clause} {slot : ℕ} {c : Clause} {roots : Root
   seen true done trues met was = sure done trues (λ _. met) was
   seen false done trues met was = watched done trues was met
 
-  so_far : has_clash roots.kept ≡ false → IsWatched (sure_of (cond (is_cut roots.kept) roots.history.doubts.items []) (maps.get (maps.remove after slot))) (take (visits later) lits) lits
-  so_far quiet = subst (λ v. IsWatched (sure_of (cond (is_cut roots.kept) roots.history.doubts.items []) (maps.get (maps.remove after slot))) (take (length v.items) lits) lits) (sym given.visited_is) (given.kept.visited quiet)
+  so_far : has_clash roots.kept ≡ false → IsWatched (sure_of (cond (lacks_units roots.kept) roots.history.doubts.items []) (maps.get (maps.remove after slot))) (take (visits later) lits) lits
+  so_far quiet = subst (λ v. IsWatched (sure_of (cond (lacks_units roots.kept) roots.history.doubts.items []) (maps.get (maps.remove after slot))) (take (length v.items) lits) lits) (sym given.visited_is) (given.kept.visited quiet)
 
   -- it is the history that is kept
   history_now : (now : Roots) → now.history ≡ later → IsHistory (sure_of now.history.doubts.items (maps.get after)) now.history lits
@@ -122,7 +122,7 @@ module _ {after : FinMap nat_cmp Clause} {slot : ℕ} {c : Clause} {roots : Root
 
   -- nothing new follows from it
   settled : ((done : List Literal) → IsPart done lits → (l : Literal) → has done (complement l) ≡ true → IsMet c l lits) → HasUnit c lits → (k : Kept) → IsKnown (maps.remove after slot) k lits → IsKnown after k lits
-  settled met unit Cut known = known
+  settled met unit WithoutUnits known = known
   settled h h2 k h3 = search (rules, arith, units, watched, idle)
 
   entered_settled : ((done : List Literal) → IsPart done lits → (l : Literal) → has done (complement l) ≡ true → IsMet c l lits) → HasUnit c lits → (now : Roots) → now.kept ≡ roots.kept → now.history ≡ later →
@@ -183,19 +183,19 @@ module _ {after : FinMap nat_cmp Clause} {slot : ℕ} {c : Clause} {roots : Root
             grind (arith, only_one, set_here)
 
     -- the literal becomes true
-    pub entered_set : has_clash roots.kept ≡ false → has lits m ≡ false → (now : Roots) (more : List Literal) → now.kept ≡ cond (is_cut roots.kept) Cut Behind → now.history ≡ later → more ≡ lits ++ m ∷ [] →
+    pub entered_set : has_clash roots.kept ≡ false → has lits m ≡ false → (now : Roots) (more : List Literal) → now.kept ≡ cond (lacks_units roots.kept) WithoutUnits WithUnits → now.history ≡ later → more ≡ lits ++ m ∷ [] →
         ((k : Literal) → at now.reasons k ≡ cond (eqb k m) (Some slot) (at roots.reasons k)) → now.uses ≡ roots.uses → IsKept after now more
     entered_set quiet is_open now more kept_is history_is is set uses_are = record {
       noted = set_noted now set;
       reasoned = subst (AreReasoned (maps.get (each_in_order after)) (at now.reasons)) (sym is)
           (reasoned_more (maps.get (each_in_order after)) (at roots.reasons) lits reasoned (at now.reasons) m slot (in_order c) (seen_there after slot c given.here) (has-in_order c m ∙ first.0) (set_here now set)
           (λ k h ne. first.3 k (sym (has-in_order c k) ∙ h) ne) (λ l h. set_other now set l (λ e. true≢false (sym h ∙ ap (has lits) e ∙ is_open))));
-      known = subst (λ k. IsKnown after k more) (sym kept_is) (subst (IsKnown after (cond (is_cut roots.kept) Cut Behind)) (sym is) (grown_known roots.kept quiet given.kept.known));
+      known = subst (λ k. IsKnown after k more) (sym kept_is) (subst (IsKnown after (cond (lacks_units roots.kept) WithoutUnits WithUnits)) (sym is) (grown_known roots.kept quiet given.kept.known));
       history = subst (λ h. IsHistory (sure_of h.doubts.items (maps.get after)) h more) (sym history_is) (subst (IsHistory (sure_of later.doubts.items (maps.get after)) later) (sym is) grown_history);
       visited = λ _.
-          subst (λ h. IsWatched (sure_of (cond (is_cut now.kept) h.doubts.items []) (maps.get after)) (take (visits h) more) more) (sym history_is)
-          (subst (λ b. IsWatched (sure_of (cond b later.doubts.items []) (maps.get after)) (take (visits later) more) more) (sym (ap is_cut kept_is ∙ still_cut (is_cut roots.kept)))
-          (subst (λ ls. IsWatched (sure_of (cond (is_cut roots.kept) later.doubts.items []) (maps.get after)) (take (visits later) ls) ls) (sym is) grown_watched));
+          subst (λ h. IsWatched (sure_of (cond (lacks_units now.kept) h.doubts.items []) (maps.get after)) (take (visits h) more) more) (sym history_is)
+          (subst (λ b. IsWatched (sure_of (cond b later.doubts.items []) (maps.get after)) (take (visits later) more) more) (sym (ap lacks_units kept_is ∙ still_cut (lacks_units roots.kept)))
+          (subst (λ ls. IsWatched (sure_of (cond (lacks_units roots.kept) later.doubts.items []) (maps.get after)) (take (visits later) ls) ls) (sym is) grown_watched));
       counted = subst (AreCounted (maps.get after) (at now.reasons) more) (sym uses_are)
           (subst (λ ls. AreCounted (maps.get after) (at now.reasons) ls roots.uses) (sym is)
           (counted_longer (maps.get after) (at now.reasons) lits (lits ++ m ∷ []) roots.uses begins (omega (arith, longer))
@@ -214,10 +214,10 @@ module _ {after : FinMap nat_cmp Clause} {slot : ℕ} {c : Clause} {roots : Root
         front : take (visits later) (lits ++ m ∷ []) ≡ take (visits later) lits
         front = take-append-le (visits later) lits (m ∷ []) history.inside
 
-        still_cut : (b : Bool) → is_cut (cond b Cut Behind) ≡ b
+        still_cut : (b : Bool) → lacks_units (cond b WithoutUnits WithUnits) ≡ b
         still_cut b = grind arith
 
-        grown_watched : IsWatched (sure_of (cond (is_cut roots.kept) later.doubts.items []) (maps.get after)) (take (visits later) (lits ++ m ∷ [])) (lits ++ m ∷ [])
+        grown_watched : IsWatched (sure_of (cond (lacks_units roots.kept) later.doubts.items []) (maps.get after)) (take (visits later) (lits ++ m ∷ [])) (lits ++ m ∷ [])
         grown_watched =
             search (rules, arith, front, seen, met_alone, m_true, watched_grown, has_append_left, so_far)
 
@@ -226,7 +226,7 @@ module _ {after : FinMap nat_cmp Clause} {slot : ℕ} {c : Clause} {roots : Root
             units (lits ++ m ∷ []) (λ s d is. unit_more d lits (lits ++ m ∷ []) (λ l h. has_append_left lits (m ∷ []) l h) (known s d is))
             (unit_alone lits (lits ++ m ∷ []) m m_true c first)
 
-        grown_known : (k : Kept) → has_clash k ≡ false → IsKnown (maps.remove after slot) k lits → IsKnown after (cond (is_cut k) Cut Behind) (lits ++ m ∷ [])
+        grown_known : (k : Kept) → has_clash k ≡ false → IsKnown (maps.remove after slot) k lits → IsKnown after (cond (lacks_units k) WithoutUnits WithUnits) (lits ++ m ∷ [])
         grown_known k h h2 = grind (arith, grown_units, true≢false)
 
         grown_history : IsHistory (sure_of later.doubts.items (maps.get after)) later (lits ++ m ∷ [])

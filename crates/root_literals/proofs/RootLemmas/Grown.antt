@@ -10,11 +10,11 @@ use Rattle.propagation.specs.Assumptions.{AssumptionsState}
 use Rattle.propagation.proofs.PropagationLemmas.Exact.{begins_on, longer_from}
 use Rattle.theory.specs.Propagation.{Live}
 use Rattle.root_literals.specs.History.{IsHistory, sure_of, visits, HasGrown}
-use Rattle.root_literals.specs.Roots.{AreReasoned, IsKept, IsKnown, has_clash, is_cut, seen_of}
+use Rattle.root_literals.specs.Roots.{AreReasoned, IsKept, IsKnown, has_clash, lacks_units, seen_of}
 use Rattle.root_literals.specs.{Code.Doubts.AreSettled, Uses.AreCounted}
 use Rattle.root_literals.specs.Watched.{IsPart, IsMet, IsWatched}
 use Rattle.root_literals.specs.{declared.history.History.History, Code.Propagated.PropagatesTo}
-use Rattle.root_literals.specs.declared.roots.{Kept.TheVariants.Cut, Roots.Roots}
+use Rattle.root_literals.specs.declared.roots.{Kept.TheVariants.WithoutUnits, Roots.Roots}
 use Rattle.root_literals.proofs.RootLemmas.Watched.{front_part, sure_by, watched_done, watched_most}
 use Rattle.root_literals.proofs.RootLemmas.Watched.{watched_grown, watched_more, watched_all}
 use Rattle.root_literals.proofs.RootLemmas.History.{front_in_front, history_longer, watched_nothing}
@@ -67,7 +67,7 @@ kept_started live x y roots now carried kept quiet same known uses_are seen =
     kept_grown live live x y roots now carried kept known
     (subst (λ h. IsHistory (sure_of h.doubts.items (maps.get live)) h y.trail.lits) (sym same)
     (history_grown live live x y (at roots.reasons) (at now.reasons) carried roots.history.doubts.items roots.history (visits roots.history) (omega arith)
-    (watched_most (maps.get live) roots.history.doubts.items (is_cut roots.kept) (take (visits roots.history) x.trail.lits) x.trail.lits (kept.visited quiet)) kept.history)) seen uses_are
+    (watched_most (maps.get live) roots.history.doubts.items (lacks_units roots.kept) (take (visits roots.history) x.trail.lits) x.trail.lits (kept.visited quiet)) kept.history)) seen uses_are
 
 -- where each doubtful clause is met
 pub all_sure : (live : Live) (doubts : List ℕ) (done trues : List Literal) → ((s : ℕ) → has doubts s ≡ true → (c : Clause) → live s ≡ Some c → (l : Literal) → has done (complement l) ≡ true → IsMet c l trues) →
@@ -88,7 +88,7 @@ settled_all live x y roots now carried kept quiet settled =
     (grind (arith, visited_grown, watched_most))
 
 -- and is kept
-pub kept_settled : (live : FinMap nat_cmp Clause) (x y : AssumptionsState) (roots now : Roots) → PropagatesTo live live x y (at roots.reasons) (at now.reasons) → IsKept live roots x.trail.lits → roots.kept ≡ Cut → now.kept ≡ roots.kept → now.history ≡ roots.history →
+pub kept_settled : (live : FinMap nat_cmp Clause) (x y : AssumptionsState) (roots now : Roots) → PropagatesTo live live x y (at roots.reasons) (at now.reasons) → IsKept live roots x.trail.lits → roots.kept ≡ WithoutUnits → now.kept ≡ roots.kept → now.history ≡ roots.history →
     now.uses ≡ roots.uses → IsKept live now y.trail.lits
 kept_settled live x y roots now carried kept cut kept_is history_is uses_are =
     kept_started live x y roots now carried kept (ap has_clash cut) history_is (subst (λ k. IsKnown live k y.trail.lits) (sym (kept_is ∙ cut)) tt) uses_are

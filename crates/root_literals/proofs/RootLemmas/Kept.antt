@@ -8,8 +8,8 @@ use Rattle.cnf_base.specs.Literals.{Literal, complement, Clause, has}
 use Rattle.cnf_base.proofs.{MapLemmas.remove_here, MapLemmas.remove_other, SetLemmas.has_head}
 use Rattle.tables.specs.Filled.{at}
 use Rattle.root_literals.specs.History.{IsHistory, IsRewound, sure_of, visits}
-use Rattle.root_literals.specs.declared.roots.Kept.TheVariants.{Cut, Clash as KeptClash}
-use Rattle.root_literals.specs.Roots.{seen_of, AreNoted, AreReasoned, HasReasons, HaveUnits, is_cut}
+use Rattle.root_literals.specs.declared.roots.Kept.TheVariants.{WithoutUnits, Clash as KeptClash}
+use Rattle.root_literals.specs.Roots.{seen_of, AreNoted, AreReasoned, HasReasons, HaveUnits, lacks_units}
 use Rattle.root_literals.specs.Roots.{IsArranged, IsFalseAt, IsKept, IsKnown, IsReasonAt, has_clash}
 use Rattle.root_literals.specs.declared.roots.{Roots.Roots, Kept.Kept}
 use Rattle.root_literals.specs.{declared.history.History.History, Order.in_order}
@@ -135,7 +135,7 @@ module _ (live : FinMap nat_cmp Clause) (roots after : Roots) (lits : List Liter
 
 -- ---- Fewer literals
 
-pub kept_cut : (live : FinMap nat_cmp Clause) (roots after : Roots) (lits now : List Literal) (place : ℕ) → IsKept live roots lits → place ≤ length lits → after.kept ≡ Cut → IsRewound roots.history after.history place → after.reasons ≡ roots.reasons → now ≡ take place lits →
+pub kept_cut : (live : FinMap nat_cmp Clause) (roots after : Roots) (lits now : List Literal) (place : ℕ) → IsKept live roots lits → place ≤ length lits → after.kept ≡ WithoutUnits → IsRewound roots.history after.history place → after.reasons ≡ roots.reasons → now ≡ take place lits →
     AreCounted (maps.get live) (at after.reasons) now after.uses → IsKept live after now
 kept_cut live roots after lits now place kept inside cut rewound reasons is counted = record {
   noted = subst (λ t. AreNoted (maps.get (each_in_order live)) (at t)) (sym reasons) kept.noted;
@@ -148,7 +148,7 @@ kept_cut live roots after lits now place kept inside cut rewound reasons is coun
         (history_cut (sure_of roots.history.doubts.items (maps.get live)) roots.history after.history lits place kept.history rewound inside)
   ]);
   visited = λ quiet.
-      subst (λ k. IsWatched (sure_of (cond (is_cut k) after.history.doubts.items []) (maps.get live)) (take (visits after.history) now) now) (sym cut)
+      subst (λ k. IsWatched (sure_of (cond (lacks_units k) after.history.doubts.items []) (maps.get live)) (take (visits after.history) now) now) (sym cut)
       (subst (λ ls. IsWatched (sure_of after.history.doubts.items (maps.get live)) (take (visits after.history) ls) ls) (sym is) (elim (cases_eq (visits after.history) 0) [
         | inl none ↦ watched_none (sure_of after.history.doubts.items (maps.get live)) after.history (take place lits) none
         | inr some ↦
@@ -159,7 +159,7 @@ kept_cut live roots after lits now place kept inside cut rewound reasons is coun
 }
 
 -- nothing is kept any more
-pub kept_nothing : (live : FinMap nat_cmp Clause) (roots : Roots) (lits : List Literal) → AreNoted (maps.get (each_in_order live)) (at roots.reasons) → roots.kept ≡ Cut → visits roots.history ≡ 0 → lits ≡ [] → roots.uses.counted ≡ 0 → IsKept live roots lits
+pub kept_nothing : (live : FinMap nat_cmp Clause) (roots : Roots) (lits : List Literal) → AreNoted (maps.get (each_in_order live)) (at roots.reasons) → roots.kept ≡ WithoutUnits → visits roots.history ≡ 0 → lits ≡ [] → roots.uses.counted ≡ 0 → IsKept live roots lits
 kept_nothing live roots lits noted cut unseen none uncounted = search rules
 
 -- ---- One clause fewer

@@ -19,7 +19,7 @@ use Rattle.trail.proofs.TrailLemmas.Without.{IsFront, front_before, front_still,
 use Rattle.trail.proofs.TrailLemmas.Without.{none_left, still_there, was_there as was_true}
 use Rattle.trail.{specs.Trail.HasNoVariableTwice, proofs.TrailLemmas.Truth.places_apart}
 use Rattle.root_literals.specs.Roots.{AreNoted, AreReasoned, FollowsReasons, HaveUnits, IsAbsent}
-use Rattle.root_literals.specs.Roots.{IsKept, IsKnown, IsUnneeded, has_clash, is_cut}
+use Rattle.root_literals.specs.Roots.{IsKept, IsKnown, IsUnneeded, has_clash, lacks_units}
 use Rattle.root_literals.specs.declared.roots.Kept.TheVariants.{All}
 use Rattle.root_literals.specs.{History.IsHistory, History.sure_of, History.trues_at}
 use Rattle.root_literals.specs.{History.visits, Order.each_in_order, Uses.AreCounted}
@@ -257,9 +257,9 @@ module _ (live : FinMap nat_cmp Clause) (slot place : ℕ) (l : Literal) (lits :
     history =
         subst (λ ds. IsHistory (sure_of ds.items (maps.get rest)) after.history out) (sym doubts_are) (history_out roots.history after.history gone stays floor_is roots.history.doubts.items kept.history);
     visited = λ _.
-        subst (λ ds. IsWatched (sure_of (cond (is_cut after.kept) ds.items []) (maps.get rest)) (take (visits after.history) out) out) (sym doubts_are)
-        (subst (λ k. IsWatched (sure_of (cond (is_cut k) roots.history.doubts.items []) (maps.get rest)) (take (visits after.history) out) out) (sym kept_is)
-        (visited_out roots.history after.history gone stays floor_is (cond (is_cut roots.kept) roots.history.doubts.items []) (kept.visited quiet)));
+        subst (λ ds. IsWatched (sure_of (cond (lacks_units after.kept) ds.items []) (maps.get rest)) (take (visits after.history) out) out) (sym doubts_are)
+        (subst (λ k. IsWatched (sure_of (cond (lacks_units k) roots.history.doubts.items []) (maps.get rest)) (take (visits after.history) out) out) (sym kept_is)
+        (visited_out roots.history after.history gone stays floor_is (cond (lacks_units roots.kept) roots.history.doubts.items []) (kept.visited quiet)));
     counted = subst (λ t. AreCounted (maps.get rest) (at t) out after.uses) (sym reasons_are)
         (counted_out lits place l inside stands different (maps.get live) (maps.get rest) (at roots.reasons) roots.uses after.uses (ap (clause_in (maps.get live)) by_it ∙ unit) (λ k m. in_rest live slot k (at roots.reasons m)) fewer less same kept.counted);
   }

@@ -51,6 +51,6 @@ pub watched_all : (live : Live) (doubts : List ℕ) (done trues : List Literal) 
 watched_all live doubts done trues watched = search rules
 
 -- after a cut or not
-pub watched_most : (live : Live) (doubts : List ℕ) (is_cut : Bool) (done trues : List Literal) → IsWatched (sure_of (cond is_cut doubts []) live) done trues → IsWatched (sure_of doubts live) done trues
+pub watched_most : (live : Live) (doubts : List ℕ) (lacks_units : Bool) (done trues : List Literal) → IsWatched (sure_of (cond lacks_units doubts []) live) done trues → IsWatched (sure_of doubts live) done trues
 watched_most live doubts true done trues watched = watched
 watched_most live doubts false done trues watched = watched_all live doubts done trues watched

@@ -30,7 +30,7 @@ use Rattle.propagation.specs.Slots.{short_clauses}
 use Rattle.propagation.specs.declared.answer.Answer.{Answer}
 use Rattle.propagation.specs.declared.answer.Answer.TheVariants.{Quiet}
 use Rattle.watch_lists.specs.declared.lists.WatchLists.{WatchLists}
-use Rattle.root_literals.specs.declared.roots.Kept.TheVariants.{Cut}
+use Rattle.root_literals.specs.declared.roots.Kept.TheVariants.{WithoutUnits}
 use Rattle.root_literals.specs.declared.roots.Roots.{Roots}
 use Rattle.tables.specs.Filled.{at}
 use Rattle.propagation.proofs.PropagationLemmas.Exact.{begins_on, longer_from}
@@ -253,7 +253,7 @@ watch_refreshed live live2 lists lists2 short roots roots2 held held2 watch noth
 -- ---- No clauses
 
 pub watch_empty : (live : FinMap nat_cmp Clause) (lists : WatchLists) (short : List ℕ) (roots : Roots) (held : AssumptionsState) → live ≡ maps.empty → entries_in lists ≡ 0 → short ≡ [] →
-    roots.kept ≡ Cut → roots.history.visited.items ≡ [] → held.trail.lits ≡ [] → held.trail.reserved ≡ [] → held.assumptions ≡ [] → roots.uses.counted ≡ 0 →
+    roots.kept ≡ WithoutUnits → roots.history.visited.items ≡ [] → held.trail.lits ≡ [] → held.trail.reserved ≡ [] → held.assumptions ≡ [] → roots.uses.counted ≡ 0 →
     IsWatch true live lists short roots held
 watch_empty live lists short roots held none no_entries no_short cut unseen unset no_room nothing uncounted =
     let gone = λ (s : ℕ). ap (λ m. maps.get m s) none ∙ maps.get-empty nat_cmp s in

@@ -7,7 +7,7 @@ use Rattle.cnf_base.specs.Literals.{Clause, complement}
 use Rattle.tables.specs.Filled.{at}
 use Rattle.root_literals.specs.History.{IsHistory, sure_of, visits}
 use Rattle.root_literals.specs.Order.{each_in_order}
-use Rattle.root_literals.specs.Roots.{IsFalseAt, IsKnown, has_clash, is_cut}
+use Rattle.root_literals.specs.Roots.{IsFalseAt, IsKnown, has_clash, lacks_units}
 use Rattle.root_literals.specs.Watched.{IsMet, IsWatched}
 use Rattle.root_literals.proofs.RootLemmas.Grown.{begun_again, history_grown, kept_grown}
 use Rattle.root_literals.proofs.RootLemmas.Grown.{visited_more}
@@ -33,7 +33,7 @@ loop-done-init c =
           let live = maps.get c.args.store.now.live in
           let history = c.args.roots.now.history in
           subst (λ n. IsWatched live (take n lits) lits) (sym c.len-done.ensures)
-          (subst (λ k. IsWatched (sure_of (cond (is_cut k) history.doubts.items []) live) (take (visits history) lits) lits) c.in-Behind.is (kept.visited (ap has_clash c.in-Behind.is)));
+          (subst (λ k. IsWatched (sure_of (cond (lacks_units k) history.doubts.items []) live) (take (visits history) lits) lits) c.in-WithUnits.is (kept.visited (ap has_clash c.in-WithUnits.is)));
       begun = subst (λ n. (p : ℕ) → c.args.trues ≤ p → p ≤ length c.args.assumptions.now.trail.lits → IsWatched (sure_of c.args.roots.now.history.doubts.items (maps.get c.args.store.now.live)) (take n c.args.assumptions.now.trail.lits) (take p c.args.assumptions.now.trail.lits)) (sym c.len-done.ensures) c.requires.begun;
       followed = followed_none c.requires.can;
       uses = refl;
@@ -130,5 +130,5 @@ returns-clause-kept c =
     let e = so_far.followed.propagates in
     let past : length y.trail.lits ≤ c.loop-done.done = let high = c.loop-done-test.false in let n = c.len.ensures.value ∙ ap (λ t. length t.lits) c.trail.ensures in omega arith in
     let all = subst (λ ls. IsWatched (maps.get b) ls y.trail.lits) (take_all c.loop-done.done y.trail.lits past) so_far.watched in
-    let units = units_kept a b x y (at c.args.roots.now.reasons) (at c.loop-done.roots.reasons) e (subst (λ k. IsKnown a k x.trail.lits) c.in-Behind.is c.requires.kept.known) in
+    let units = units_kept a b x y (at c.args.roots.now.reasons) (at c.loop-done.roots.reasons) e (subst (λ k. IsKnown a k x.trail.lits) c.in-WithUnits.is c.requires.kept.known) in
     kept_grown a b x y c.args.roots.now _ e c.requires.kept (all, units) so_far.history (λ _. subst (λ n. IsWatched (maps.get b) (take n y.trail.lits) y.trail.lits) (sym so_far.count) so_far.watched) so_far.uses
