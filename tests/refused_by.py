@@ -10,9 +10,9 @@ FILE.LEMMA.
 
 LOG is what rt ci or rt must-fail wrote: of each refusal it tells the first goal that stays open, or where a proof isn't one any
 more. Only an open goal shows something, or for a law a lemma: a function's proof may not fit although the clause holds. So a
-mutant has `search` in the place that doesn't fit, and what is open there is what the wrong body breaks; or it takes the text out,
-and the prover is asked afresh. Where LOG cuts the goal's name short, the clause has to begin as what is left of it. A mutant that
-LOG doesn't tell of is left out. One that names no clause fails.
+mutant has `search` in the place that doesn't fit, or the proof is a `search` or a `grind` as it stands, and what is open there is
+what the wrong body breaks; or it takes the text out, and the prover is asked afresh. Where LOG cuts the goal's name short, the
+clause has to begin as what is left of it. A mutant that LOG doesn't tell of is left out. One that names no clause fails.
 
 The last line is "N passed, M failed".
 """
@@ -26,7 +26,7 @@ ROOT = os.path.dirname(os.path.dirname(os.path.abspath(__file__)))
 SAYS = "# refused by: "
 TOLD = re.compile(r"rt: must-fail (\w+/\S+\.edit): refused, as it must be(.*)")
 OPEN = re.compile(r": note: (\S+\.rt):(\d+):\d+: (.*)")
-SOUGHT = re.compile(r": \./proofs/(?:\S+/)?(\w+)/(?:Answers|Invariants)\.antt:\d+:\d+: error: `([^`]*)`: `search`")
+SOUGHT = re.compile(r": \./proofs/(?:\S+/)?(\w+)/(?:Answers|Invariants)\.antt:\d+:\d+: error: `([^`]*)`: `(?:search|grind)`")
 LEMMA = re.compile(r": \./proofs/(?:\S+/)?([A-Z]\w*)\.antt:\d+:\d+: error: (?:\d+ declarations? that depends? on )?`([^`]*)`?")
 FUNCTION = re.compile(r"\s*(?:pub(?:\(\w+\))? )?(?:const )?fn (\w+)")
 
