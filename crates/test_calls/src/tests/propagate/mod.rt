@@ -2,6 +2,7 @@
 
 mod calls;
 mod fresh;
+mod lookups;
 mod roots;
 mod sequences;
 mod trails;

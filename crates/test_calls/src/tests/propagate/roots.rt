@@ -5,53 +5,39 @@ ghost use Rattle.std.specs.Prelude.{◌≡◌, [], OnOk};
 use crate::tests::asserts::{expect_equal, expect_true};
 use crate::tests::literals::literals;
 use crate::tests::propagate::calls::fill;
-use propagation::Propagate;
+use crate::tests::propagate::fresh::{Known, Watching};
 use std::alloc::Global;
 use std::test::Fail;
 use watch::Watch;
 
-/// Whether what follows with nothing assumed is known, whether it is a clash, and how many literals
-/// are kept.
-type Known = (bool, bool, usize);
-
-fn known(watch: &Watch) -> Known {
-    (
-        watch.is_up_to_date(),
-        watch.has_root_clash(),
-        watch.root_literals().len(),
-    )
-}
-
 /// Takes the clause out, if it is there, where nothing is assumed.
-fn take_out(alloc: Global, watch: &mut Watch, numbers: &[i32]) -> Result<Known, Fail>
-    requires { watch.old.propagation.assumptions ≡ [] }
-    ensures { OnOk result (watch.new.propagation.assumptions ≡ []) }
+fn take_out<P: Watching>(alloc: Global, watch: &mut P, numbers: &[i32]) -> Result<Known, Fail>
+    requires { (P.state watch.old).assumptions ≡ [] }
+    ensures { OnOk result ((P.state watch.new).assumptions ≡ []) }
 {
     let clause = literals(alloc, numbers)?;
     if let Some(slot) = watch.find(clause.as_slice()) {
         watch.remove(slot);
     }
-    Ok(known(watch))
+    Ok(watch.known())
 }
 
 /// What is known after an assumption, after it was taken back, and after two removals: of a clause
 /// that is no reason, and of one that is.
-fn kept(alloc: Global, watch: &mut Watch) -> Result<Vec<Known>, Fail>
-    requires { watch.old.propagation.assumptions ≡ [] }
-{
+fn kept<P: Watching>(alloc: Global) -> Result<Vec<Known>, Fail> {
+    let mut watch = P::fresh(alloc)?;
     let mut all = Vec::new(alloc);
-    fill(alloc, watch, &[[1, 1], [-1, 2], [3, 4]])?;
+    fill(alloc, &mut watch, &[[1, 1], [-1, 2], [3, 4]])?;
     let _ = watch.assume(&[])?;
-    all.push(known(watch))?;
+    all.push(watch.known())?;
     watch.take_back();
-    all.push(known(watch))?;
+    all.push(watch.known())?;
     Ok(all)
 }
 
 #[test]
 fn keeps_what_follows(rt: HostRuntime) -> Result<(), Fail> {
-    let mut watch = Watch::new(rt.alloc())?;
-    let all = kept(rt.alloc(), &mut watch)?;
+    let all = kept::<Watch>(rt.alloc())?;
     let expected = [(true, false, 2), (true, false, 2)];
     expect_true(&rt, all.as_slice() == expected.as_slice());
     Ok(())
@@ -59,47 +45,40 @@ fn keeps_what_follows(rt: HostRuntime) -> Result<(), Fail> {
 
 /// What is known after the removal of a clause, by which the literal 2 follows from the unit clause
 /// 1, or doesn't.
-fn removed_from(alloc: Global, watch: &mut Watch, numbers: &[i32]) -> Result<Known, Fail>
-    requires { watch.old.propagation.assumptions ≡ [] }
-{
-    fill(alloc, watch, &[[1, 1], [-1, 2], [3, 4]])?;
+fn removed<P: Watching>(alloc: Global, numbers: &[i32]) -> Result<Known, Fail> {
+    let mut watch = P::fresh(alloc)?;
+    fill(alloc, &mut watch, &[[1, 1], [-1, 2], [3, 4]])?;
     let _ = watch.assume(&[])?;
     watch.take_back();
-    take_out(alloc, watch, numbers)
-}
-
-fn removed(alloc: Global, numbers: &[i32]) -> Result<Known, Fail> {
-    let mut watch = Watch::new(alloc)?;
-    removed_from(alloc, &mut watch, numbers)
+    take_out(alloc, &mut watch, numbers)
 }
 
 #[test]
 fn loses_what_rests_on_a_removed_clause(rt: HostRuntime) -> Result<(), Fail> {
-    expect_equal(&rt, removed(rt.alloc(), &[3, 4])?, (true, false, 2));
-    expect_equal(&rt, removed(rt.alloc(), &[-1, 2])?, (false, false, 0));
+    let kept = removed::<Watch>(rt.alloc(), &[3, 4])?;
+    expect_equal(&rt, kept, (true, false, 2));
+    let lost = removed::<Watch>(rt.alloc(), &[-1, 2])?;
+    expect_equal(&rt, lost, (false, false, 0));
     Ok(())
 }
 
 /// What is known after the removal of a clause, and what is found again.
-fn found_again(
+fn found_again<P: Watching>(
     alloc: Global,
-    watch: &mut Watch,
     rows: &[[i32; 2]],
     numbers: &[i32],
-) -> Result<(Known, Known), Fail>
-    requires { watch.old.propagation.assumptions ≡ [] }
-{
-    fill(alloc, watch, rows)?;
+) -> Result<(Known, Known), Fail> {
+    let mut watch = P::fresh(alloc)?;
+    fill(alloc, &mut watch, rows)?;
     let _ = watch.assume(&[])?;
     watch.take_back();
-    let lost = take_out(alloc, watch, numbers)?;
+    let lost = take_out(alloc, &mut watch, numbers)?;
     let _ = watch.assume(&[])?;
-    Ok((lost, known(watch)))
+    Ok((lost, watch.known()))
 }
 
 fn cut_back(alloc: Global, rows: &[[i32; 2]], numbers: &[i32]) -> Result<(Known, Known), Fail> {
-    let mut watch = Watch::new(alloc)?;
-    found_again(alloc, &mut watch, rows, numbers)
+    found_again::<Watch>(alloc, rows, numbers)
 }
 
 /// 3 follows from 1, and from 2.
@@ -122,21 +101,19 @@ fn keeps_a_literal_by_another_reason(rt: HostRuntime) -> Result<(), Fail> {
 }
 
 /// What is known as three copies of the unit clause 1, by which 2 follows, are taken out in turn.
-fn without_copies(alloc: Global, watch: &mut Watch) -> Result<(Known, Known, Known), Fail>
-    requires { watch.old.propagation.assumptions ≡ [] }
-{
-    fill(alloc, watch, &[[1, 1], [-1, 2], [1, 1], [1, 1]])?;
+fn without_copies<P: Watching>(alloc: Global) -> Result<(Known, Known, Known), Fail> {
+    let mut watch = P::fresh(alloc)?;
+    fill(alloc, &mut watch, &[[1, 1], [-1, 2], [1, 1], [1, 1]])?;
     let _ = watch.assume(&[])?;
     watch.take_back();
-    let two_left = take_out(alloc, watch, &[1])?;
-    let one_left = take_out(alloc, watch, &[1])?;
-    Ok((two_left, one_left, take_out(alloc, watch, &[1])?))
+    let two_left = take_out(alloc, &mut watch, &[1])?;
+    let one_left = take_out(alloc, &mut watch, &[1])?;
+    Ok((two_left, one_left, take_out(alloc, &mut watch, &[1])?))
 }
 
 #[test]
 fn keeps_a_literal_by_a_copy(rt: HostRuntime) -> Result<(), Fail> {
-    let mut watch = Watch::new(rt.alloc())?;
-    let (two_left, one_left, none_left) = without_copies(rt.alloc(), &mut watch)?;
+    let (two_left, one_left, none_left) = without_copies::<Watch>(rt.alloc())?;
     expect_equal(&rt, two_left, (true, false, 2));
     expect_equal(&rt, one_left, (true, false, 2));
     expect_equal(&rt, none_left, (false, false, 0));
@@ -165,38 +142,35 @@ fn takes_back_alone_what_no_clause_has(rt: HostRuntime) -> Result<(), Fail> {
 
 /// How many literals are true with the literal 3 assumed, after it was lost: a clause that was
 /// added where it was true makes 4 true too.
-fn assumed_again(alloc: Global, watch: &mut Watch) -> Result<usize, Fail>
-    requires { watch.old.propagation.assumptions ≡ [] }
-{
-    fill(alloc, watch, &[[1, 1], [-1, 2], [-2, 3]])?;
+fn assumed_again<P: Watching>(alloc: Global) -> Result<usize, Fail> {
+    let mut watch = P::fresh(alloc)?;
+    fill(alloc, &mut watch, &[[1, 1], [-1, 2], [-2, 3]])?;
     let _ = watch.assume(&[])?;
     watch.take_back();
-    fill(alloc, watch, &[[-3, 4]])?;
-    let _ = take_out(alloc, watch, &[-2, 3])?;
+    fill(alloc, &mut watch, &[[-3, 4]])?;
+    let _ = take_out(alloc, &mut watch, &[-2, 3])?;
     let clause = literals(alloc, &[-3])?;
     let _ = watch.assume(clause.as_slice())?;
-    Ok(watch.trail_len())
+    Ok(watch.true_literals())
 }
 
 #[test]
 fn propagates_what_was_added_above_a_cut(rt: HostRuntime) -> Result<(), Fail> {
-    let mut watch = Watch::new(rt.alloc())?;
-    expect_equal(&rt, assumed_again(rt.alloc(), &mut watch)?, 4);
+    expect_equal(&rt, assumed_again::<Watch>(rt.alloc())?, 4);
     Ok(())
 }
 
-/// What is known where two unit clauses contradict.
-fn contradicted(alloc: Global, watch: &mut Watch) -> Result<(bool, bool), Fail>
-    requires { watch.old.propagation.assumptions ≡ [] }
-{
-    fill(alloc, watch, &[[1, 1], [-1, -1]])?;
+/// Whether all is known where two unit clauses contradict, and whether it is a clash.
+fn contradicted<P: Watching>(alloc: Global) -> Result<(bool, bool), Fail> {
+    let mut watch = P::fresh(alloc)?;
+    fill(alloc, &mut watch, &[[1, 1], [-1, -1]])?;
     let _ = watch.assume(&[])?;
-    Ok((watch.is_up_to_date(), watch.has_root_clash()))
+    let (is_known, is_clash, _) = watch.known();
+    Ok((is_known, is_clash))
 }
 
 #[test]
 fn keeps_a_clash(rt: HostRuntime) -> Result<(), Fail> {
-    let mut watch = Watch::new(rt.alloc())?;
-    expect_equal(&rt, contradicted(rt.alloc(), &mut watch)?, (true, true));
+    expect_equal(&rt, contradicted::<Watch>(rt.alloc())?, (true, true));
     Ok(())
 }

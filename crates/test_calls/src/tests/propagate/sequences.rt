@@ -8,7 +8,7 @@ ghost use Rattle.propagation.specs.declared.answer.Answer.TheVariants.{Quiet};
 use crate::tests::asserts::{expect_equal, expect_true};
 use crate::tests::literals::literals;
 use crate::tests::propagate::calls::fill;
-use crate::tests::propagate::fresh::Fresh;
+use crate::tests::propagate::fresh::{Fresh, Watching};
 use cnf_base::Lit;
 use propagation::{Answer, Propagate, Scan, Value};
 use std::alloc::Global;
@@ -180,28 +180,23 @@ fn both_answer_alike(rt: HostRuntime) -> Result<(), Fail> {
 }
 
 /// How many entries the lists have, and how many literals are true, after an assumption.
-fn counts_of(alloc: Global, watch: &mut Watch) -> Result<(u64, usize, usize), Fail>
-    requires { watch.old.propagation.assumptions ≡ [] }
-{
-    fill(alloc, watch, &[[1, 2], [-1, 3], [1, 1], [4, -4]])?;
+fn counts_of<P: Watching>(alloc: Global) -> Result<(u64, usize, usize), Fail> {
+    let mut watch = P::fresh(alloc)?;
+    fill(alloc, &mut watch, &[[1, 2], [-1, 3], [1, 1], [4, -4]])?;
     let _ = watch.assume(&[])?;
     watch.undo();
-    fill(alloc, watch, &[[5, -5]])?;
+    fill(alloc, &mut watch, &[[5, -5]])?;
     let tautology = literals(alloc, &[11, 12, 13, 14, 15, 16, 17, 18, 19, -11])?;
     watch.insert(tautology.as_slice())?;
     let other = literals(alloc, &[11, 12, 13, 14, 15, 16, 17, 18, 19, 20])?;
     watch.insert(other.as_slice())?;
     let _ = watch.assume(&[])?;
-    Ok((
-        watch.watch_entries()?,
-        watch.short_entries(),
-        watch.trail_len(),
-    ))
+    let (watched, short) = watch.entries()?;
+    Ok((watched, short, watch.true_literals()))
 }
 
 #[test]
 fn counts_entries(rt: HostRuntime) -> Result<(), Fail> {
-    let mut watch = Watch::new(rt.alloc())?;
-    expect_equal(&rt, counts_of(rt.alloc(), &mut watch)?, (6, 1, 2));
+    expect_equal(&rt, counts_of::<Watch>(rt.alloc())?, (6, 1, 2));
     Ok(())
 }
