@@ -1,22 +1,19 @@
 -- The rule of DRAT depends only on how many copies of each clause are alive.
 use Rattle.std.proofs.Common.{◌≡◌, ℕ, zero, suc, ◌+◌, ◌-◌, ◌<◌, Bool, true, false, cond, Some, Ok}
-use Rattle.std.proofs.Common.{Err, List, [], ◌∷◌, ◌++◌, slice_get, refl, sym, ap, ◌∙◌, subst, inl}
-use Rattle.std.proofs.Common.{inr, ◌⊎◌, arith, rules}
+use Rattle.std.proofs.Common.{Err, List, [], ◌∷◌, ◌++◌, slice_get, refl, sym, ◌∙◌, subst, inl, inr}
+use Rattle.std.proofs.Common.{◌⊎◌, arith, rules}
 use Rattle.std.proofs.lemmas.Bool.{false≢true, true≢false, cases_Bool, or_cases, or_left, or_right}
-use Rattle.std.proofs.lemmas.Bool.{false_from_ne_true, Decides.nat_tests}
-use Rattle.std.proofs.lemmas.{List.Sums.sum_by-cons, Option.none-some, Grind.common_steps}
+use Rattle.std.proofs.lemmas.{Bool.false_from_ne_true, Bool.Decides.nat_tests, Grind.common_steps}
+use Rattle.std.proofs.lemmas.{List.Sums.sum_by-cons, Option.none-some}
 use Rattle.std.specs.List.{list_any}
-use Rattle.theory.specs.declared.accepted.Accepted.{Accepted}
+use Rattle.theory.specs.declared.accepted.Accepted.{Accepted, TheVariants.Ignored}
 use Rattle.theory.specs.declared.accepted.Accepted.TheVariants.{Rup, Rat, Pr, Empty, Deleted}
-use Rattle.theory.specs.declared.accepted.Accepted.TheVariants.{Ignored}
-use Rattle.theory.specs.declared.refusal.Refusal.TheVariants.{NotRup, NeitherRupNorRat, NotAlive}
-use Rattle.theory.specs.declared.refusal.Refusal.TheVariants.{InconsistentSet, NeitherRupNorPr}
-use Rattle.theory.specs.declared.drat_rules.DratRules.{DratRules}
+use Rattle.theory.specs.declared.refusal.Refusal.TheVariants.{NotRup, NeitherRupNorRat}
+use Rattle.theory.specs.{declared.refusal.Refusal.TheVariants.NeitherRupNorPr, Answers.StepAnswer}
+use Rattle.theory.specs.{declared.drat_rules.DratRules.DratRules, Drat.SameLive}
 use Rattle.theory.specs.Propagation.{Live, HasRup, HasRat, HasPr, open_literals}
-use Rattle.theory.specs.Answers.{StepAnswer}
 use Rattle.theory.specs.Drat.{DratStep, add, delete, AnswersAdd, AnswersDelete, AnswersDrat}
 use Rattle.theory.specs.Drat.{AnswersWithWitness, IsKeptUnit, take_off, after_drat, copies_of}
-use Rattle.theory.specs.Drat.{SameLive}
 use Rattle.theory.proofs.PropagationLemmas.Covers.{Covers, clash_covers, reason_covers}
 use Rattle.theory.proofs.PropagationLemmas.Forced.{forced_assumed, clash_through}
 use Rattle.cnf_base.specs.Literals.{Literal, complement, Clause, has, complements, without}
@@ -34,18 +31,15 @@ copies-cons e d live = sum_by-cons (λ x. cond (same_clause e x) 1 0) d live
 
 pub alive_copies : (c : Clause) (live : List Clause) → list_any (same_clause c) live ≡ true → 0 < copies_of c live
 alive_copies c [] h = absurd (false≢true h)
-alive_copies c (d ∷ live) h = elim (or_cases (same_clause c d) (list_any (same_clause c) live) h) [
-  | inl e ↦ omega (arith, copies-cons c d live ∙ ap (λ b. cond b 1 0 + copies_of c live) e)
-  | inr g ↦ omega (arith, copies-cons c d live, alive_copies c live g)
-]
+alive_copies c (d ∷ live) h =
+    grind (arith, common_steps, nat_tests, or_cases, copies-cons, (alive_copies c live))
 
 pub none_alive : (c : Clause) (live : List Clause) → list_any (same_clause c) live ≡ false → copies_of c live ≡ 0
 none_alive c [] h = refl
 none_alive c (d ∷ live) h = elim (cases_Bool (same_clause c d)) [
   | inl e ↦ cc
   | inr e ↦
-      let rest : list_any (same_clause c) live ≡ false = false_from_ne_true _ (λ g. true≢false (sym (or_right (same_clause c d) (list_any (same_clause c) live) g) ∙ h)) in
-      search (rules, copies-cons, (none_alive c live rest))
+      grind (arith, false_from_ne_true, true≢false, or_right, copies-cons, (none_alive c live))
 ]
 
 pub copies_alive : (c : Clause) (live : List Clause) → 0 < copies_of c live → list_any (same_clause c) live ≡ true
@@ -59,9 +53,8 @@ alive_at c (d ∷ live) h = elim (or_cases (same_clause c d) (list_any (same_cla
 ]
 
 pub at_alive : (live : List Clause) (k : ℕ) (d : Clause) → slice_get live k ≡ Some d → list_any (same_clause d) live ≡ true
-at_alive [] k d at = absurd (none-some d at)
-at_alive (e ∷ live) zero d at = search (rules, or_left, same_itself)
 at_alive (e ∷ live) (suc k) d at = or_right (same_clause d e) _ (at_alive live k d at)
+at_alive live k d at = grind (arith, none-some, or_left, same_itself, or_right)
 
 -- taking a clause off leaves one copy less of it, and as many of any other
 taken : (ec ed cd : Bool) (x y : ℕ) → (cd ≡ true → ec ≡ ed) → (cd ≡ false → ec ≡ true → ed ≡ true → ⊥) → y ≡ x - cond ec 1 0 → cond cd x (cond ed 1 0 + y) ≡ (cond ed 1 0 + x) - cond ec 1 0
@@ -87,12 +80,7 @@ taken_off_same first second c same = search (rules, copies-take_off)
 
 pub after_same : (first second : List Clause) (step : DratStep) (word : Accepted) → SameLive first second → SameLive (after_drat first step word) (after_drat second step word)
 after_same first second (add c set) word same = search (rules, copies-cons)
-after_same first second (delete c) Ignored same = same
-after_same first second (delete c) Deleted same = taken_off_same first second c same
-after_same first second (delete c) Rup same = taken_off_same first second c same
-after_same first second (delete c) Rat same = taken_off_same first second c same
-after_same first second (delete c) Pr same = taken_off_same first second c same
-after_same first second (delete c) Empty same = taken_off_same first second c same
+after_same first second step word same = grind (arith, copies-cons, taken_off_same)
 
 same_live_symm : (first second : List Clause) → SameLive first second → SameLive second first
 same_live_symm first second same = record { copies = λ e. sym (same.copies e) }
@@ -109,12 +97,12 @@ complements_more live c d inside rup = clash_through live (complements c) (compl
     (λ a member. forced_assumed live (complements d) a (subst (λ x. has (complements d) x ≡ true) (complement-complement a) (has-complements d (complement a) (inside (complement a) (complements_has c a member))))) rup
 
 pub rat_covers : (first second : Live) → Covers first second → Covers second first → (c : Clause) (pivot : Literal) → HasRat first c pivot → HasRat second c pivot
-rat_covers first second there back c pivot rat = record { holds_pivot = rat.holds_pivot; candidates = go }
+rat_covers first second there back c pivot rat = grind (arith, go)
   where
     go : (k : ℕ) (d : Clause) → second k ≡ Some d → has d (complement pivot) ≡ true → HasRup second (c ++ without d (complement pivot))
     go k d at member =
         let w = back k d at in
-        complements_more second (c ++ without w.1 (complement pivot)) (c ++ without d (complement pivot))
+        complements_more second _ _
         (λ l h. elim (has_append_cases c (without w.1 (complement pivot)) l h) [
           | inl g ↦ has_append_left c (without d (complement pivot)) l g
           | inr g ↦ search (rules, arith, without_has, has_append_right, has-without, same_back)
@@ -122,14 +110,14 @@ rat_covers first second there back c pivot rat = record { holds_pivot = rat.hold
         (clash_covers first second there _ (rat.candidates w.0 w.1 w.2 (same_there d w.1 w.3 (complement pivot) member)))
 
 pub pr_covers : (first second : Live) → Covers first second → Covers second first → (c set : List Literal) → HasPr first c set → HasPr second c set
-pr_covers first second there back c set pr = record { consistent = pr.consistent; meets = pr.meets; others = go }
+pr_covers first second there back c set pr = grind (arith, go)
   where
     go : (k : ℕ) (d : Clause) → second k ≡ Some d → ((l : Literal) × (has d l ≡ true) × (has set l ≡ true)) ⊎ HasRup second (c ++ open_literals set d)
     go k d at =
         let w = back k d at in
         elim (pr.others w.0 w.1 w.2) [
           | inl met ↦ inl (met.0, same_back d w.1 w.3 met.0 met.1, met.2)
-          | inr rup ↦ inr (complements_more second (c ++ open_literals set w.1) (c ++ open_literals set d)
+          | inr rup ↦ inr (complements_more second _ _
               (λ l h. elim (has_append_cases c (open_literals set w.1) l h) [
                 | inl g ↦ has_append_left c (open_literals set d) l g
                 | inr g ↦ search (rules, arith, filter_has, has_append_right, has-filter, same_back)
@@ -157,14 +145,9 @@ add_same first second (l ∷ c) (Err (NeitherRupNorRat m)) same a =
     let there = covers_of first second same in
     let back = covers_of second first (same_live_symm first second same) in
     (a.0, λ b. a.1 (clash_covers _ _ back _ b), λ r. a.2 (rat_covers _ _ back there (l ∷ c) l r))
-add_same first second [] (Ok _) same a = absurd a
-add_same first second [] (Err _) same a = absurd a
-add_same first second (l ∷ c) (Ok _) same a = absurd a
-add_same first second (l ∷ c) (Err _) same a = absurd a
+add_same first second c answer same a = absurd a
 
 witness_same : (first second : List Clause) (c set : List Literal) (answer : StepAnswer) → SameLive first second → AnswersWithWitness (slice_get first) c set answer → AnswersWithWitness (slice_get second) c set answer
-witness_same first second c set (Err InconsistentSet) same a = a
-witness_same first second c set (Ok Rup) same a = search (rules, clash_covers, covers_of)
 witness_same first second c set (Ok Pr) same a =
     let there = covers_of first second same in
     let back = covers_of second first (same_live_symm first second same) in
@@ -173,8 +156,8 @@ witness_same first second c set (Err NeitherRupNorPr) same a =
     let there = covers_of first second same in
     let back = covers_of second first (same_live_symm first second same) in
     (a.0, λ b. a.1 (clash_covers _ _ back _ b), λ r. a.2 (pr_covers _ _ back there c set r))
-witness_same first second c set (Ok _) same a = absurd a
-witness_same first second c set (Err _) same a = absurd a
+witness_same first second c set answer same a =
+    search (rules, clash_covers, covers_of, same_live_symm, pr_covers)
 
 kept_same : (rules : DratRules) (first second : List Clause) (c : Clause) → SameLive first second → IsKeptUnit rules first c → IsKeptUnit rules second c
 kept_same rules first second c same kept = search (reason_covers, covers_of, same_itself)
@@ -186,9 +169,8 @@ delete_same rules first second c (Ok Ignored) same a = elim a [
   | inl kept ↦ inl (sym (alive_same first second c same) ∙ kept.0, kept_same rules first second c same kept.1)
   | inr absent ↦ inr (sym (alive_same first second c same) ∙ absent.0, absent.1)
 ]
-delete_same rules first second c (Err NotAlive) same a = grind (arith, alive_same)
-delete_same rules first second c (Ok _) same a = absurd a
-delete_same rules first second c (Err _) same a = absurd a
+delete_same rules first second c answer same a =
+    grind (arith, alive_same, kept_same, same_live_symm)
 
 pub drat_same : (rules : DratRules) (first second : List Clause) (step : DratStep) (answer : StepAnswer) → SameLive first second → AnswersDrat rules first step answer → AnswersDrat rules second step answer
 drat_same rules first second (add c []) answer same a = add_same first second c answer same a

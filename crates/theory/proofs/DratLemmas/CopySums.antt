@@ -1,8 +1,8 @@
 -- Lists with as many copies of each clause have the same sum of sizes.
+use Rattle.std.proofs.lemmas.Bool.{Decides.nat_tests, false≢true, cases_Bool}
+use Rattle.std.proofs.lemmas.{Grind.common_steps, List.Sums.sum_by-cons}
 use Rattle.std.proofs.Common.{◌≡◌, ℕ, ◌+◌, ◌-◌, ◌<◌, true, cond, List, [], ◌∷◌, refl, sym, ap, ◌∙◌}
 use Rattle.std.proofs.Common.{inl, inr, arith, rules}
-use Rattle.std.proofs.lemmas.Bool.{false≢true, cases_Bool, or_cases, both_ways}
-use Rattle.std.proofs.lemmas.List.Sums.{sum_by-cons}
 use Rattle.std.specs.{Prelude.sum_by, List.list_any}
 use Rattle.cnf_base.specs.Literals.{Clause, same_clause, size}
 use Rattle.cnf_base.proofs.SetLemmas.{same_itself}
@@ -15,13 +15,7 @@ sum_take_off : (c : Clause) (live : List Clause) → list_any (same_clause c) li
 sum_take_off c [] h = absurd (false≢true h)
 sum_take_off c (d ∷ live) h = elim (cases_Bool (same_clause c d)) [
   | inl e ↦ cc ((sum_by-cons size d live), (size_same c d e))
-  | inr e ↦
-      let rest : list_any (same_clause c) live ≡ true = elim (or_cases (same_clause c d) (list_any (same_clause c) live) h) [ inl g ↦ absurd (both_ways (same_clause c d) e g) | inr g ↦ g ] in
-      let below = sum_take_off c live rest in
-      let whole = sum_by-cons size d live in
-      let left = sum_by-cons size d (take_off c live) in
-      let swap : sum_by size (d ∷ live) ≡ size c + sum_by size (d ∷ take_off c live) = omega arith in
-      swap ∙ ap (λ b. size c + sum_by size (cond b live (d ∷ take_off c live))) (sym e)
+  | inr e ↦ grind (arith, common_steps, nat_tests, sum_by-cons, (sum_take_off c live))
 ]
 
 copies_own : (c : Clause) (live : List Clause) → copies_of c (c ∷ live) ≡ 1 + copies_of c live
@@ -32,7 +26,6 @@ sums_same [] [] same = refl
 sums_same [] (d ∷ second) same = search (rules, (copies_own d second))
 sums_same (c ∷ first) second same =
     let own = copies_own c first in
-    let is = same.copies c in
     let alive : 0 < copies_of c second = omega arith in
     let rest : SameLive first (take_off c second) = record { copies = λ e. less (cond (same_clause e c) 1 0) (copies_of e first) _ _ _ (copies-cons e c first) (same.copies e) (copies-take_off e c second) } in
     sum_by-cons size c first ∙ ap (λ n. size c + n) (sums_same first (take_off c second) rest) ∙ sym (sum_take_off c second (copies_alive c second alive))

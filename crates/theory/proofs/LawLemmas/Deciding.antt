@@ -1,25 +1,21 @@
 -- Each step of a DRAT proof has an answer: whether propagation clashes can be decided.
-use Rattle.std.proofs.Common.{◌≡◌, ℕ, zero, suc, ◌<◌, ◌≤◌, true, false, Some, Ok, Err, List}
-use Rattle.std.proofs.Common.{[], ◌∷◌, ◌++◌, slice_get, refl, sym, ◌∙◌, inl, inr, ◌⊎◌, arith}
-use Rattle.std.proofs.Common.{rules}
+use Rattle.std.proofs.Common.{◌≡◌, ℕ, zero, suc, ◌<◌, ◌≤◌, true, false, Some, Ok, Err, List, []}
+use Rattle.std.proofs.Common.{◌∷◌, ◌++◌, slice_get, refl, sym, ◌∙◌, inl, inr, ◌⊎◌, arith, rules}
 use Rattle.std.proofs.lemmas.{Bool.true≢false, Bool.cases_Bool, Option.none-some}
 use Rattle.std.specs.List.{list_any}
 use Rattle.theory.specs.declared.accepted.Accepted.TheVariants.{Rup, Rat, Pr, Empty, Deleted}
-use Rattle.theory.specs.declared.accepted.Accepted.TheVariants.{Ignored}
+use Rattle.theory.specs.{declared.accepted.Accepted.TheVariants.Ignored, Answers.StepAnswer}
 use Rattle.theory.specs.declared.refusal.Refusal.TheVariants.{NotRup, NeitherRupNorRat, NotAlive}
 use Rattle.theory.specs.declared.refusal.Refusal.TheVariants.{InconsistentSet, NeitherRupNorPr}
-use Rattle.theory.specs.declared.drat_rules.DratRules.{DratRules}
+use Rattle.theory.specs.{declared.drat_rules.DratRules.DratRules, Sets.conflicts}
 use Rattle.theory.specs.Propagation.{Clash, HasRup, HasRat, HasPr, open_literals}
-use Rattle.theory.specs.{Answers.StepAnswer, Drat.DratStep, Drat.add, Drat.delete, Drat.AnswersAdd}
-use Rattle.theory.specs.{Drat.AnswersDelete, Drat.AnswersDrat, Drat.AnswersWithWitness}
-use Rattle.theory.specs.{Drat.IsKeptUnit, Sets.conflicts, Code.Sets.lacking}
-use Rattle.theory.proofs.PropagationLemmas.{Forced.forced_assumed, Conflicts.not_both}
-use Rattle.theory.proofs.PropagationLemmas.Open.{IsAlone, open_has}
+use Rattle.theory.specs.Drat.{DratStep, add, delete, AnswersAdd, AnswersDelete, AnswersDrat}
+use Rattle.theory.specs.{Drat.AnswersWithWitness, Drat.IsKeptUnit, Code.Sets.lacking}
+use Rattle.theory.proofs.PropagationLemmas.{Conflicts.not_both, Open.IsAlone, Open.open_has}
 use Rattle.theory.proofs.PropagationLemmas.Unit.{clash_of_conflict, none_left_clashes, closed_quiet}
 use Rattle.theory.proofs.LawLemmas.Scans.{Found, all_false, one_left, none_new, scan, IsPart}
-use Rattle.theory.proofs.LawLemmas.Scans.{part_more}
+use Rattle.theory.proofs.LawLemmas.{Scans.part_more, Reasons.reason_decided}
 use Rattle.theory.proofs.LawLemmas.Growth.{IsDecided, lacking_more, all_literals, has-all_literals}
-use Rattle.theory.proofs.LawLemmas.Reasons.{reason_decided}
 use Rattle.cnf_base.specs.Literals.{Literal, complement, Clause, has, complements, without}
 use Rattle.cnf_base.specs.Literals.{same_clause}
 use Rattle.cnf_base.proofs.SetLemmas.{any_from, any_some}
@@ -45,7 +41,7 @@ module _ (live : List Clause) (assumed : List Literal) where
 
   pub clash_decided : IsDecided (Clash (slice_get live) assumed)
   clash_decided =
-      let part : IsPart (slice_get live) assumed assumed = record { sound = forced_assumed (slice_get live) assumed; start = λ a h. h } in
+      let part : IsPart (slice_get live) assumed assumed = search rules in
       elim (cases_Bool (conflicts assumed)) [
         | inl clash ↦ inl (clash_of_conflict (slice_get live) assumed assumed part.sound clash)
         | inr quiet ↦ propagate (lacking assumed (all_literals live)) assumed part (omega arith) quiet (scan assumed live)
@@ -65,8 +61,7 @@ each_or_one P decide (c ∷ live) = elim (decide c) [
 ]
   where
     all_pass : P c → ((k : ℕ) (d : Clause) → slice_get live k ≡ Some d → P d) → (k : ℕ) (d : Clause) → slice_get (c ∷ live) k ≡ Some d → P d
-    all_pass here rest zero d at = grind arith
-    all_pass here rest (suc k) d at = rest k d at
+    all_pass here rest k d at = grind arith
 
 module _ (live : List Clause) (c : Clause) (pivot : Literal) where
   -- what RAT asks of a clause
@@ -115,7 +110,7 @@ module _ (live : List Clause) (c set : List Literal) where
   pr_decided consistent = elim (met_decided c) [
     | inr unmet ↦ inr (λ pr. unmet pr.meets)
     | inl met ↦ elim (each_or_one PrPasses pr_passes_decided live) [
-      | inl each ↦ inl (record { consistent = λ l h. not_both set l consistent h; meets = met; others = each })
+      | inl each ↦ inl (search (rules, not_both))
       | inr w ↦ inr (λ pr. w.3 (pr.others w.0 w.1 w.2))
     ]
   ]

@@ -6,19 +6,17 @@ use Rattle.std.proofs.lemmas.Bool.{cases_lt, cases_eq}
 use Rattle.std.specs.{Bool.MatchBool, List.list_any}
 use Rattle.cnf_base.specs.Literals.{Literal, Clause, complements}
 use Rattle.proofs.specs.Steps.{Step}
-use Rattle.theory.specs.declared.accepted.Accepted.{Accepted}
+use Rattle.theory.specs.declared.{accepted.Accepted.Accepted, refusal.Refusal.Refusal}
 use Rattle.theory.specs.declared.accepted.Accepted.TheVariants.{Rup, Rat, Empty}
-use Rattle.theory.specs.declared.refusal.Refusal.{Refusal}
 use Rattle.theory.specs.declared.refusal.Refusal.TheVariants.{IdOutOfOrder, UnknownId, NotUnit}
 use Rattle.theory.specs.declared.refusal.Refusal.TheVariants.{NoConflict, Unnamed}
-use Rattle.theory.specs.{Propagation.Live, Answers.StepAnswer, Drat.drat_step}
+use Rattle.theory.specs.{Propagation.Live, Rules.Same, Rules.IsFiniteMap, Rules.IsFinite}
+use Rattle.theory.specs.{Answers.StepAnswer, Lrat.deletion_refusal, Lrat.answer_of, Lrat.numbered}
+use Rattle.theory.specs.Drat.{drat_step}
 use Rattle.theory.specs.Lrat.{ChainEnd, conflict, open_with, unknown, not_unit, chain, Group}
-use Rattle.theory.specs.Lrat.{LratStep, add, delete, LratState, groups_refusal}
-use Rattle.theory.specs.Lrat.{is_left_out, AnswersGroups, AnswersChain, AnswersLrat, after_lrat}
-use Rattle.theory.specs.Lrat.{lrat_step, without_id, without_ids, deletion_refusal, answer_of}
-use Rattle.theory.specs.Lrat.{numbered}
+use Rattle.theory.specs.Lrat.{LratStep, add, delete, LratState, is_left_out, AnswersGroups}
+use Rattle.theory.specs.Lrat.{AnswersChain, AnswersLrat, after_lrat, lrat_step, without_ids}
 use Rattle.theory.specs.Rules.{Rule, lrat, drat, State, by_ids, by_copies, start, Answers, after}
-use Rattle.theory.specs.Rules.{Same, IsFiniteMap, IsFinite}
 use Rattle.theory.proofs.{LawLemmas.Deciding.drat_answer, LratLemmas.Sums.with_other}
 
 -- the lowest number up to a bound that passes, if one does
@@ -52,12 +50,11 @@ groups_answer live b ls pivot groups None = elim (lowest (is_left_out live ls pi
 chain_answer : (live : Live) → IsFiniteMap live → (c : List Literal) (groups : List Group) (end : ChainEnd) → (answer : StepAnswer) × AnswersChain live c groups end answer
 chain_answer live b [] groups conflict = (Ok Empty, refl)
 chain_answer live b (l ∷ c) groups conflict = (Ok Rup, refl)
-chain_answer live b [] groups (unknown k) = (Err (UnknownId k), refl)
-chain_answer live b (l ∷ c) groups (unknown k) = (Err (UnknownId k), refl)
 chain_answer live b [] groups (not_unit k) = (Err (NotUnit k), refl)
 chain_answer live b (l ∷ c) groups (not_unit k) = (Err (NotUnit k), refl)
 chain_answer live b [] groups (open_with ls) = (Err NoConflict, refl)
-chain_answer live b (l ∷ c) groups (open_with ls) = groups_answer live b ls l groups (groups_refusal live ls l [] groups)
+chain_answer live b (l ∷ c) groups (open_with ls) = groups_answer live b ls l groups _
+chain_answer live b c groups (unknown k) = (Err (UnknownId k), refl)
 
 -- each step has an answer
 lrat_answer : (state : LratState) → IsFiniteMap state.live → (step : LratStep) → (answer : StepAnswer) × AnswersLrat state step answer
@@ -68,12 +65,9 @@ lrat_answer state b (add id c units groups) =
     ]
 lrat_answer state b (delete ids) = (answer_of (deletion_refusal state.live ids), refl)
 
-without_finite : (live : Live) (id : ℕ) → IsFiniteMap live → IsFiniteMap (without_id live id)
-without_finite live id b = search rules
-
 without_all_finite : (ids : List ℕ) (live : Live) → IsFiniteMap live → IsFiniteMap (without_ids live ids)
 without_all_finite [] live b = b
-without_all_finite (id ∷ ids) live b = without_all_finite ids (without_id live id) (without_finite live id b)
+without_all_finite (id ∷ ids) live b = without_all_finite ids _ (search rules)
 
 lrat_finite : (state : LratState) (step : LratStep) → IsFiniteMap state.live → IsFiniteMap (after_lrat state step).live
 lrat_finite state (add id c units groups) b = record {
@@ -99,9 +93,8 @@ pub numbered_above : (cs : List Clause) (k : ℕ) → length cs < k → numbered
 numbered_above cs (suc k) h = past cs k (omega arith)
   where
     past : (cs : List Clause) (k : ℕ) → length cs ≤ k → slice_get cs k ≡ None
-    past [] k h = refl
     past (c ∷ cs) (suc k) h = past cs k (omega arith)
-    past (c ∷ cs) Prim.Native.Nat.zero h = absurd (omega arith)
+    past cs k h = grind arith
 numbered_above cs Prim.Native.Nat.zero h = refl
 
 pub start_finite : (rule : Rule) (formula : List Clause) → IsFinite (start rule formula)

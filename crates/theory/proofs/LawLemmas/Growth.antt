@@ -1,7 +1,6 @@
 -- How far a list of literals can grow that follow from clauses.
-use Rattle.std.proofs.Common.{◌≡◌, ℕ, zero, suc, ◌<◌, true, false, Some, List}
-use Rattle.std.proofs.Common.{[], ◌∷◌, ◌++◌, slice_get, ◌⊎◌, rules}
-use Rattle.std.proofs.lemmas.Option.{none-some}
+use Rattle.std.proofs.Common.{◌≡◌, ℕ, zero, suc, ◌<◌, true, false, Some, List, [], ◌∷◌, ◌++◌}
+use Rattle.std.proofs.{Common.slice_get, Common.◌⊎◌, Common.rules, lemmas.Option.none-some}
 use Rattle.cnf_base.specs.Literals.{Literal, Clause, has}
 use Rattle.cnf_base.proofs.SetLemmas.{has_head, has_tail, has_append_left, has_append_right}
 use Rattle.theory.specs.Code.Sets.{lacking}

@@ -2,16 +2,13 @@
 use Rattle.std.proofs.Common.{◌≡◌, ℕ, zero, suc, true, false, cond, Some, Ok, List, [], ◌∷◌}
 use Rattle.std.proofs.Common.{slice_get, arith, rules}
 use Rattle.std.proofs.lemmas.{Option.none-some, Bool.false≢true}
-use Rattle.theory.specs.declared.accepted.Accepted.{Accepted}
-use Rattle.theory.specs.declared.accepted.Accepted.TheVariants.{Rup, Rat, Pr, Empty, Deleted}
-use Rattle.theory.specs.declared.accepted.Accepted.TheVariants.{Ignored}
-use Rattle.theory.specs.{declared.drat_rules.DratRules.DratRules, Propagation.Live}
+use Rattle.theory.specs.declared.{accepted.Accepted.Accepted, drat_rules.DratRules.DratRules}
+use Rattle.theory.specs.declared.accepted.Accepted.TheVariants.{Rup, Rat, Pr, Empty, Ignored}
+use Rattle.theory.specs.{Propagation.Live, Laws.IsRedundant, Drat.after_drat}
 use Rattle.theory.specs.Models.{Assignment, satisfies, Models, HasModel}
-use Rattle.theory.specs.Drat.{DratStep, add, delete, AnswersAdd, AnswersDrat, AnswersListed}
-use Rattle.theory.specs.Drat.{take_off, after_drat}
+use Rattle.theory.specs.Drat.{DratStep, add, delete, AnswersDrat, AnswersListed, take_off}
 use Rattle.theory.specs.Lrat.{LratState, LratStep, add as add_lrat, delete as delete_lrat}
-use Rattle.theory.specs.Lrat.{AnswersLrat, after_lrat, with_clause, without_id, without_ids}
-use Rattle.theory.specs.Laws.{IsRedundant}
+use Rattle.theory.specs.Lrat.{AnswersLrat, after_lrat, with_clause, without_ids}
 use Rattle.theory.proofs.LawLemmas.Truth.{rup_true, rat_keeps, pr_keeps, HasModelWith}
 use Rattle.theory.proofs.LratLemmas.Steps.{lrat_redundant, deletion_word}
 use Rattle.cnf_base.specs.Literals.{Literal, Clause, same_clause}
@@ -20,12 +17,9 @@ use Rattle.cnf_base.specs.Literals.{Literal, Clause, same_clause}
 redundant_keeps : (live : Live) (c : List Literal) (word : Accepted) → IsRedundant live c word → HasModel live → HasModelWith live c
 redundant_keeps live c Rup rup m = (m.0, m.1, rup_true m.0 live c m.1 rup)
 redundant_keeps live [] Empty rup m = (m.0, m.1, rup_true m.0 live [] m.1 rup)
-redundant_keeps live (l ∷ c) Empty never m = absurd never
-redundant_keeps live [] Rat never m = absurd never
 redundant_keeps live (pivot ∷ rest) Rat rat m = rat_keeps m.0 live (pivot ∷ rest) pivot m.1 rat
 redundant_keeps live c Pr pr m = pr_keeps m.0 live c pr.0 m.1 pr.1
-redundant_keeps live c Deleted never m = absurd never
-redundant_keeps live c Ignored never m = absurd never
+redundant_keeps live c word never m = grind arith
 
 -- no model makes the empty clause true
 empty_refutes : (live : Live) (c : List Literal) → IsRedundant live c Empty → HasModel live → ⊥
@@ -34,17 +28,9 @@ empty_refutes live (l ∷ c) never m = never
 
 -- ---- DRAT
 
-add_redundant : (live : List Clause) (c : List Literal) (word : Accepted) → AnswersAdd (slice_get live) c (Ok word) → IsRedundant (slice_get live) c word
-add_redundant live c word h = search rules
-
 listed_redundant : (live : List Clause) (c set : List Literal) (word : Accepted) → AnswersListed (slice_get live) c set (Ok word) → IsRedundant (slice_get live) c word
-listed_redundant live c [] word a = add_redundant live c word a
 listed_redundant live c (l ∷ set) Rup a = a.1
-listed_redundant live c (l ∷ set) Pr a = (l ∷ set, a.2)
-listed_redundant live c (l ∷ set) Rat a = absurd a
-listed_redundant live c (l ∷ set) Empty a = absurd a
-listed_redundant live c (l ∷ set) Deleted a = absurd a
-listed_redundant live c (l ∷ set) Ignored a = absurd a
+listed_redundant live c set word a = grind arith
 
 models_more : (v : Assignment) (live : List Clause) (c : Clause) → Models v (slice_get live) → satisfies v c ≡ true → Models v (slice_get (c ∷ live))
 models_more v live c h h2 = search rules
@@ -69,14 +55,10 @@ pub drat_keeps : (rules : DratRules) (live : List Clause) (step : DratStep) (wor
 drat_keeps rules live (add c set) word answer m =
     grind (arith, redundant_keeps, slice_get, listed_redundant, models_more)
 drat_keeps rules live (delete c) Ignored answer m = m
-drat_keeps rules live (delete c) Deleted answer m = taken_off_keeps live c m
-drat_keeps rules live (delete c) Rup answer m = taken_off_keeps live c m
-drat_keeps rules live (delete c) Rat answer m = taken_off_keeps live c m
-drat_keeps rules live (delete c) Pr answer m = taken_off_keeps live c m
-drat_keeps rules live (delete c) Empty answer m = taken_off_keeps live c m
+drat_keeps rules live (delete c) word answer m = taken_off_keeps live c m
 
 pub drat_refutes : (rules : DratRules) (live : List Clause) (step : DratStep) → AnswersDrat rules live step (Ok Empty) → HasModel (slice_get live) → ⊥
-drat_refutes rules live (add c set) answer m = empty_refutes (slice_get live) c (listed_redundant live c set Empty answer) m
+drat_refutes rules live (add c set) answer m = grind (arith, empty_refutes, listed_redundant)
 drat_refutes rules live (delete c) answer m = answer
 
 -- ---- LRAT
@@ -84,12 +66,9 @@ drat_refutes rules live (delete c) answer m = answer
 models_with : (v : Assignment) (live : Live) (id : ℕ) (c : Clause) → Models v live → satisfies v c ≡ true → Models v (with_clause live id c)
 models_with v live id c models h k d at = search rules
 
-models_without : (v : Assignment) (live : Live) (id : ℕ) → Models v live → Models v (without_id live id)
-models_without v live id models k d at = search rules
-
 models_without_all : (v : Assignment) (ids : List ℕ) (live : Live) → Models v live → Models v (without_ids live ids)
 models_without_all v [] live models = models
-models_without_all v (id ∷ ids) live models = models_without_all v ids (without_id live id) (models_without v live id models)
+models_without_all v (id ∷ ids) live models = models_without_all v ids _ (search rules)
 
 pub lrat_keeps : (state : LratState) (step : LratStep) (word : Accepted) → AnswersLrat state step (Ok word) → HasModel state.live → HasModel (after_lrat state step).live
 lrat_keeps state (add_lrat id c units groups) word answer m =

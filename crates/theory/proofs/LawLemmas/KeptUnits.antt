@@ -3,22 +3,17 @@
 use Rattle.std.proofs.Common.{◌≡◌, ◌≢◌, ℕ, zero, suc, true, cond, Some, Ok, List, [], ◌∷◌}
 use Rattle.std.proofs.Common.{slice_get, sym, subst, inl, inr, ◌⊎◌, arith, rules}
 use Rattle.std.specs.Prelude.{IsTrue}
-use Rattle.std.proofs.lemmas.Bool.{false≢true, cases_Bool, MatchBool-at_false}
-use Rattle.std.proofs.lemmas.Option.{none-some}
+use Rattle.std.proofs.lemmas.{Bool.false≢true, Bool.cases_Bool, Option.none-some}
 use Rattle.cnf_base.specs.Literals.{Literal, complement, Clause, has, same_clause}
 use Rattle.cnf_base.proofs.SetLemmas.{same_there, same_back}
 use Rattle.theory.proofs.PropagationLemmas.Forced.{forced_unit}
-use Rattle.theory.specs.declared.accepted.Accepted.{Accepted}
-use Rattle.theory.specs.declared.accepted.Accepted.TheVariants.{Rup, Rat, Pr, Empty, Deleted}
-use Rattle.theory.specs.declared.accepted.Accepted.TheVariants.{Ignored}
-use Rattle.theory.specs.declared.drat_rules.DratRules.{DratRules}
+use Rattle.theory.specs.declared.accepted.Accepted.{Accepted, TheVariants.Deleted}
+use Rattle.theory.specs.{declared.drat_rules.DratRules.DratRules, Drat.after_drat, Rules.State}
 use Rattle.proofs.specs.Steps.{Step, clause_part, witness_part}
-use Rattle.theory.specs.Drat.{DratStep, add, delete, AnswersListed, AnswersDrat}
-use Rattle.theory.specs.Drat.{drat_step, take_off, after_drat}
+use Rattle.theory.specs.Drat.{DratStep, add, AnswersListed, AnswersDrat, drat_step, take_off}
 use Rattle.theory.specs.Propagation.{Live, IsClosed, Forced, IsRootReason}
-use Rattle.theory.specs.Rules.{State, by_copies, Answers}
-use Rattle.theory.specs.Verdicts.{Ending, Ends, is_last, DeletesReason, DeletedReason}
-use Rattle.theory.specs.Laws.{UnitsAreKept, ReasonsAreKept}
+use Rattle.theory.specs.Verdicts.{Ending, Ends, DeletesReason, DeletedReason}
+use Rattle.theory.specs.{Laws.UnitsAreKept, Laws.ReasonsAreKept, Rules.by_copies, Rules.Answers}
 use Rattle.theory.proofs.LawLemmas.Reasons.{IsAll, all_that_follows}
 
 -- what follows from some clauses follows from these and others
@@ -26,7 +21,7 @@ forced_more : (live more : Live) → ((k : ℕ) (c : Clause) → live k ≡ Some
     → (l : Literal) → Forced live [] l → Forced more [] l
 forced_more live more each l f = record {
   in_each = λ passes closed given.
-      f.in_each passes (record { unit = λ k c at. let w = each k c at in closed.unit w.0 c w.1 }) given;
+      f.in_each passes (search rules) given;
 }
 
 -- ---- Without one copy of a clause
@@ -35,8 +30,6 @@ module _ (c : Clause) where
   -- each clause is still there, or it is a copy of the one that was taken off
   left_of : (live : List Clause) (k : ℕ) (d : Clause) → slice_get live k ≡ Some d
       → (same_clause c d ≡ true) ⊎ ((j : ℕ) × (slice_get (take_off c live) j ≡ Some d))
-  left_of [] k d at = absurd (none-some d at)
-  left_of (e ∷ live) zero d at = search rules
   left_of (e ∷ live) (suc k) d at = elim (cases_Bool (same_clause c e)) [
     | inl same ↦ inr (k, subst (λ b. slice_get (cond b live (e ∷ take_off c live)) k ≡ Some d) (sym same) at)
     | inr other ↦ elim (left_of live k d at) [
@@ -44,6 +37,7 @@ module _ (c : Clause) where
       | inr w ↦ inr (suc w.0, subst (λ b. slice_get (cond b live (e ∷ take_off c live)) (suc w.0) ≡ Some d) (sym other) w.1)
     ]
   ]
+  left_of live k d at = search rules
 
   further : (e : Clause) (live rest : List Clause) (d : Clause) → ((j : ℕ) → slice_get rest j ≡ Some d → (k : ℕ) × (slice_get live k ≡ Some d))
       → (j : ℕ) → slice_get (e ∷ rest) j ≡ Some d → (k : ℕ) × (slice_get (e ∷ live) k ≡ Some d)
@@ -55,7 +49,7 @@ module _ (c : Clause) where
   was_in [] j d at = absurd (none-some d at)
   was_in (e ∷ live) j d at = elim (cases_Bool (same_clause c e)) [
     | inl same ↦ (suc j, subst (λ b. slice_get (cond b live (e ∷ take_off c live)) j ≡ Some d) same at)
-    | inr other ↦ further e live (take_off c live) d (λ i. was_in live i d) j (subst (λ b. slice_get (cond b live (e ∷ take_off c live)) j ≡ Some d) other at)
+    | inr other ↦ further e live _ d (λ i. was_in live i d) j (search rules)
   ]
 
   -- what follows without it followed
@@ -66,7 +60,7 @@ module _ (c : Clause) where
   -- clause is closed under its unit rule too.
   pub forced_still : (live : List Clause) → ((m : Literal) → has c m ≡ true → Forced (slice_get live) [] m → ((k : Literal) → has c k ≡ true → k ≢ m → Forced (slice_get live) [] (complement k)) → Forced (slice_get (take_off c live)) [] m)
       → (l : Literal) → Forced (slice_get live) [] l → Forced (slice_get (take_off c live)) [] l
-  forced_still live still l f = all.1.sound l (f.in_each (λ x. has all.0 x) closed (λ a h. absurd (false≢true h)))
+  forced_still live still l f = all.1.sound l (f.in_each _ closed (search rules))
     where
       all : (found : List Literal) × IsAll (slice_get (take_off c live)) found
       all = all_that_follows (take_off c live)
@@ -81,9 +75,7 @@ module _ (c : Clause) where
       closed = record {
         unit = λ k d at m member others. elim (left_of live k d at) [
           | inr w ↦ all.1.closed.unit w.0 d w.1 m member others
-          | inl same ↦ found m (still m (same_back c d same m member)
-              (forced_unit (slice_get live) [] k d at m member (λ x inside ne. back (complement x) (others x inside ne)))
-              (λ x inside ne. back (complement x) (others x (same_there c d same x inside) ne)))
+          | inl same ↦ grind (arith, found, same_back, forced_unit, back, same_there)
         ];
       }
 
@@ -97,19 +89,12 @@ module _ (c : Clause) where
 kept_by_step : (rules : DratRules) (live : List Clause) (step : DratStep) (word : Accepted) (l : Literal) → IsTrue rules.keep_units
     → AnswersDrat rules live step (Ok word) → Forced (slice_get live) [] l → Forced (slice_get (after_drat live step word)) [] l
 kept_by_step rules live (add c set) word l on answers f = forced_more (slice_get live) (slice_get (c ∷ live)) (λ k d at. (suc k, at)) l f
-kept_by_step rules live (delete c) Deleted l on answers f = grind (arith, forced_without)
-kept_by_step rules live (delete c) Ignored l on answers f = f
-kept_by_step rules live (delete c) Rup l on answers f = absurd answers
-kept_by_step rules live (delete c) Rat l on answers f = absurd answers
-kept_by_step rules live (delete c) Pr l on answers f = absurd answers
-kept_by_step rules live (delete c) Empty l on answers f = absurd answers
+kept_by_step rules live step word l on answers f = grind (arith, forced_more, forced_without)
 
 pub units_are_kept : UnitsAreKept
-units_are_kept rules live last [] [] l on leads f = grind (arith, slice_get)
-units_are_kept rules live last [] (word ∷ words) l on leads f = absurd leads
-units_are_kept rules live last (step ∷ steps) [] l on leads f = absurd leads
 units_are_kept rules live last (step ∷ steps) (word ∷ words) l on leads f =
     units_are_kept rules (after_drat live step word) last steps words l on leads.1 (kept_by_step rules live step word l on leads.0 f)
+units_are_kept rules live last steps words l on leads f = grind arith
 
 -- ---- Reasons
 
@@ -127,15 +112,14 @@ none_before (step ∷ steps) state d = d
 
 ends_keep : (rules : DratRules) (steps : List Step) (live : List Clause) (words : List Accepted) (ending : Ending) → IsTrue rules.keep_units
     → Ends (by_copies rules live) steps words ending → DeletedReason (by_copies rules live) steps words → ⊥
-ends_keep rules [] live words ending on ends deleted = deleted
-ends_keep rules (step ∷ steps) live [] ending on ends deleted = deleted
-ends_keep rules (step ∷ steps) live (word ∷ words) ending on ends deleted = elim deleted [
-  | inl now ↦ step_keeps rules live step word on ends.0 now
-  | inr later ↦ elim (cases_Bool (is_last word)) [
-    | inl last ↦ grind (arith, none_before)
-    | inr goes_on ↦ ends_keep rules steps (after_drat live (drat_step rules step) word) words ending on (MatchBool-at_false _ _ goes_on ends.1) later
-  ]
-]
+ends_keep rules (step ∷ steps) live (word ∷ words) ending on ends deleted = grind (
+  arith,
+  step_keeps,
+  cases_Bool,
+  none_before,
+  (ends_keep rules steps (after_drat live (drat_step rules step) word) words ending on),
+)
+ends_keep rules steps live words ending on ends deleted = deleted
 
 pub reasons_are_kept : ReasonsAreKept
 reasons_are_kept rules formula steps words ending on verdict deleted =

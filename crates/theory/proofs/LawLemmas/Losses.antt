@@ -1,16 +1,14 @@
 -- What deletions lose.
-use Rattle.std.proofs.Common.{◌≡◌, ◌≢◌, true, List, [], ◌∷◌, slice_get, sym, subst, inl, inr, rules}
-use Rattle.std.proofs.lemmas.Bool.{cases_eq}
+use Rattle.std.proofs.Common.{arith, ◌≡◌, ◌≢◌, true, List, [], ◌∷◌, slice_get, sym, subst, inl, inr}
+use Rattle.std.proofs.{Common.rules, lemmas.Bool.cases_eq}
 use Rattle.cnf_base.specs.Literals.{Literal, Clause, complement, has}
 use Rattle.cnf_base.proofs.SetLemmas.{same_itself}
 use Rattle.proofs.specs.Steps.{Step}
 use Rattle.theory.specs.{Drat.take_off, Drat.SameLive, Drat.delete, Laws.LostWithReason}
 use Rattle.theory.specs.Losses.{LosesLiteral, LosesRootLiteral, DeleteLoses, StepLoses, HasLost}
 use Rattle.theory.specs.Propagation.{Live, Forced, Clash, IsRootReason, by_both}
-use Rattle.theory.specs.Rules.{State, by_copies, by_ids, after, Same}
-use Rattle.theory.specs.declared.accepted.Accepted.{Accepted}
-use Rattle.theory.specs.declared.accepted.Accepted.TheVariants.{Rup, Rat, Pr, Empty, Deleted}
-use Rattle.theory.specs.declared.accepted.Accepted.TheVariants.{Ignored}
+use Rattle.theory.specs.Rules.{State, by_copies, Same}
+use Rattle.theory.specs.declared.accepted.Accepted.{Accepted, TheVariants.Deleted}
 use Rattle.theory.proofs.DratLemmas.Copies.{covers_of, after_same as after_drat_same}
 use Rattle.theory.proofs.LawLemmas.KeptUnits.{forced_still, forced_without}
 use Rattle.theory.proofs.LawLemmas.{Reasons.reason_decided, Rules.after_same}
@@ -29,7 +27,7 @@ module _ (live : List Clause) (c : Clause) (quiet : ¬ Clash (slice_get live) []
 
   -- the one that did still does
   pub still_held : (l : Literal) → has c l ≡ true → Forced (slice_get live) [] l → Forced (slice_get (take_off c live)) [] l → ¬ Loses
-  still_held l member held still loses = loses.lost (forced_still c live by loses.literal loses.forced)
+  still_held l member held still loses = grind (arith, by, forced_still)
     where
       by : (m : Literal) → has c m ≡ true → Forced (slice_get live) [] m → ((k : Literal) → has c k ≡ true → k ≢ m → Forced (slice_get live) [] (complement k)) → Forced (slice_get (take_off c live)) [] m
       by m m_there forced others = elim (cases_eq l m) [
@@ -68,7 +66,7 @@ step_loses_same step word first second h h2 = search (rules, delete_loses_same)
 pub lost_same : (steps : List Step) (words : List Accepted) (first second : State) → Same first second → HasLost first steps words → HasLost second steps words
 lost_same (step ∷ steps) (word ∷ words) first second same lost = elim lost [
   | inl now ↦ inl (step_loses_same step word first second same now)
-  | inr later ↦ inr (lost_same steps words (after first step word) (after second step word) (after_same first second step word same) later)
+  | inr later ↦ inr (lost_same steps words _ _ (search (rules, after_same)) later)
 ]
 lost_same steps words first second h h2 = search rules
 
@@ -79,9 +77,4 @@ lost_with_reason (by_copies rules live) step Deleted loses = elim (reason_decide
   | inl reason ↦ reason
   | inr none ↦ absurd (no_reason_kept live step.lits none loses)
 ]
-lost_with_reason (by_copies rules live) step Rup loses = loses
-lost_with_reason (by_copies rules live) step Rat loses = loses
-lost_with_reason (by_copies rules live) step Pr loses = loses
-lost_with_reason (by_copies rules live) step Empty loses = loses
-lost_with_reason (by_copies rules live) step Ignored loses = loses
-lost_with_reason (by_ids s) step word loses = loses
+lost_with_reason state step word loses = loses

@@ -1,11 +1,10 @@
 -- Whether a clause is the reason of a root-level literal can be decided: what follows with nothing
 -- assumed is a list, past a clash too.
 use Rattle.std.proofs.Common.{◌≡◌, ℕ, zero, suc, ◌≤◌, Bool, true, false, not, ◌||◌, ◌&&◌, eqb}
-use Rattle.std.proofs.Common.{eqb-true, eq-eqb, Some, List, [], ◌∷◌, slice_get, refl, sym, ◌∙◌, inl}
-use Rattle.std.proofs.Common.{inr, arith, rules}
+use Rattle.std.proofs.Common.{eqb-true, eq-eqb, Some, List, [], ◌∷◌, slice_get, refl, inl, inr}
+use Rattle.std.proofs.{Common.arith, Common.rules, lemmas.Option.none-some}
 use Rattle.std.proofs.lemmas.Bool.{false≢true, true≢false, cases_Bool, cases_eq, or_cases, or_left}
-use Rattle.std.proofs.lemmas.Bool.{or_right, and_parts, and_from, not-true, not_from_false}
-use Rattle.std.proofs.lemmas.Option.{none-some}
+use Rattle.std.proofs.lemmas.Bool.{or_right, and_parts, and_from, not_from_false}
 use Rattle.std.specs.List.{list_any, list_all}
 use Rattle.cnf_base.specs.Literals.{Literal, complement, Clause, has}
 use Rattle.cnf_base.proofs.SetLemmas.{any_from, any_some, all_each, each_all}
@@ -44,11 +43,10 @@ look found [] = all_found (λ k c at. absurd (none-some c at))
 look found (d ∷ live) = elim (cases_Bool (list_any (gives found d) d)) [
   | inl some ↦
       let w = any_some (gives found d) d some in
-      let parts = and_parts (not (has found w.0)) (others_fail found d w.0) w.2 in
-      one_more zero d refl w.0 w.1 (fail_each found d w.0 parts.1) (not-true (has found w.0) parts.0)
+      one_more zero d refl w.0 w.1 (search (rules, fail_each)) (search rules)
   | inr none ↦ found_more found d live (λ m member others. elim (cases_Bool (has found m)) [
     | inl h ↦ h
-    | inr new ↦ absurd (true≢false (sym (any_from (gives found d) d m member (and_from (not (has found m)) (others_fail found d m) (not_from_false (has found m) new) (each_fail found d m others))) ∙ none))
+    | inr new ↦ grind (arith, true≢false, any_from, and_from, not_from_false, each_fail)
   ]) (look found live)
 ]
 
@@ -58,18 +56,14 @@ pub record IsAll (live : Live) (found : List Literal) : Type 0 where
   pub closed : IsClosed live (λ l. has found l)
 
 module _ (live : List Clause) where
-  sound_more : (found : List Literal) → ((l : Literal) → has found l ≡ true → Forced (slice_get live) [] l) → (k : ℕ) (c : Clause) → slice_get live k ≡ Some c → (m : Literal) → has c m ≡ true → OthersFail (has found) c m →
-      (l : Literal) → has (m ∷ found) l ≡ true → Forced (slice_get live) [] l
-  sound_more found sound k c at m member others l h = search rules
-
   -- at most `fuel` literals are not found yet
   grow : (fuel : ℕ) (found : List Literal) → ((l : Literal) → has found l ≡ true → Forced (slice_get live) [] l) → lacking found (all_literals live) ≤ fuel → Found (slice_get live) found → (all : List Literal) × IsAll (slice_get live) all
   grow fuel found sound bound (all_found closed) = (found, record { sound = sound; closed = record { unit = λ k c at. closed k c at } })
   grow zero found sound bound (one_more k c at m member others new) =
       absurd (let less = lacking_more found m new (all_literals live) (has-all_literals live k c m at member) in let wrong : ⊥ = omega arith in wrong)
   grow (suc fuel) found sound bound (one_more k c at m member others new) =
-      let less = lacking_more found m new (all_literals live) (has-all_literals live k c m at member) in
-      grow fuel (m ∷ found) (sound_more found sound k c at m member others) (omega arith) (look (m ∷ found) live)
+      let less = lacking_more found m new _ (has-all_literals live k c m at member) in
+      grow fuel (m ∷ found) (search rules) (omega arith) (look (m ∷ found) live)
 
   pub all_that_follows : (all : List Literal) × IsAll (slice_get live) all
   all_that_follows = grow (lacking [] (all_literals live)) [] (λ l h. absurd (false≢true h)) (omega arith) (look [] live)
@@ -84,6 +78,5 @@ module _ (live : List Clause) where
         | inl some ↦
             let m = any_some (λ m. has all m && others_fail all c m) c some in
             grind (arith, and_parts, others_fail, fail_each)
-        | inr none ↦
-            grind (arith, false≢true, each_fail, true≢false, any_from, others_fail, and_from)
+        | inr none ↦ grind (arith, false≢true, each_fail, true≢false, any_from, and_from)
       ]

@@ -3,14 +3,12 @@ use Rattle.std.proofs.Common.{◌≡◌, Ok, List, slice_get, ◌∙◌, arith, 
 use Rattle.cnf_base.specs.Literals.{Clause}
 use Rattle.proofs.specs.Steps.{Step}
 use Rattle.theory.specs.declared.accepted.Accepted.{Accepted, TheVariants.Empty}
-use Rattle.theory.specs.{Answers.StepAnswer}
-use Rattle.theory.specs.{Rules.State, Rules.by_ids, Rules.by_copies, Rules.Answers}
-use Rattle.theory.specs.{Rules.after, Rules.sum_of, Rules.Same, Rules.IsSatisfiable, Rules.Rule}
-use Rattle.theory.specs.{Rules.start, Models.HasModel}
+use Rattle.theory.specs.Rules.{State, by_ids, by_copies, Answers, after, sum_of, Same, Rule, start}
+use Rattle.theory.specs.{Models.HasModel, Answers.StepAnswer, Rules.IsSatisfiable}
 use Rattle.theory.proofs.LawLemmas.Keeping.{lrat_keeps, drat_keeps, lrat_refutes, drat_refutes}
 use Rattle.theory.proofs.LawLemmas.Uniqueness.{drat_unique, lrat_unique}
-use Rattle.theory.proofs.{LawLemmas.Sizes.total_same, DratLemmas.Copies.drat_same}
-use Rattle.theory.proofs.{DratLemmas.CopySums.sums_same, LratLemmas.LiveSets.SameClauses-trans}
+use Rattle.theory.proofs.{LawLemmas.Sizes.total_same, LratLemmas.LiveSets.SameClauses-trans}
+use Rattle.theory.proofs.DratLemmas.{Copies.drat_same, CopySums.sums_same}
 use Rattle.theory.proofs.DratLemmas.Copies as copies
 use Rattle.theory.proofs.LratLemmas.States as ids
 

@@ -1,5 +1,5 @@
 -- One scan over a list of clauses: a clash, a literal that is forced and not listed yet, or the listed ones are all.
-use Rattle.std.proofs.Common.{◌≡◌, ℕ, zero, suc, true, false, eqb, Option, Some, List, []}
+use Rattle.std.proofs.Common.{arith, ◌≡◌, ℕ, zero, suc, true, false, eqb, Option, Some, List, []}
 use Rattle.std.proofs.Common.{◌∷◌, slice_get, refl, sym, ap, ◌∙◌, subst, inl, inr, rules}
 use Rattle.std.specs.List.{list_all}
 use Rattle.std.proofs.lemmas.Bool.{cases_Bool, true≢false}
@@ -29,13 +29,13 @@ module _ (trues : List Literal) (d : Clause) (live : List Clause) where
   found_first : (os : List Literal) → open_literals trues d ≡ os → Found (slice_get live) trues → Found (slice_get (d ∷ live)) trues
   found_first [] e rest = all_false zero d refl e
   found_first (m ∷ os) e rest =
-      let is : (ls : List Literal) → open_literals trues d ≡ ls → d ≡ [] → ls ≡ [] = λ ls e empty. sym e ∙ ap (open_literals trues) empty in
+      let is : (ls : List Literal) → open_literals trues d ≡ ls → d ≡ [] → ls ≡ [] = grind arith in
       let some : ¬ (d ≡ []) = λ empty. some-none m os (is (m ∷ os) e empty) in
       let member : has (open_literals trues d) m ≡ true = ap (λ ls. has ls m) e ∙ has_head m os in
       elim (cases_Bool (has trues m)) [
         | inl old ↦ found_more some (true_closes trues d m member old) rest
         | inr new ↦ elim (cases_Bool (list_all (λ l. eqb l m) os)) [
-          | inl all ↦ one_left zero d refl m (subst (λ ls. IsAlone ls m) (sym e) (first_alone m os all)) new
+          | inl all ↦ one_left zero d refl m (search (rules, first_alone)) new
           | inr two ↦ found_more some (two_close trues d (λ l same. true≢false (sym (alone_first m os l (subst (λ ls. AreAll ls l) e same)) ∙ two))) rest
         ]
       ]
@@ -55,7 +55,7 @@ pub record IsPart (live : Live) (assumed trues : List Literal) : Type 0 where
 pub part_more : (live : Live) (assumed trues : List Literal) → IsPart live assumed trues → (k : ℕ) (c : Clause) → live k ≡ Some c → (m : Literal) → IsAlone (open_literals trues c) m → IsPart live assumed (m ∷ trues)
 part_more live assumed trues part k c at m only = record {
   sound = λ l h. elim (has_cases m trues l h) [
-    | inl same ↦ subst (Forced live assumed) same (left_is_forced live assumed trues part.sound k c at m only)
+    | inl same ↦ subst (Forced live assumed) same (search (rules, left_is_forced))
     | inr rest ↦ part.sound l rest
   ];
   start = λ a h. has_tail m trues a (part.start a h);

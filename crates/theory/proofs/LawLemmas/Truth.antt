@@ -1,7 +1,6 @@
 -- What is true under an assignment, and the assignment that makes a witness true.
-use Rattle.std.proofs.Common.{◌≡◌, ◌≢◌, ℕ, ◌+◌, ◌*◌, ◌/◌, Bool, true, false, not, ◌||◌, cond, Some}
-use Rattle.std.proofs.Common.{List, [], ◌∷◌, ◌++◌, sym, ap, ◌∙◌, inl, inr, if◌then◌else◌, ne_eqb}
-use Rattle.std.proofs.Common.{rules, arith}
+use Rattle.std.proofs.Common.{◌∷◌, ◌++◌, sym, ap, ◌∙◌, inl, inr, if◌then◌else◌, ne_eqb, rules, ◌≡◌}
+use Rattle.std.proofs.Common.{arith, ◌≢◌, ℕ, ◌+◌, ◌*◌, ◌/◌, true, false, not, ◌||◌, Some, List, []}
 use Rattle.std.proofs.lemmas.Bool.{false≢true, true≢false, cases_Bool, cases_eq, not-true}
 use Rattle.cnf_base.specs.Literals.{Literal, complement, Clause, has, complements, without}
 use Rattle.cnf_base.proofs.LiteralLemmas.{complement-complement, complement-other}
@@ -34,7 +33,7 @@ forced_true v live assumed l models true_at forced = forced.in_each (holds v) (c
 pub clash_false : (v : Assignment) (live : Live) (assumed : List Literal) → Models v live → ((a : Literal) → has assumed a ≡ true → holds v a ≡ true) → Clash live assumed → ⊥
 clash_false v live assumed models true_at (by_empty k at) = false≢true (models k [] at)
 clash_false v live assumed models true_at (by_both l f g) =
-    complement_false v l (forced_true v live assumed l models true_at f) (forced_true v live assumed (complement l) models true_at g)
+    complement_false v l (search (rules, forced_true)) (search (rules, forced_true))
 
 -- the complements of a clause that is false are true
 pub complements_true : (v : Assignment) (c : Clause) → satisfies v c ≡ false → (a : Literal) → has (complements c) a ≡ true → holds v a ≡ true
@@ -65,12 +64,6 @@ override_true v witness l member absent = elim (parity l) [
   | even at other value ↦ search rules
   | odd at other value ↦ search rules
 ]
-  where
-    made_even : (a b x : Bool) → a ≡ true → cond a true (cond b false x) ≡ true
-    made_even a b x h = cc
-
-    made_odd : (a b x : Bool) → a ≡ false → b ≡ true → not (cond a true (cond b false x)) ≡ true
-    made_odd a b x h h2 = cc
 
 pub override_keeps : (v : Assignment) (witness : List Literal) (l : Literal) → holds v l ≡ true → has witness (complement l) ≡ false → holds (override v witness) l ≡ true
 unfolding override
@@ -78,12 +71,6 @@ override_keeps v witness l h absent = elim (parity l) [
   | even at other value ↦ search rules
   | odd at other value ↦ search rules
 ]
-  where
-    kept_even : (a b x : Bool) → b ≡ false → x ≡ true → cond a true (cond b false x) ≡ true
-    kept_even a b x h h2 = search rules
-
-    kept_odd : (a b x : Bool) → a ≡ false → not x ≡ true → not (cond a true (cond b false x)) ≡ true
-    kept_odd a b x h h2 = search rules
 
 -- ---- RAT and PR keep satisfiability
 
@@ -104,7 +91,7 @@ pr_keeps v live c witness models pr =
     kept fails k d at = elim (pr.others k d at) [
       | inl m ↦ any_from _ d m.0 m.1 (override_true v witness m.0 m.2 (pr.consistent m.0 m.2))
       | inr rup ↦
-          let w = any_some (holds v) (c ++ open_literals witness d) (rup_true v live _ models rup) in
+          let w = any_some (holds v) _ (rup_true v live _ models rup) in
           let r = in_rest fails d w.0 w.1 w.2 in
           any_from _ d w.0 r.0 (override_keeps v witness w.0 w.2 r.1)
     ]
@@ -130,7 +117,7 @@ rat_keeps v live c pivot models rat =
     kept : satisfies v c ≡ false → Models changed live
     kept fails k d at = elim (cases_Bool (has d (complement pivot))) [
       | inl member ↦
-          let w = any_some (holds v) (c ++ without d (complement pivot)) (rup_true v live _ models (rat.candidates k d at member)) in
+          let w = any_some _ _ (rup_true v live _ models (rat.candidates k d at member)) in
           let r = in_rest fails d w.0 w.1 w.2 in
           any_from _ d w.0 r.0 (override_keeps v (pivot ∷ []) w.0 w.2 (other w.0 r.1))
       | inr absent ↦

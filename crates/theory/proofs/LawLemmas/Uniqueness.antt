@@ -1,20 +1,18 @@
 -- A step has at most one answer, under each rule.
-use Rattle.std.proofs.Common.{◌≡◌, true, false, nat_le, Ok, Err, List, [], ◌∷◌}
-use Rattle.std.proofs.Common.{slice_get, refl, sym, ap, ◌∙◌, arith, rules}
+use Rattle.std.proofs.Common.{◌≡◌, true, false, nat_le, Ok, Err, List, [], ◌∷◌, slice_get, refl}
+use Rattle.std.proofs.Common.{sym, ◌∙◌, arith, rules}
 use Rattle.std.proofs.lemmas.Bool.{true≢false, cases_Bool}
 use Rattle.std.specs.List.{list_any}
 use Rattle.theory.specs.declared.accepted.Accepted.TheVariants.{Rup, Rat, Pr, Empty, Deleted}
-use Rattle.theory.specs.declared.accepted.Accepted.TheVariants.{Ignored}
+use Rattle.theory.specs.{declared.accepted.Accepted.TheVariants.Ignored, Answers.StepAnswer}
 use Rattle.theory.specs.declared.refusal.Refusal.TheVariants.{NotRup, NeitherRupNorRat, NotAlive}
 use Rattle.theory.specs.declared.refusal.Refusal.TheVariants.{InconsistentSet, NeitherRupNorPr}
 use Rattle.theory.specs.declared.drat_rules.DratRules.{DratRules}
 use Rattle.theory.specs.Propagation.{Live, HasRup, HasRat, HasPr}
-use Rattle.theory.specs.Answers.{StepAnswer}
-use Rattle.theory.specs.{Drat.DratStep, Drat.add, Drat.delete, Drat.AnswersAdd, Drat.AnswersDelete}
-use Rattle.theory.specs.{Drat.AnswersDrat, Drat.AnswersWithWitness, Drat.IsKeptUnit, Sets.conflicts}
+use Rattle.theory.specs.Drat.{DratStep, add, delete, AnswersAdd, AnswersDelete, AnswersDrat}
+use Rattle.theory.specs.{Drat.AnswersWithWitness, Drat.IsKeptUnit, Sets.conflicts}
 use Rattle.theory.specs.Lrat.{LratState, LratStep, add as add_lrat, delete as delete_lrat, Group}
-use Rattle.theory.specs.Lrat.{ChainEnd, conflict, open_with, unknown, not_unit, AnswersChain}
-use Rattle.theory.specs.Lrat.{AnswersLrat}
+use Rattle.theory.specs.Lrat.{ChainEnd, open_with, AnswersChain, AnswersLrat}
 use Rattle.cnf_base.specs.Literals.{Literal, Clause, same_clause}
 
 -- ---- DRAT
@@ -28,13 +26,8 @@ data AddCases (live : Live) (pivot : Literal) (rest : List Literal) (answer : St
 add_cases : (live : List Clause) (pivot : Literal) (rest : List Literal) (answer : StepAnswer) → AnswersAdd (slice_get live) (pivot ∷ rest) answer → AddCases (slice_get live) pivot rest answer
 add_cases live pivot rest (Ok Rup) a = rup refl a
 add_cases live pivot rest (Ok Rat) a = rat refl a.0 a.1
-add_cases live pivot rest (Ok Empty) a = absurd a
-add_cases live pivot rest (Ok Pr) a = absurd a
-add_cases live pivot rest (Ok Deleted) a = absurd a
-add_cases live pivot rest (Ok Ignored) a = absurd a
-add_cases live pivot rest (Err (NeitherRupNorRat l)) a = neither (ap (λ x. Err (NeitherRupNorRat x)) a.0) a.1 a.2
-add_cases live pivot rest (Err NotRup) a = absurd a
-add_cases live pivot rest (Err _) a = absurd a
+add_cases live pivot rest (Err (NeitherRupNorRat l)) a = neither (search rules) a.1 a.2
+add_cases live pivot rest answer a = absurd a
 
 add_unique : (live : Live) (pivot : Literal) (rest : List Literal) (first second : StepAnswer) → AddCases live pivot rest first → AddCases live pivot rest second → first ≡ second
 add_unique live pivot rest first second (rup e p) (rup f q) = e ∙ sym f
@@ -53,13 +46,8 @@ data EmptyCases (live : Live) (answer : StepAnswer) : Type 0 where
 
 empty_cases : (live : List Clause) (answer : StepAnswer) → AnswersAdd (slice_get live) [] answer → EmptyCases (slice_get live) answer
 empty_cases live (Ok Empty) a = rup refl a
-empty_cases live (Ok Rup) a = absurd a
-empty_cases live (Ok Rat) a = absurd a
-empty_cases live (Ok Pr) a = absurd a
-empty_cases live (Ok Deleted) a = absurd a
-empty_cases live (Ok Ignored) a = absurd a
 empty_cases live (Err NotRup) a = not_rup refl a
-empty_cases live (Err _) a = absurd a
+empty_cases live answer a = absurd a
 
 empty_unique : (live : Live) (first second : StepAnswer) → EmptyCases live first → EmptyCases live second → first ≡ second
 empty_unique live first second (rup e p) (rup f q) = e ∙ sym f
@@ -92,8 +80,7 @@ witness_cases live c set (Err InconsistentSet) a = inconsistent refl a
 witness_cases live c set (Ok Rup) a = rup refl a.0 a.1
 witness_cases live c set (Ok Pr) a = pr refl a.0 a.1 a.2
 witness_cases live c set (Err NeitherRupNorPr) a = neither refl a.0 a.1 a.2
-witness_cases live c set (Ok _) a = absurd a
-witness_cases live c set (Err _) a = absurd a
+witness_cases live c set answer a = absurd a
 
 witness_unique : (live : Live) (c set : List Literal) (first second : StepAnswer) → WitnessCases live c set first → WitnessCases live c set second → first ≡ second
 witness_unique live c set first second (inconsistent e p) (inconsistent f q) = e ∙ sym f
@@ -114,7 +101,7 @@ witness_unique live c set first second (neither e p h k) (pr f q r s) = absurd (
 witness_unique live c set first second (neither e p h k) (neither f q r s) = e ∙ sym f
 
 pub drat_unique : (rules : DratRules) (live : List Clause) (step : DratStep) (first second : StepAnswer) → AnswersDrat rules live step first → AnswersDrat rules live step second → first ≡ second
-drat_unique rules live (add [] []) first second a b = empty_unique (slice_get live) first second (empty_cases live first a) (empty_cases live second b)
+drat_unique rules live (add [] []) first second a b = search (empty_unique, empty_cases)
 drat_unique rules live (add (pivot ∷ rest) []) first second a b = add_unique (slice_get live) pivot rest first second (add_cases live pivot rest first a) (add_cases live pivot rest second b)
 drat_unique rules live (add c (l ∷ set)) first second a b = witness_unique (slice_get live) c (l ∷ set) first second (witness_cases live c (l ∷ set) first a) (witness_cases live c (l ∷ set) second b)
 drat_unique rules live (delete c) first second a b = search (rules, delete_unique, delete_cases)
@@ -122,14 +109,8 @@ drat_unique rules live (delete c) first second a b = search (rules, delete_uniqu
 -- ---- LRAT
 
 chain_unique : (live : Live) (c : List Literal) (groups : List Group) (end : ChainEnd) (first second : StepAnswer) → AnswersChain live c groups end first → AnswersChain live c groups end second → first ≡ second
-chain_unique live [] groups conflict first second a b = a ∙ sym b
-chain_unique live (l ∷ c) groups conflict first second a b = a ∙ sym b
-chain_unique live [] groups (unknown k) first second a b = a ∙ sym b
-chain_unique live (l ∷ c) groups (unknown k) first second a b = a ∙ sym b
-chain_unique live [] groups (not_unit k) first second a b = a ∙ sym b
-chain_unique live (l ∷ c) groups (not_unit k) first second a b = a ∙ sym b
-chain_unique live [] groups (open_with ls) first second a b = a ∙ sym b
 chain_unique live (pivot ∷ rest) groups (open_with ls) first second a b = search rules
+chain_unique live c groups end first second a b = grind arith
 
 pub lrat_unique : (state : LratState) (step : LratStep) (first second : StepAnswer) → AnswersLrat state step first → AnswersLrat state step second → first ≡ second
 lrat_unique state (add_lrat id c units groups) first second a b =

@@ -1,19 +1,18 @@
 -- A proof has one verdict, which depends on the clauses alone, and a verified formula has no model.
-use Rattle.std.proofs.Common.{◌≡◌, zero, suc, Bool, true, false, Ok, Err, List, [], ◌∷◌, slice_get}
-use Rattle.std.proofs.Common.{refl, sym, ap, ◌∙◌, subst, inl, inr, rules}
-use Rattle.std.proofs.lemmas.Bool.{false≢true, cases_Bool, MatchBool-at_false}
+use Rattle.std.proofs.Common.{arith, ◌≡◌, zero, suc, Bool, true, false, Ok, Err, List, [], ◌∷◌}
+use Rattle.std.proofs.Common.{slice_get, refl, sym, ◌∙◌, subst, inl, inr, rules}
+use Rattle.std.proofs.lemmas.Bool.{false≢true, cases_Bool}
 use Rattle.std.specs.{Bool.MatchBool, List.list_any}
 use Rattle.cnf_base.specs.Literals.{Clause}
 use Rattle.proofs.specs.Steps.{Step}
 use Rattle.theory.specs.declared.accepted.Accepted.{Accepted, TheVariants.Empty}
-use Rattle.theory.specs.{declared.refusal.Refusal.Refusal, Answers.StepAnswer, Models.HasModel}
+use Rattle.theory.specs.{declared.refusal.Refusal.Refusal, Verdicts.is_empty, Verdicts.Verdict}
+use Rattle.theory.specs.{Answers.StepAnswer, Models.HasModel}
 use Rattle.theory.specs.Rules.{Rule, State, start, Answers, after, Same, IsSatisfiable, IsFinite}
 use Rattle.theory.specs.Verdicts.{Ending, verified, refused, no_empty_clause, is_last, Ends}
-use Rattle.theory.specs.Verdicts.{is_empty, Verdict}
 use Rattle.theory.proofs.LawLemmas.Existence.{some_answer, after_finite, start_finite}
 use Rattle.theory.proofs.LawLemmas.Rules.{answers_same, after_same, answer_unique, keeps, refutes}
-use Rattle.theory.proofs.LawLemmas.Rules.{started}
-use Rattle.theory.proofs.LratLemmas.Steps.{ok_is, ok_err}
+use Rattle.theory.proofs.{LawLemmas.Rules.started, LratLemmas.Steps.ok_is, LratLemmas.Steps.ok_err}
 
 -- ---- The same clauses
 
@@ -25,7 +24,7 @@ ends_same (step ∷ steps) (word ∷ words) ending first second same e = search 
   rules,
   answers_same,
   after_same,
-  (ends_same steps words ending (after first step word) (after second step word) (after_same first second step word same)),
+  (ends_same steps words ending (after first step word) _ (after_same first second step word same)),
 )
 
 -- ---- At most one verdict
@@ -40,15 +39,13 @@ ends_unique [] s (w ∷ ws) second ending other a b = absurd a
 ends_unique (step ∷ steps) s [] [] ending other a b = search (rules, err_is, answer_unique)
 ends_unique (step ∷ steps) s [] (w ∷ ws) ending other a b = search (rules, ok_err, answer_unique)
 ends_unique (step ∷ steps) s (w ∷ ws) [] ending other a b = search (rules, ok_err, answer_unique)
-ends_unique (step ∷ steps) s (w ∷ ws) (x ∷ xs) ending other a b =
-    let same = ok_is w x (answer_unique s step _ _ a.0 b.0) in
-    elim (cases_Bool (is_last w)) [
-      | inl last ↦ search rules
-      | inr goes_on ↦
-          let rest = subst (λ word. Ends (after s step word) steps xs other) (sym same) (MatchBool-at_false _ _ (sym (ap is_last same) ∙ goes_on) b.1) in
-          let r = ends_unique steps (after s step w) ws xs ending other (MatchBool-at_false _ _ goes_on a.1) rest in
-          (λ i. same i ∷ r.0 i, r.1)
-    ]
+ends_unique (step ∷ steps) s (w ∷ ws) (x ∷ xs) ending other a b = grind (
+  arith,
+  ok_is,
+  answer_unique,
+  cases_Bool,
+  (ends_unique steps (after s step w) ws xs ending other),
+)
 
 pub verdict_unique : (rule : Rule) (formula : List Clause) (steps : List Step) (first second : List Accepted) (ending other : Ending) →
     Verdict rule formula steps first ending → Verdict rule formula steps second other → (first ≡ second) × (ending ≡ other)
@@ -82,7 +79,7 @@ some_ending (step ∷ steps) state b =
     by later (Err r) a = ([], refused r, (r, refl, a))
 
 pub some_verdict : (rule : Rule) (formula : List Clause) (steps : List Step) → (words : List Accepted) × (ending : Ending) × Verdict rule formula steps words ending
-some_verdict rule formula steps = by (list_any is_empty formula) refl (some_ending steps (start rule formula) (start_finite rule formula))
+some_verdict rule formula steps = by _ refl (search (rules, some_ending, start_finite))
   where
     by : (v : Bool) → list_any is_empty formula ≡ v → ((words : List Accepted) × (ending : Ending) × Ends (start rule formula) steps words ending)
         → (words : List Accepted) × (ending : Ending) × Verdict rule formula steps words ending
@@ -99,7 +96,7 @@ last_is_empty word h = search rules
 ends_sound : (steps : List Step) (s : State) (words : List Accepted) → Ends s steps words verified → IsSatisfiable s → ⊥
 ends_sound (step ∷ steps) s (word ∷ words) e has_model = elim (cases_Bool (is_last word)) [
   | inl last ↦ search (rules, refutes, last_is_empty)
-  | inr goes_on ↦ ends_sound steps (after s step word) words (MatchBool-at_false _ _ goes_on e.1) (keeps s step word e.0 has_model)
+  | inr goes_on ↦ ends_sound steps _ words (search rules) (keeps s step word e.0 has_model)
 ]
 ends_sound steps s words h h2 = search rules
 

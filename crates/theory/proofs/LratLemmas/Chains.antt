@@ -1,9 +1,9 @@
 -- A walk over hints adds only literals that are forced, and a conflict in it is a clash.
-use Rattle.std.proofs.Common.{◌≡◌, ℕ, true, false, cond, eqb, Some, None, option_map, List, [], ◌∷◌}
-use Rattle.std.proofs.Common.{refl, sym, subst, inl, inr}
+use Rattle.std.proofs.Common.{arith, ◌≡◌, ℕ, true, false, cond, eqb, Some, option_map, List, []}
+use Rattle.std.proofs.Common.{◌∷◌, refl, sym, subst}
 use Rattle.std.specs.List.{list_all}
-use Rattle.theory.proofs.PropagationLemmas.{Open.IsAlone, Open.first_alone, Unit.clash_of_conflict}
-use Rattle.theory.proofs.PropagationLemmas.{Unit.left_is_forced, Unit.none_left_clashes}
+use Rattle.theory.proofs.PropagationLemmas.{Open.IsAlone, Open.first_alone, Unit.none_left_clashes}
+use Rattle.theory.proofs.PropagationLemmas.Unit.{clash_of_conflict, left_is_forced}
 use Rattle.theory.specs.Propagation.{Live, Forced, Clash, open_literals}
 use Rattle.theory.specs.Lrat.{ChainEnd, conflict, open_with, unknown, not_unit, look_at, chain}
 use Rattle.theory.specs.Sets.{conflicts}
@@ -40,11 +40,5 @@ module _ (live : Live) (assumed : List Literal) where
       let go_on : Literal → ChainEnd = λ l. chain live (l ∷ ls) hints in
       elim (conflicts ls) as (λ b. conflicts ls ≡ b → ChainMeans live assumed (cond b conflict (look_at k (option_map (open_literals ls) (live k)) go_on))) [
         | true ↦ λ h. clash_of_conflict live assumed ls forced h
-        | false ↦ λ h. elim (live k) as (λ o. live k ≡ o → ChainMeans live assumed (look_at k (option_map (open_literals ls) o) go_on)) [
-          | None ↦ λ at. tt
-          | Some c ↦ λ at. look_means ls forced k c at go_on (λ m new. chain_means hints (m ∷ ls) (λ a member. elim (has_cases m ls a member) [
-            | inl same ↦ subst (Forced live assumed) same new
-            | inr rest ↦ forced a rest
-          ]))
-        ] refl
+        | false ↦ grind (arith, look_means, has_cases, (chain_means hints))
       ] refl

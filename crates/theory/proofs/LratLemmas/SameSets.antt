@@ -1,26 +1,23 @@
 -- The rule of LRAT depends only on the sets of the live clauses.
-use Rattle.std.proofs.Common.{◌≡◌, ℕ, Bool, true, false, ◌||◌, cond, eqb, nat_le, Option, Some}
-use Rattle.std.proofs.Common.{None, option_map, is_none, Err, List, [], ◌∷◌, refl, sym, ap, ◌∙◌}
-use Rattle.std.proofs.Common.{subst, inl, inr, rules}
-use Rattle.std.proofs.lemmas.Bool.{false≢true, cases_Bool}
+use Rattle.std.proofs.Common.{arith, ◌≡◌, ℕ, Bool, true, ◌||◌, cond, eqb, nat_le, Option, Some, inl}
+use Rattle.std.proofs.Common.{option_map, is_none, Err, List, [], ◌∷◌, refl, sym, ap, ◌∙◌, subst}
+use Rattle.std.proofs.{lemmas.Bool.false≢true, lemmas.Bool.cases_Bool, Common.inr, Common.rules}
 use Rattle.std.specs.{Bool.MatchBool, List.list_all}
 use Rattle.theory.specs.declared.refusal.Refusal.{Refusal, TheVariants.IdOutOfOrder}
-use Rattle.theory.specs.{Propagation.Live, Propagation.open_literals, Answers.StepAnswer}
-use Rattle.theory.specs.Lrat.{ChainEnd, conflict, open_with, unknown, not_unit, look_at, chain}
-use Rattle.theory.specs.Lrat.{Group, LratStep, with_candidate, chain_refusal, group_refusal}
-use Rattle.theory.specs.Lrat.{groups_refusal, is_unsettled, is_left_out, AnswersGroups}
-use Rattle.theory.specs.Lrat.{AnswersChain, with_clause, without_id, without_ids, deletion_refusal}
-use Rattle.theory.specs.Lrat.{AnswersLrat, SameAt, SameClauses}
-use Rattle.theory.specs.Sets.{conflicts, SameSet}
+use Rattle.theory.specs.{Propagation.Live, Propagation.open_literals, Sets.conflicts, Sets.SameSet}
+use Rattle.theory.specs.{Answers.StepAnswer, Lrat.SameClauses}
+use Rattle.theory.specs.Lrat.{ChainEnd, conflict, not_unit, look_at, chain, Group, LratStep}
+use Rattle.theory.specs.Lrat.{with_candidate, chain_refusal, group_refusal, groups_refusal}
+use Rattle.theory.specs.Lrat.{is_unsettled, is_left_out, AnswersGroups, AnswersChain, with_clause}
+use Rattle.theory.specs.Lrat.{without_id, without_ids, deletion_refusal, AnswersLrat, SameAt}
 use Rattle.theory.proofs.PropagationLemmas.Conflicts.{conflicts_same}
 use Rattle.theory.proofs.PropagationLemmas.Open.{first_alone, alone_first}
 use Rattle.cnf_base.specs.Literals.{Literal, complement, Clause, has, complements, without}
 use Rattle.cnf_base.specs.Literals.{same_clause}
 use Rattle.cnf_base.proofs.SetLemmas.{both_pass, has_head, has-filter, filter_has, has_append_left}
-use Rattle.cnf_base.proofs.SetLemmas.{has_append_right, has_append_cases, has-complements}
 use Rattle.cnf_base.proofs.SetLemmas.{complements_has, has-without, without_has, same_there}
-use Rattle.cnf_base.proofs.SetLemmas.{same_back, same_symm}
-use Rattle.cnf_base.proofs.LiteralLemmas.{complement-complement}
+use Rattle.cnf_base.proofs.SetLemmas.{same_back, same_symm, has_append_right, has_append_cases}
+use Rattle.cnf_base.proofs.{LiteralLemmas.complement-complement, SetLemmas.has-complements}
 
 pub same_set_from : (c d : Clause) → same_clause c d ≡ true → SameSet c d
 same_set_from c d same l = search (rules, both_pass, same_there, same_back)
@@ -47,10 +44,10 @@ module _ (j : ℕ) (go_on : Literal → ChainEnd) where
   both_alone k m xs ys same = elim (cases_Bool (list_all (λ l. eqb l k) xs)) [
     | inl all ↦
         let w = alone_there k m xs ys same all in
-        ap (λ b. cond b (go_on k) (not_unit j)) all ∙ ap go_on w.1 ∙ sym (ap (λ b. cond b (go_on m) (not_unit j)) w.0)
+        ap (λ b. cond b (go_on k) (not_unit j)) all ∙ ap go_on w.1 ∙ sym (search rules)
     | inr two ↦ elim (cases_Bool (list_all (λ l. eqb l m) ys)) [
       | inl all ↦ absurd (false≢true (sym two ∙ (alone_there m k ys xs (λ l. sym (same l)) all).0))
-      | inr too ↦ ap (λ b. cond b (go_on k) (not_unit j)) two ∙ sym (ap (λ b. cond b (go_on m) (not_unit j)) too)
+      | inr too ↦ cc
     ]
   ]
 
@@ -69,27 +66,20 @@ module _ (live other : Live) (same_clauses : SameClauses live other) where
   -- from one list, a walk has one end
   chain_is : (hints : List ℕ) (ls : List Literal) → chain live ls hints ≡ chain other ls hints
   chain_is [] ls = refl
-  chain_is (k ∷ hints) ls =
-      let on_live : Literal → ChainEnd = λ l. chain live (l ∷ ls) hints in
-      ap (cond (conflicts ls) conflict) (looks_same k on_live ls ls (λ l. refl) (live k) (other k) (same_clauses.at k))
-      ∙ ap (λ (f : Literal → ChainEnd). cond (conflicts ls) conflict (look_at k (option_map (open_literals ls) (other k)) f)) (λ i l. chain_is hints (l ∷ ls) i)
-
-  refusals_look : (r : Refusal) (k : ℕ) (o : Option Clause) (f g : Literal → ChainEnd) → ((l : Literal) → chain_refusal r (f l) ≡ chain_refusal r (g l)) → chain_refusal r (look_at k o f) ≡ chain_refusal r (look_at k o g)
-  refusals_look r k o f g h = search rules
+  chain_is (k ∷ hints) ls = grind (arith, looks_same, (chain_is hints))
 
   -- from lists that are the same set, a walk is refused alike
   pub chain_alike : (r : Refusal) (hints : List ℕ) (first second : List Literal) → SameSet first second → chain_refusal r (chain live first hints) ≡ chain_refusal r (chain other second hints)
   chain_alike r [] first second same = search (rules, conflicts_same)
   chain_alike r (k ∷ hints) first second same =
-      by_conflict (conflicts first) (λ l. chain_alike r hints (l ∷ first) (l ∷ second) (same_set_more first second l same))
-      ∙ ap (λ e. chain_refusal r (cond (conflicts first) conflict e)) (looks_same k (λ l. chain other (l ∷ second) hints) first second same (live k) (other k) (same_clauses.at k))
+      by_conflict _ (λ l. chain_alike r hints _ _ (search rules))
+      ∙ ap (λ e. chain_refusal r (cond (conflicts first) conflict e)) (search (rules, looks_same))
       ∙ ap (λ b. chain_refusal r (cond b conflict (look_at k (option_map (open_literals second) (other k)) (λ l. chain other (l ∷ second) hints)))) (conflicts_same first second same)
     where
       by_conflict : (b : Bool) → ((l : Literal) → chain_refusal r (chain live (l ∷ first) hints) ≡ chain_refusal r (chain other (l ∷ second) hints)) →
           chain_refusal r (cond b conflict (look_at k (option_map (open_literals first) (live k)) (λ l. chain live (l ∷ first) hints)))
           ≡ chain_refusal r (cond b conflict (look_at k (option_map (open_literals first) (live k)) (λ l. chain other (l ∷ second) hints)))
-      by_conflict true each = refl
-      by_conflict false each = refusals_look r k (option_map (open_literals first) (live k)) (λ l. chain live (l ∷ first) hints) (λ l. chain other (l ∷ second) hints) each
+      by_conflict b h = search rules
 
   -- ---- Candidates
 
@@ -98,21 +88,18 @@ module _ (live other : Live) (same_clauses : SameClauses live other) where
       elim (has_append_cases ls (complements (without c (complement pivot))) l h) [
         | inl g ↦ has_append_left ls _ l g
         | inr g ↦
-            let w = without_has c (complement pivot) (complement l) (complements_has (without c (complement pivot)) l g) in
+            let w = without_has c _ _ (complements_has _ l g) in
             has_append_right ls (complements (without d (complement pivot))) l
             (subst (λ x. has (complements (without d (complement pivot))) x ≡ true) (complement-complement l)
-            (has-complements (without d (complement pivot)) (complement l) (has-without d (complement pivot) (complement l) (same_there c d same (complement l) w.0) w.1)))
+            (search (rules, has-complements, has-without, same_there)))
       ]
 
   candidate_same : (ls : List Literal) (c d : Clause) (pivot : Literal) → same_clause c d ≡ true → SameSet (with_candidate ls c pivot) (with_candidate ls d pivot)
   candidate_same ls c d pivot same l = search (rules, both_pass, candidate_there, same_symm)
 
   group_same : (ls : List Literal) (pivot : Literal) (earlier : List ℕ) (group : Group) (a b : Option Clause) → SameAt a b → group_refusal live ls pivot earlier group a ≡ group_refusal other ls pivot earlier group b
-  group_same ls pivot earlier group None None h = refl
-  group_same ls pivot earlier group (Some c) (Some d) h =
-      search (rules, same_set_from, chain_alike, candidate_same)
-  group_same ls pivot earlier group None (Some d) h = absurd h
-  group_same ls pivot earlier group (Some c) None h = absurd h
+  group_same ls pivot earlier group a b h =
+      grind (arith, same_set_from, chain_alike, candidate_same)
 
   groups_same : (ls : List Literal) (pivot : Literal) (groups : List Group) (earlier : List ℕ) → groups_refusal live ls pivot earlier groups ≡ groups_refusal other ls pivot earlier groups
   groups_same ls pivot [] earlier = refl
@@ -120,11 +107,7 @@ module _ (live other : Live) (same_clauses : SameClauses live other) where
       search (rules, group_same, (groups_same ls pivot groups (group.candidate ∷ earlier)))
 
   unsettled_same : (ls : List Literal) (pivot : Literal) (a b : Option Clause) → SameAt a b → is_unsettled ls pivot a ≡ is_unsettled ls pivot b
-  unsettled_same ls pivot None None h = refl
-  unsettled_same ls pivot (Some c) (Some d) h =
-      search (rules, same_set_from, conflicts_same, candidate_same)
-  unsettled_same ls pivot None (Some d) h = absurd h
-  unsettled_same ls pivot (Some c) None h = absurd h
+  unsettled_same ls pivot a b h = grind (arith, same_set_from, conflicts_same, candidate_same)
 
   left_out_same : (ls : List Literal) (pivot : Literal) (groups : List Group) (k : ℕ) → is_left_out live ls pivot groups k ≡ is_left_out other ls pivot groups k
   left_out_same ls pivot groups k = search (rules, unsettled_same)
@@ -135,21 +118,12 @@ module _ (live other : Live) (same_clauses : SameClauses live other) where
   groups_answer ls pivot groups refusal answer h = search (rules, left_out_same)
 
   chain_answer : (c : List Literal) (groups : List Group) (end : ChainEnd) (answer : StepAnswer) → AnswersChain live c groups end answer → AnswersChain other c groups end answer
-  chain_answer [] groups conflict answer a = a
-  chain_answer (l ∷ c) groups conflict answer a = a
-  chain_answer [] groups (unknown k) answer a = a
-  chain_answer (l ∷ c) groups (unknown k) answer a = a
-  chain_answer [] groups (not_unit k) answer a = a
-  chain_answer (l ∷ c) groups (not_unit k) answer a = a
-  chain_answer [] groups (open_with ls) answer a = a
-  chain_answer (pivot ∷ c) groups (open_with ls) answer a =
-      search (rules, groups_same, groups_answer)
+  chain_answer c groups end answer h = grind (arith, groups_same, groups_answer)
 
   add_answer : (top id : ℕ) (c : List Literal) (units : List ℕ) (groups : List Group) (answer : StepAnswer) (late : Bool) →
       MatchBool late (answer ≡ Err IdOutOfOrder) (AnswersChain live c groups (chain live (complements c) units) answer) →
       MatchBool late (answer ≡ Err IdOutOfOrder) (AnswersChain other c groups (chain other (complements c) units) answer)
-  add_answer top id c units groups answer true a = a
-  add_answer top id c units groups answer false a = search (rules, chain_is, chain_answer)
+  add_answer top id c units groups answer late h = grind (arith, chain_is, chain_answer)
 
 -- ---- Deletions, and what is alive
 
@@ -164,16 +138,15 @@ without_same first second id same = search rules
 
 pub without_all_same : (ids : List ℕ) (first second : Live) → SameClauses first second → SameClauses (without_ids first ids) (without_ids second ids)
 without_all_same [] first second same = same
-without_all_same (id ∷ ids) first second same = without_all_same ids (without_id first id) (without_id second id) (without_same first second id same)
+without_all_same (id ∷ ids) first second same = without_all_same ids _ _ (search rules)
 
 deletion_same : (ids : List ℕ) (first second : Live) → SameClauses first second → deletion_refusal first ids ≡ deletion_refusal second ids
 deletion_same [] first second same = refl
-deletion_same (id ∷ ids) first second same = search (
-  rules,
+deletion_same (id ∷ ids) first second same = grind (
+  arith,
   is_none_same,
-  is_none,
   without_same,
-  (deletion_same ids (without_id first id) (without_id second id) (without_same first second id same)),
+  (deletion_same ids (without_id first id) _ (without_same first second id same)),
 )
 
 pub lrat_same : (first second : Live) (top : ℕ) (step : LratStep) (answer : StepAnswer) → SameClauses first second → AnswersLrat (record { live = first; top = top }) step answer → AnswersLrat (record { live = second; top = top }) step answer

@@ -3,10 +3,9 @@ use Rattle.std.proofs.Common.{◌≡◌, ℕ, suc, ◌+◌, true, cond, eqb, ne_
 use Rattle.std.proofs.Common.{length, slice_get, subst, rules}
 use Rattle.cnf_base.specs.Literals.{Clause, same_clause}
 use Rattle.cnf_base.proofs.SetLemmas.{any_from, any_some, same_itself, same_there, same_symm}
-use Rattle.theory.specs.{Propagation.Live, Models.Assignment, Models.holds, Models.satisfies}
-use Rattle.theory.specs.{Models.Models, Models.HasModel, Answers.StepAnswer, Drat.SameLive}
+use Rattle.theory.specs.{Propagation.Live, Answers.StepAnswer, Lrat.SameClauses, Drat.SameLive}
+use Rattle.theory.specs.Models.{Assignment, holds, satisfies, Models, HasModel}
 use Rattle.theory.specs.Lrat.{LratState, LratStep, AnswersLrat, after_lrat, with_clause, numbered}
-use Rattle.theory.specs.Lrat.{SameClauses}
 use Rattle.theory.proofs.DratLemmas.Copies.{covers_of}
 use Rattle.theory.proofs.LratLemmas.SameSets.{with_same, without_all_same, lrat_same}
 

@@ -1,20 +1,17 @@
 -- What an accepted LRAT step shows.
-use Rattle.std.proofs.Common.{◌≡◌, ℕ, true, false, not, eqb, eqb-true, nat_le, Option, Some, None}
-use Rattle.std.proofs.Common.{Ok, Err, List, [], ◌∷◌, ◌++◌, sym, ap, ◌∙◌, subst, inl, inr, arith}
-use Rattle.std.proofs.Common.{rules}
+use Rattle.std.proofs.Common.{◌≡◌, ℕ, true, false, eqb, eqb-true, nat_le, Option, Some, None, Ok}
+use Rattle.std.proofs.Common.{Err, List, [], ◌∷◌, ◌++◌, sym, ◌∙◌, subst, inl, inr, arith, rules}
 use Rattle.std.proofs.lemmas.Bool.{false≢true, true≢false, cases_Bool, or_cases, and_cases}
 use Rattle.std.proofs.lemmas.Bool.{not-false, MatchBool-at_true, MatchBool-at_false}
 use Rattle.std.proofs.lemmas.{Bool.Decides.nat_tests, Grind.common_steps}
 use Rattle.std.specs.{Option.option_or, List.list_any}
 use Rattle.theory.specs.declared.accepted.Accepted.{Accepted, TheVariants.Deleted}
-use Rattle.theory.specs.declared.refusal.Refusal.{Refusal}
+use Rattle.theory.specs.{declared.refusal.Refusal.Refusal, Answers.StepAnswer, Laws.IsRedundant}
 use Rattle.theory.specs.declared.refusal.Refusal.TheVariants.{IdOutOfOrder, GroupWithoutConflict}
 use Rattle.theory.specs.Propagation.{Live, Forced, Clash, HasRat, by_both}
-use Rattle.theory.specs.Answers.{StepAnswer}
 use Rattle.theory.specs.Lrat.{ChainEnd, conflict, chain, Group, LratState, add, with_candidate}
-use Rattle.theory.specs.Lrat.{chain_refusal, group_refusal, groups_refusal, is_unsettled}
-use Rattle.theory.specs.Lrat.{is_left_out, AnswersGroups, AnswersChain, AnswersLrat, answer_of}
-use Rattle.theory.specs.{Sets.conflicts, Laws.IsRedundant}
+use Rattle.theory.specs.Lrat.{AnswersGroups, AnswersChain, AnswersLrat, answer_of, chain_refusal}
+use Rattle.theory.specs.{Sets.conflicts, Lrat.group_refusal, Lrat.groups_refusal, Lrat.is_left_out}
 use Rattle.theory.proofs.PropagationLemmas.Forced.{forced_assumed, forced_through, clash_through}
 use Rattle.theory.proofs.PropagationLemmas.Conflicts.{conflicts_some}
 use Rattle.theory.proofs.LratLemmas.Chains.{ChainMeans, chain_means}
@@ -48,7 +45,7 @@ module _ (live : Live) (ls : List Literal) (pivot : Literal) where
       elim (or_cases (eqb group.candidate k) (list_any (λ g. eqb g.candidate k) groups) named) [
         | inl here ↦
             let same = eqb-true group.candidate k here in
-            group_clash earlier group d (sym (ap (group_refusal live ls pivot earlier group) (ap live same ∙ at)) ∙ parts.0)
+            group_clash earlier group d (search rules)
         | inr there ↦ groups_clash groups (group.candidate ∷ earlier) parts.1 k there d at
       ]
 
@@ -58,17 +55,14 @@ module _ (live : Live) (ls : List Literal) (pivot : Literal) where
       let w = conflicts_some (with_candidate ls d pivot) h in
       by_both w.0 (forced_assumed live _ w.0 w.1) (forced_assumed live _ (complement w.0) w.2)
 
-  settled : (d : Clause) → has d (complement pivot) ≡ true → is_unsettled ls pivot (Some d) ≡ false → conflicts (with_candidate ls d pivot) ≡ true
-  settled d member h = search rules
-
   candidate_clash : (groups : List Group) → groups_refusal live ls pivot [] groups ≡ None → ((k : ℕ) → is_left_out live ls pivot groups k ≡ false) → (k : ℕ) (d : Clause) → live k ≡ Some d → has d (complement pivot) ≡ true → Clash live (with_candidate ls d pivot)
   candidate_clash groups e none_left k d at member =
       elim (cases_Bool (list_any (λ group. eqb group.candidate k) groups)) [
         | inl named ↦ groups_clash groups [] e k named d at
         | inr unnamed ↦
-            elim (and_cases (not (list_any (λ group. eqb group.candidate k) groups)) (is_unsettled ls pivot (live k)) (none_left k)) [
+            elim (and_cases _ _ (none_left k)) [
               | inl h ↦ absurd (true≢false (sym (not-false _ h) ∙ unnamed))
-              | inr h ↦ conflict_clash d (settled d member (sym (ap (is_unsettled ls pivot) at) ∙ h))
+              | inr h ↦ conflict_clash d (search rules)
             ]
       ]
 

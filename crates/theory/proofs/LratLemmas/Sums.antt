@@ -1,6 +1,6 @@
 -- Sums of sizes over identifiers.
 use Rattle.std.proofs.Common.{◌≡◌, ◌≢◌, ℕ, zero, suc, ◌+◌, ◌<◌, ◌≤◌, cond, ne_eqb, eq-eqb, Some}
-use Rattle.std.proofs.Common.{None, refl, sym, ap, ◌∙◌, arith, inl, inr, rules}
+use Rattle.std.proofs.Common.{None, refl, ap, ◌∙◌, arith, inl, inr, rules}
 use Rattle.std.proofs.lemmas.Bool.{cases_lt, cases_eq}
 use Rattle.cnf_base.specs.Literals.{Clause, size}
 use Rattle.theory.specs.{Propagation.Live, Lrat.with_clause, Lrat.without_id}
@@ -22,14 +22,8 @@ sum_above top (suc n) f le none = elim (cases_lt n top) [
 -- a change at one identifier
 pub sum_change : (n id : ℕ) (f g : ℕ → ℕ) → 1 ≤ id → id ≤ n → ((k : ℕ) → k ≢ id → f k ≡ g k) → sum_to n f + g id ≡ sum_to n g + f id
 sum_change zero id f g low high same = absurd (let h : ⊥ = omega arith in h)
-sum_change (suc n) id f g low high same = elim (cases_eq (suc n) id) [
-  | inl e ↦ search (rules, arith, sum_agree)
-  | inr apart ↦
-      let here : f (suc n) ≡ g (suc n) = same (suc n) apart in
-      let within : id ≤ n = omega arith in
-      let below = sum_change n id f g low within same in
-      omega arith
-]
+sum_change (suc n) id f g low high same =
+    grind (arith, cases_eq, sum_agree, (sum_change n id f g low))
 
 -- ---- Clauses
 
@@ -53,15 +47,15 @@ sum_with live after top id c above none is =
     let at_id : size_at (after id) ≡ size c = ap size_at (is id ∙ with_here live id c) in
     let was : size_at (live id) ≡ 0 = ap size_at (none id above) in
     let change = sum_change id id (λ k. size_at (after k)) (λ k. size_at (live k)) (omega arith) (omega arith) (λ k apart. ap size_at (is k ∙ with_other live id c k apart)) in
-    let rest = sum_above top id (λ k. size_at (live k)) (omega arith) (λ k past. ap size_at (none k past)) in
+    let rest = sum_above top id _ (omega arith) (λ k past. ap size_at (none k past)) in
     omega arith
 
 -- a clause that is taken off
 pub sum_without : (live after : Live) (top id : ℕ) → live 0 ≡ None → ((k : ℕ) → top < k → live k ≡ None) → ((k : ℕ) → after k ≡ without_id live id k) → (c : Clause) → live id ≡ Some c →
     sum_to top (λ k. size_at (after k)) + size c ≡ sum_to top (λ k. size_at (live k))
 sum_without live after top id zero_none none is c at =
-    let low : 1 ≤ id = elim (cases_lt 0 id) [ inl h ↦ h | inr h ↦ absurd (apart c (sym at ∙ ap live (let e : id ≡ 0 = omega arith in e) ∙ zero_none)) ] in
-    let high : id ≤ top = elim (cases_lt top id) [ inl h ↦ absurd (apart c (sym at ∙ none id h)) | inr h ↦ h ] in
+    let low : 1 ≤ id = search rules in
+    let high : id ≤ top = search rules in
     let at_id : size_at (after id) ≡ 0 = ap size_at (is id ∙ without_here live id) in
     let was : size_at (live id) ≡ size c = ap size_at at in
     let change = sum_change top id (λ k. size_at (after k)) (λ k. size_at (live k)) low high (λ k apart. ap size_at (is k ∙ without_other live id k apart)) in

@@ -1,8 +1,7 @@
 -- The literals of a clause that are not false.
-use Rattle.std.proofs.Common.{◌≡◌, true, false, eqb, eqb-true, eq-eqb, List}
-use Rattle.std.proofs.Common.{◌∷◌, sym, ◌∙◌, ◌⊎◌, rules}
+use Rattle.std.proofs.Common.{◌≡◌, true, false, eqb, eqb-true, eq-eqb, List, ◌∷◌, sym, ◌∙◌, ◌⊎◌}
+use Rattle.std.proofs.{Common.rules, lemmas.Bool.cases_Bool, lemmas.Bool.not-true}
 use Rattle.std.specs.List.{list_all}
-use Rattle.std.proofs.lemmas.Bool.{cases_Bool, not-true}
 use Rattle.cnf_base.specs.Literals.{Literal, complement, Clause, has}
 use Rattle.cnf_base.proofs.SetLemmas.{has_head, has_tail, has_cases, all_each, each_all, has-filter}
 use Rattle.cnf_base.proofs.SetLemmas.{filter_has}

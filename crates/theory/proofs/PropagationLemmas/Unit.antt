@@ -1,11 +1,10 @@
 -- The unit rule by the literals of clauses that are not false: what follows, and where nothing more does.
-use Rattle.std.proofs.Common.{◌≡◌, ℕ, true, false, Some, List, [], sym, ap, ◌∙◌, inl, inr, rules}
+use Rattle.std.proofs.Common.{arith, ◌≡◌, ℕ, true, false, Some, List, [], sym, ap, ◌∙◌, inl, inr}
+use Rattle.std.proofs.Common.{rules}
 use Rattle.std.proofs.lemmas.Bool.{false≢true, true≢false, cases_eq}
 use Rattle.cnf_base.specs.Literals.{Literal, complement, Clause, has}
-use Rattle.theory.specs.Code.Propagation.{OthersFail, IsClosedAt}
-use Rattle.theory.specs.Propagation.{Live, IsClosed, Forced, Clash, open_literals, by_empty}
-use Rattle.theory.specs.Propagation.{by_both}
-use Rattle.theory.specs.Sets.{conflicts}
+use Rattle.theory.specs.{Code.Propagation.OthersFail, Code.Propagation.IsClosedAt, Sets.conflicts}
+use Rattle.theory.specs.Propagation.{Live, IsClosed, Forced, Clash, open_literals, by_both}
 use Rattle.theory.proofs.PropagationLemmas.Conflicts.{conflict_from, conflicts_some}
 use Rattle.theory.proofs.PropagationLemmas.Forced.{forced_unit, clash_by_false}
 use Rattle.theory.proofs.PropagationLemmas.Open.{AreAll, IsAlone, open_has, open_cases}
@@ -55,6 +54,4 @@ module _ (live : Live) (assumed : List Literal) where
 -- where no two of the literals clash either, nothing does
 pub closed_quiet : (live : Live) (ls : List Literal) → IsClosed live (has ls) → ((k : ℕ) → live k ≡ Some [] → ⊥) →
     (assumed : List Literal) → ((a : Literal) → has assumed a ≡ true → has ls a ≡ true) → conflicts ls ≡ false → Clash live assumed → ⊥
-closed_quiet live ls closed no_empty assumed start quiet (by_empty k at) = no_empty k at
-closed_quiet live ls closed no_empty assumed start quiet (by_both l f g) =
-    search (rules, true≢false, conflict_from)
+closed_quiet live ls closed some assumed start quiet h = grind (arith, true≢false, conflict_from)

@@ -1,6 +1,6 @@
 -- Clauses under a map of literals that another map undoes.
-use Rattle.std.proofs.Common.{◌≡◌, ℕ, zero, suc, take, drop, Bool, true, eqb, List, [], ◌∷◌, ◌++◌}
-use Rattle.std.proofs.Common.{map, filter, refl, sym, ap, ◌∙◌, subst, inl, inr, rules}
+use Rattle.std.proofs.Common.{arith, ◌≡◌, ℕ, zero, suc, take, drop, Bool, true, eqb, List, [], ◌∷◌}
+use Rattle.std.proofs.Common.{◌++◌, map, filter, refl, sym, ap, ◌∙◌, rules}
 use Rattle.std.proofs.lemmas.Bool.{false≢true}
 use Rattle.std.specs.List.{list_any, list_all}
 use Rattle.cnf_base.specs.Literals.{Literal, complement, Clause, has, complements, without}
@@ -15,17 +15,11 @@ AreAmong among c = (l : Literal) → has c l ≡ true → among l
 module _ (f : Literal → Literal) where
   pub has_mapped : (c : Clause) (l : Literal) → has c l ≡ true → has (map f c) (f l) ≡ true
   has_mapped [] l h = absurd (false≢true h)
-  has_mapped (k ∷ c) l h = elim (has_cases k c l h) [
-    | inl e ↦ subst (λ m. has (f k ∷ map f c) (f m) ≡ true) e (has_head (f k) (map f c))
-    | inr t ↦ has_tail (f k) (map f c) (f l) (has_mapped c l t)
-  ]
+  has_mapped (k ∷ c) l h = grind (arith, has_cases, has_head, has_tail, (has_mapped c l))
 
   pub mapped_has : (c : Clause) (m : Literal) → has (map f c) m ≡ true → (l : Literal) × (has c l ≡ true) × (f l ≡ m)
   mapped_has [] m h = absurd (false≢true h)
-  mapped_has (k ∷ c) m h = elim (has_cases (f k) (map f c) m h) [
-    | inl e ↦ (k, has_head k c, e)
-    | inr t ↦ let w = mapped_has c m t in (w.0, has_tail k c w.0 w.1, w.2)
-  ]
+  mapped_has (k ∷ c) m h = grind (arith, has_cases, has_head, has_tail, (mapped_has c m))
 
   -- tests that agree on the literals of a list
   module _ (p q : Literal → Bool) where
@@ -69,7 +63,7 @@ module _ (there back : Literal → Literal) (among : Literal → Type 0) (r : Re
 
   pub back_there : (c : Clause) → AreAmong among c → map back (map there c) ≡ c
   back_there [] within = refl
-  back_there (k ∷ c) within = λ i. r.undone k (within k (has_head k c)) i ∷ back_there c (λ l h. within l (has_tail k c l h)) i
+  back_there (k ∷ c) within = λ i. r.undone k (search rules) i ∷ back_there c (search rules) i
 
   pub complements_mapped : (c : Clause) → complements (map there c) ≡ map there (complements c)
   complements_mapped [] = refl
@@ -108,10 +102,7 @@ module _ (there back : Literal → Literal) (among : Literal → Type 0) (r : Re
 pub take_has : (n : ℕ) (c : List Literal) (l : Literal) → has (take n c) l ≡ true → has c l ≡ true
 take_has zero c l h = absurd (false≢true h)
 take_has (suc n) [] l h = h
-take_has (suc n) (k ∷ c) l h = elim (has_cases k (take n c) l h) [
-  | inl e ↦ subst (λ m. has (k ∷ c) m ≡ true) e (has_head k c)
-  | inr t ↦ has_tail k c l (take_has n c l t)
-]
+take_has (suc n) (k ∷ c) l h = grind (arith, has_cases, has_head, has_tail, (take_has n c l))
 
 pub drop_has : (n : ℕ) (c : List Literal) (l : Literal) → has (drop n c) l ≡ true → has c l ≡ true
 drop_has zero c l h = h

@@ -6,24 +6,21 @@ use Rattle.std.proofs.lemmas.List.{length-map}
 use Rattle.std.proofs.lemmas.Option.{none-some, same_Some, slice_get-map}
 use Rattle.std.specs.List.{list_any, take-map, drop-map, prefix_len}
 use Rattle.cnf_base.specs.Literals.{Literal, complement, Clause, same_clause}
-use Rattle.cnf_base.proofs.SetLemmas.{has_head, has_tail}
+use Rattle.cnf_base.proofs.SetLemmas.{has_head}
 use Rattle.proofs.specs.{Steps.clause_part, Steps.witness_part, declared.step_buf.StepKind.StepKind}
-use Rattle.theory.specs.declared.accepted.Accepted.{Accepted}
+use Rattle.theory.specs.declared.accepted.Accepted.{Accepted, TheVariants.Ignored}
 use Rattle.theory.specs.declared.accepted.Accepted.TheVariants.{Rup, Rat, Pr, Empty, Deleted}
-use Rattle.theory.specs.declared.accepted.Accepted.TheVariants.{Ignored}
 use Rattle.theory.specs.declared.refusal.Refusal.TheVariants.{NotRup, NeitherRupNorRat, NotAlive}
 use Rattle.theory.specs.declared.refusal.Refusal.TheVariants.{InconsistentSet, NeitherRupNorPr}
-use Rattle.theory.specs.{declared.drat_rules.DratRules.DratRules, Answers.StepAnswer}
-use Rattle.theory.specs.Renaming.{answer_renamed}
+use Rattle.theory.specs.{declared.drat_rules.DratRules.DratRules, Renaming.answer_renamed}
+use Rattle.theory.specs.{Answers.StepAnswer, Drat.AnswersDelete, Drat.AnswersDrat, Drat.IsKeptUnit}
 use Rattle.theory.specs.Propagation.{Live, HasRup, HasRat, HasPr, IsRootReason}
 use Rattle.theory.specs.Drat.{DratStep, add, delete, addition_of, drat_step_of, take_off}
 use Rattle.theory.specs.Drat.{after_drat, AnswersAdd, AnswersWithWitness, AnswersListed}
-use Rattle.theory.specs.Drat.{AnswersDelete, AnswersDrat, IsKeptUnit}
 use Rattle.theory.proofs.RenamingLemmas.Clauses.{AreAmong, Renames, GoesTo, mapped_among}
 use Rattle.theory.proofs.RenamingLemmas.Clauses.{back_there, conflicts_mapped, same_mapped}
-use Rattle.theory.proofs.RenamingLemmas.Clauses.{equal_is}
+use Rattle.theory.proofs.RenamingLemmas.{Clauses.equal_is, Forced.reason_image}
 use Rattle.theory.proofs.RenamingLemmas.Forced.{Carries, carries_back, rup_of, rat_image, pr_image}
-use Rattle.theory.proofs.RenamingLemmas.Forced.{reason_image}
 
 -- a step whose literals are mapped
 abbrev pub drat_mapped : (Literal → Literal) → DratStep → DratStep
@@ -60,7 +57,7 @@ module _ (there back : Literal → Literal) (among : Literal → Type 0) (r : Re
     rat_back c pivot within a rat =
         subst (λ d. HasRat live d pivot) (back_there there back among r c within)
         (subst (HasRat live (map back (map there c))) (r.undone pivot a)
-        (rat_image back there (GoesTo there among) other live back_again (map there c) (there pivot) (pivot, a, refl) rat))
+        (rat_image back there _ other live back_again _ _ (pivot, a, refl) rat))
 
     pub pr_back : (c witness : List Literal) → AreAmong among c → AreAmong among witness → HasPr other (map there c) (map there witness) → HasPr live c witness
     pr_back c witness c_within w_within pr =
@@ -94,10 +91,7 @@ module _ (there back : Literal → Literal) (among : Literal → Type 0) (r : Re
         (λ b. a.0 (rup_again (l ∷ c) w b), rat_image there back among (slice_get live) (slice_get other) listed (l ∷ c) l (w l (has_head l c)) a.1)
     add_mapped (l ∷ c) (Err (NeitherRupNorRat m)) w a =
         (ap there a.0, λ b. a.1 (rup_again (l ∷ c) w b), λ b. a.2 (rat_back (slice_get live) (slice_get other) listed (l ∷ c) l w (w l (has_head l c)) b))
-    add_mapped [] (Ok _) w a = absurd a
-    add_mapped [] (Err _) w a = absurd a
-    add_mapped (l ∷ c) (Ok _) w a = absurd a
-    add_mapped (l ∷ c) (Err _) w a = absurd a
+    add_mapped c answer w a = absurd a
 
     witness_mapped : (c witness : List Literal) (answer : StepAnswer) → AreAmong among c → AreAmong among witness → AnswersWithWitness (slice_get live) c witness answer →
         AnswersWithWitness (slice_get other) (map there c) (map there witness) (answer_renamed there answer)
@@ -107,8 +101,7 @@ module _ (there back : Literal → Literal) (among : Literal → Type 0) (r : Re
         (conflicts_mapped there back among r witness ww ∙ a.0, λ b. a.1 (rup_again c cw b), pr_image there back among (slice_get live) (slice_get other) listed c witness ww a.2)
     witness_mapped c witness (Err NeitherRupNorPr) cw ww a =
         (conflicts_mapped there back among r witness ww ∙ a.0, λ b. a.1 (rup_again c cw b), λ b. a.2 (pr_back (slice_get live) (slice_get other) listed c witness cw ww b))
-    witness_mapped c witness (Ok _) cw ww a = absurd a
-    witness_mapped c witness (Err _) cw ww a = absurd a
+    witness_mapped c witness answer cw ww a = absurd a
 
     listed_mapped : (c witness : List Literal) (answer : StepAnswer) → AreAmong among c → AreAmong among witness → AnswersListed (slice_get live) c witness answer →
         AnswersListed (slice_get other) (map there c) (map there witness) (answer_renamed there answer)
@@ -131,7 +124,7 @@ module _ (there back : Literal → Literal) (among : Literal → Type 0) (r : Re
     delete_mapped : (rules : DratRules) (c : List Literal) (answer : StepAnswer) → AreAmong among c → AnswersDelete rules live c answer → AnswersDelete rules (map (map there) live) (map there c) (answer_renamed there answer)
     delete_mapped rules c (Ok Deleted) w a = (alive_mapped live c within w ∙ a.0, λ kept. a.1 (kept_again live within rules c w kept))
     delete_mapped rules c (Ok Ignored) w a = elim a [
-      | inl kept ↦ inl (alive_mapped live c within w ∙ kept.0, kept_there live within rules c kept.1)
+      | inl kept ↦ inl (search (rules, alive_mapped, kept_there))
       | inr absent ↦ inr (alive_mapped live c within w ∙ absent.0, absent.1)
     ]
     delete_mapped rules c (Err NotAlive) w a = (alive_mapped live c within w ∙ a.0, a.1)
@@ -163,12 +156,12 @@ module _ (there back : Literal → Literal) (among : Literal → Type 0) (r : Re
   prefix_mapped first [] a w = refl
   prefix_mapped first (k ∷ c) a w =
       ap (λ b. cond (not b) (1 + prefix_len (λ l. not (eqb l (there first))) (map there c)) 0) (equal_is there back among r k first (w k (has_head k c)) a)
-      ∙ ap (λ n. cond (not (eqb k first)) (1 + n) 0) (prefix_mapped first c a (λ l h. w l (has_tail k c l h)))
+      ∙ ap (λ n. cond (not (eqb k first)) (1 + n) 0) (prefix_mapped first c a (search rules))
 
   pub clause_part_mapped : (lits : List Literal) → AreAmong among lits → clause_part (map there lits) ≡ map there (clause_part lits)
   clause_part_mapped [] w = refl
   clause_part_mapped (first ∷ rest) w = ap (λ ls. there first ∷ ls)
-      (ap (λ n. take n (map there rest)) (prefix_mapped first rest (w first (has_head first rest)) (λ l h. w l (has_tail first rest l h)))
+      (ap (λ n. take n (map there rest)) (prefix_mapped first rest (search rules) (search rules))
       ∙ take-map there (prefix_len (λ l. not (eqb l first)) rest) rest)
 
   pub witness_part_mapped : (lits : List Literal) → AreAmong among lits → witness_part (map there lits) ≡ map there (witness_part lits)

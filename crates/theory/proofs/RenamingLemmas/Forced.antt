@@ -1,13 +1,13 @@
 -- What is forced under other names, and the clauses that are redundant.
-use Rattle.std.proofs.Common.{◌≡◌, ◌≢◌, ℕ, Bool, true, false, Some, List, [], ◌∷◌, ◌++◌}
-use Rattle.std.proofs.Common.{map, refl, sym, ap, ◌∙◌, subst, inl, inr, ◌⊎◌, rules}
+use Rattle.std.proofs.Common.{arith, ◌≡◌, ◌≢◌, ℕ, Bool, true, false, Some, List, [], ◌∷◌, ◌++◌, map}
+use Rattle.std.proofs.Common.{refl, sym, ap, ◌∙◌, subst, inl, inr, ◌⊎◌, rules}
 use Rattle.std.proofs.lemmas.List.{map-append}
 use Rattle.cnf_base.specs.Literals.{Literal, complement, Clause, has, complements, without}
-use Rattle.theory.specs.Propagation.{Live, IsClosed, Forced, Clash, by_empty, by_both, open_literals}
-use Rattle.theory.specs.Propagation.{IsRootReason, HasRup, HasRat, HasPr}
+use Rattle.theory.specs.Propagation.{Live, IsClosed, Forced, Clash, by_empty, by_both}
+use Rattle.theory.specs.Propagation.{open_literals, IsRootReason, HasRup, HasRat, HasPr}
 use Rattle.theory.proofs.RenamingLemmas.Clauses.{AreAmong, Renames, GoesTo, reversed, has_mapped}
-use Rattle.theory.proofs.RenamingLemmas.Clauses.{mapped_has, has_is}
-use Rattle.theory.proofs.RenamingLemmas.Clauses.{without_mapped, open_mapped, mapped_among}
+use Rattle.theory.proofs.RenamingLemmas.Clauses.{mapped_has, has_is, without_mapped, open_mapped}
+use Rattle.theory.proofs.RenamingLemmas.Clauses.{mapped_among}
 
 -- each clause of the one has its image in the other
 abbrev pub HasImages : (Literal → Literal) → Live → Live → Type 0
@@ -32,7 +32,7 @@ module _ (f : Literal → Literal) (commutes : (l : Literal) → complement (f l
   pub clash_image : (assumed : List Literal) → Clash live assumed → Clash other (map f assumed)
   clash_image assumed (by_empty k at) = by_empty k (images k [] at)
   clash_image assumed (by_both l x y) =
-      by_both (f l) (forced_image assumed l x) (subst (Forced other (map f assumed)) (sym (commutes l)) (forced_image assumed (complement l) y))
+      by_both (f l) (forced_image assumed l x) (search (rules, forced_image))
 
   complements_image : (c : Clause) → map f (complements c) ≡ complements (map f c)
   complements_image [] = refl
@@ -58,7 +58,7 @@ module _ (there back : Literal → Literal) (among : Literal → Type 0) (live o
     renames = reversed there back among s.renames commutes;
     images = s.images_back;
     images_back = s.images;
-    within = λ k d at. subst (AreAmong (GoesTo there among)) (sym (is_image k d at)) (mapped_among there back among s.renames (map back d) (s.within k (map back d) (s.images_back k d at)));
+    within = λ k d at. subst (AreAmong _) (sym (is_image k d at)) (search (rules, mapped_among));
   }
 
   pub rup_of : (c : Clause) → HasRup live c → HasRup other (map there c)
@@ -81,11 +81,11 @@ module _ (there back : Literal → Literal) (among : Literal → Type 0) (live o
           let inside : has e (complement pivot) ≡ true =
           sym (has_is there back among s.renames e within (complement pivot) opposite)
           ∙ ap (has (map there e)) (sym name) ∙ ap (λ x. has x (complement (there pivot))) (sym image) ∙ member in
-          let left : map there (c ++ without e (complement pivot)) ≡ map there c ++ without d (complement (there pivot)) =
+          let left : map there _ ≡ map there c ++ without d _ =
           map-append there c (without e (complement pivot))
-          ∙ ap (λ x. map there c ++ x) (sym (without_mapped there back among s.renames e within (complement pivot) opposite)
+          ∙ ap (λ x. map there c ++ x) (sym (search (rules, without_mapped))
           ∙ (λ i. without (sym image i) (sym name i))) in
-          subst (HasRup other) left (rup_of (c ++ without e (complement pivot)) (rat.candidates k e at_back inside))
+          subst (HasRup other) left (rup_of _ (rat.candidates k e at_back inside))
 
   pub pr_image : (c : Clause) (witness : List Literal) → AreAmong among witness → HasPr live c witness → HasPr other (map there c) (map there witness)
   pr_image c witness w_within pr = record {
@@ -95,12 +95,7 @@ module _ (there back : Literal → Literal) (among : Literal → Type 0) (live o
   }
     where
       consistent : (m : Literal) → has (map there witness) m ≡ true → has (map there witness) (complement m) ≡ false
-      consistent m h =
-          let w = mapped_has there witness m h in
-          let a = w_within w.0 w.1 in
-          subst (λ x. has (map there witness) (complement x) ≡ false) w.2
-          (ap (has (map there witness)) (s.renames.commutes w.0)
-          ∙ has_is there back among s.renames witness w_within (complement w.0) (s.renames.opposite w.0 a) ∙ pr.consistent w.0 w.1)
+      consistent m h = grind (arith, mapped_has, has_is)
 
       others : (k : ℕ) (d : Clause) → other k ≡ Some d → ((l : Literal) × (has d l ≡ true) × (has (map there witness) l ≡ true)) ⊎ HasRup other (map there c ++ open_literals (map there witness) d)
       others k d at =
@@ -108,10 +103,10 @@ module _ (there back : Literal → Literal) (among : Literal → Type 0) (live o
           let at_back = s.images_back k d at in
           let image = is_image k d at in
           elim (pr.others k e at_back) [
-            | inl m ↦ inl (there m.0, ap (λ x. has x (there m.0)) image ∙ has_mapped there e m.0 m.1, has_mapped there witness m.0 m.2)
+            | inl m ↦ grind (arith, has_mapped)
             | inr rup ↦ inr (subst (HasRup other) (map-append there c (open_literals witness e)
-                ∙ ap (λ x. map there c ++ x) (sym (open_mapped there back among s.renames witness e w_within (s.within k e at_back))
-                ∙ ap (open_literals (map there witness)) (sym image))) (rup_of (c ++ open_literals witness e) rup))
+                ∙ ap (λ x. map there c ++ x) (sym (search (rules, open_mapped))
+                ∙ ap (open_literals _) (sym image))) (rup_of _ rup))
           ]
 
   pub reason_image : (c : Clause) → IsRootReason live c → IsRootReason other (map there c)
@@ -123,5 +118,5 @@ module _ (there back : Literal → Literal) (among : Literal → Type 0) (live o
         let w = mapped_has there c x h in
         subst (λ y. Forced other [] (complement y)) w.2
         (subst (Forced other []) (sym (s.renames.commutes w.0))
-        (forced_image there s.renames.commutes live other s.images [] (complement w.0) (r.others w.0 w.1 (λ e. ne (sym w.2 ∙ ap there e)))));
+        (forced_image there s.renames.commutes live other s.images [] _ (search rules)));
   }

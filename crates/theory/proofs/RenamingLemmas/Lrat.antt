@@ -1,20 +1,18 @@
 -- The rule of LRAT under other names.
-use Rattle.std.proofs.Common.{◌≡◌, ℕ, Bool, true, false, cond, eqb, nat_le, Option, Some, None}
-use Rattle.std.proofs.Common.{option_map, is_none, Err, List, [], ◌∷◌, map, refl, sym, ap, ◌∙◌}
-use Rattle.std.proofs.Common.{subst, rules}
+use Rattle.std.proofs.Common.{option_map, is_none, Err, List, [], ◌∷◌, map, refl, ap, ◌∙◌, subst, ℕ}
+use Rattle.std.proofs.Common.{rules, arith, ◌≡◌, Bool, true, false, cond, eqb, Option, Some, None}
 use Rattle.std.proofs.lemmas.{List.map-append, Option.none-some, Option.same_Some}
 use Rattle.std.specs.{Bool.then_some, Bool.MatchBool, Option.option_or, List.list_all, Prelude.⊤}
 use Rattle.cnf_base.specs.Literals.{Literal, Clause, complements}
 use Rattle.cnf_base.proofs.SetLemmas.{has_head, has_tail}
 use Rattle.theory.specs.declared.refusal.Refusal.{Refusal, TheVariants.IdOutOfOrder}
-use Rattle.theory.specs.Answers.{StepAnswer}
+use Rattle.theory.specs.{Answers.StepAnswer, Propagation.Live, Propagation.open_literals}
 use Rattle.theory.specs.Renaming.{refusal_renamed, answer_renamed, AreRenamed}
-use Rattle.theory.specs.{Propagation.Live, Propagation.open_literals, Sets.conflicts}
+use Rattle.theory.specs.{Sets.conflicts, Lrat.without_ids, Lrat.deletion_refusal, Lrat.answer_of}
 use Rattle.theory.specs.Lrat.{ChainEnd, conflict, open_with, unknown, not_unit, look_at, chain}
 use Rattle.theory.specs.Lrat.{Group, LratStep, add, delete, with_candidate, chain_refusal}
 use Rattle.theory.specs.Lrat.{group_refusal, groups_refusal, is_unsettled, is_left_out}
 use Rattle.theory.specs.Lrat.{AnswersGroups, AnswersChain, AnswersLrat, with_clause, without_id}
-use Rattle.theory.specs.Lrat.{without_ids, deletion_refusal, answer_of}
 use Rattle.theory.proofs.RenamingLemmas.Clauses.{AreAmong, Renames, all_mapped, equal_is}
 use Rattle.theory.proofs.RenamingLemmas.Clauses.{has_opposite, complements_mapped, without_mapped}
 use Rattle.theory.proofs.RenamingLemmas.Clauses.{open_mapped, conflicts_mapped, complements_among}
@@ -36,9 +34,6 @@ EndsAmong among (open_with ls) = AreAmong among ls
 EndsAmong among conflict = ⊤
 EndsAmong among (unknown k) = ⊤
 EndsAmong among (not_unit k) = ⊤
-
-more_among : (among : Literal → Type 0) (l : Literal) (ls : List Literal) → among l → AreAmong among ls → AreAmong among (l ∷ ls)
-more_among among l ls a w k h = search rules
 
 module _ (f : Literal → Literal) where
   refusal_of_end : (r : Refusal) → refusal_renamed f r ≡ r → (e : ChainEnd) → chain_refusal r (end_mapped f e) ≡ option_map (refusal_renamed f) (chain_refusal r e)
@@ -82,8 +77,8 @@ module _ (there back : Literal → Literal) (among : Literal → Type 0) (r : Re
         ∙ ap (cond (conflicts ls) conflict)
         (ap (λ o. look_at k (option_map (open_literals (map there ls)) o) (λ l. chain other (l ∷ map there ls) hints)) (mapped k)
         ∙ ap (λ o. look_at k o (λ l. chain other (l ∷ map there ls) hints)) (left_mapped ls w (live k) (within k))
-        ∙ look_mapped k (option_map (open_literals ls) (live k)) (λ l. chain live (l ∷ ls) hints) (λ l. chain other (l ∷ map there ls) hints)
-        (left_among ls (live k) (within k)) (λ l a. chain_mapped hints (l ∷ ls) (more_among among l ls a w)))
+        ∙ look_mapped k _ _ _
+        (left_among ls _ (within k)) (λ l a. chain_mapped hints _ (search rules)))
         ∙ by (conflicts ls)
       where
         there_end : ChainEnd
@@ -93,14 +88,13 @@ module _ (there back : Literal → Literal) (among : Literal → Type 0) (r : Re
         here = look_at k (option_map (open_literals ls) (live k)) (λ l. chain live (l ∷ ls) hints)
 
         by : (b : Bool) → cond b conflict (end_mapped there here) ≡ end_mapped there (cond b conflict here)
-        by true = refl
-        by false = refl
+        by b = grind arith
 
     -- what a walk leaves true is among these
     chain_among : (hints : List ℕ) (ls : List Literal) → AreAmong among ls → EndsAmong among (chain live ls hints)
     chain_among [] ls w = search rules
     chain_among (k ∷ hints) ls w =
-        by (conflicts ls) (looked (option_map (open_literals ls) (live k)) (left_among ls (live k) (within k)) (λ l a. chain_among hints (l ∷ ls) (more_among among l ls a w)))
+        by _ (looked _ (left_among ls _ (within k)) (λ l a. chain_among hints _ (search rules)))
       where
         looked : (o : Option Clause) → ((c : Clause) → o ≡ Some c → AreAmong among c) → ((l : Literal) → among l → EndsAmong among (chain live (l ∷ ls) hints)) → EndsAmong among (look_at k o (λ l. chain live (l ∷ ls) hints))
         looked None each next = tt
@@ -113,8 +107,7 @@ module _ (there back : Literal → Literal) (among : Literal → Type 0) (r : Re
 
         by : (b : Bool) → EndsAmong among (look_at k (option_map (open_literals ls) (live k)) (λ l. chain live (l ∷ ls) hints)) →
             EndsAmong among (cond b conflict (look_at k (option_map (open_literals ls) (live k)) (λ l. chain live (l ∷ ls) hints)))
-        by true e = tt
-        by false e = e
+        by b e = grind arith
 
     -- ---- Candidates
 
@@ -141,13 +134,12 @@ module _ (there back : Literal → Literal) (among : Literal → Type 0) (r : Re
       groups_mapped : (groups : List Group) (earlier : List ℕ) → groups_refusal other (map there ls) (there pivot) earlier groups ≡ option_map (refusal_renamed there) (groups_refusal live ls pivot earlier groups)
       groups_mapped [] earlier = refl
       groups_mapped (group ∷ groups) earlier = either_mapped there _ _ _ _
-          (ap (group_refusal other (map there ls) (there pivot) earlier group) (mapped group.candidate) ∙ group_mapped earlier group (live group.candidate) (within group.candidate))
+          (search (rules, group_mapped))
           (groups_mapped groups (group.candidate ∷ earlier))
 
       unsettled_mapped : (o : Option Clause) → ((c : Clause) → o ≡ Some c → AreAmong among c) → is_unsettled (map there ls) (there pivot) (option_map (map there) o) ≡ is_unsettled ls pivot o
-      unsettled_mapped None within_o = refl
-      unsettled_mapped (Some c) within_o =
-          search (rules, has_opposite, candidate_mapped, conflicts_mapped, candidate_among)
+      unsettled_mapped o within_o =
+          grind (arith, has_opposite, candidate_mapped, conflicts_mapped, candidate_among)
 
       left_out_mapped : (groups : List Group) (k : ℕ) → is_left_out other (map there ls) (there pivot) groups k ≡ is_left_out live ls pivot groups k
       left_out_mapped groups k = search (rules, unsettled_mapped)
@@ -158,15 +150,7 @@ module _ (there back : Literal → Literal) (among : Literal → Type 0) (r : Re
 
     after_chain : (c : List Literal) (groups : List Group) (end : ChainEnd) (answer : StepAnswer) → AreAmong among c → EndsAmong among end → AnswersChain live c groups end answer →
         AnswersChain other (map there c) groups (end_mapped there end) (answer_renamed there answer)
-    after_chain [] groups conflict answer cw w e = ap (answer_renamed there) e
-    after_chain (l ∷ c) groups conflict answer cw w e = ap (answer_renamed there) e
-    after_chain [] groups (unknown k) answer cw w e = ap (answer_renamed there) e
-    after_chain (l ∷ c) groups (unknown k) answer cw w e = ap (answer_renamed there) e
-    after_chain [] groups (not_unit k) answer cw w e = ap (answer_renamed there) e
-    after_chain (l ∷ c) groups (not_unit k) answer cw w e = ap (answer_renamed there) e
-    after_chain [] groups (open_with ls) answer cw w e = ap (answer_renamed there) e
-    after_chain (pivot ∷ c) groups (open_with ls) answer cw w e =
-        search (rules, has_head, groups_mapped, after_groups)
+    after_chain c groups end answer cw w e = grind (arith, has_head, groups_mapped, after_groups)
 
   -- ---- Deletions, and what is alive after a step
 
@@ -178,13 +162,12 @@ module _ (there back : Literal → Literal) (among : Literal → Type 0) (r : Re
 
   deletion_mapped : (ids : List ℕ) (live other : Live) → AreRenamed there live other → deletion_refusal other ids ≡ option_map (refusal_renamed there) (deletion_refusal live ids)
   deletion_mapped [] live other mapped = refl
-  deletion_mapped (id ∷ ids) live other mapped = search (
-    rules,
+  deletion_mapped (id ∷ ids) live other mapped = grind (
+    arith,
     first_mapped,
-    is_none,
     is_none_mapped,
     without_mapped_id,
-    (deletion_mapped ids (without_id live id) (without_id other id) (without_mapped_id live other mapped id)),
+    (deletion_mapped ids (without_id live id) (without_id other id) (search rules)),
   )
 
   pub with_mapped : (live other : Live) → AreRenamed there live other → (id : ℕ) (c : Clause) → AreRenamed there (with_clause live id c) (with_clause other id (map there c))
@@ -192,7 +175,7 @@ module _ (there back : Literal → Literal) (among : Literal → Type 0) (r : Re
 
   pub without_all_mapped : (ids : List ℕ) (live other : Live) → AreRenamed there live other → AreRenamed there (without_ids live ids) (without_ids other ids)
   without_all_mapped [] live other mapped = mapped
-  without_all_mapped (id ∷ ids) live other mapped = without_all_mapped ids (without_id live id) (without_id other id) (without_mapped_id live other mapped id)
+  without_all_mapped (id ∷ ids) live other mapped = without_all_mapped ids _ _ (search rules)
 
   answer_of_mapped : (o : Option Refusal) → answer_of (option_map (refusal_renamed there) o) ≡ answer_renamed there (answer_of o)
   answer_of_mapped o = search rules
@@ -210,18 +193,16 @@ module _ (there back : Literal → Literal) (among : Literal → Type 0) (r : Re
 
   pub lrat_answers_mapped : (live other : Live) (top : ℕ) → AreRenamed there live other → LiveAmong among live → (step : LratStep) (answer : StepAnswer) → IsOfLrat step →
       AnswersLrat (record { live = live; top = top }) step answer → AnswersLrat (record { live = other; top = top }) (lrat_mapped step) (answer_renamed there answer)
-  lrat_answers_mapped live other top mapped within (add id c units groups) answer cw e = by (nat_le id top) e
+  lrat_answers_mapped live other top mapped within (add id c units groups) answer cw e = by _ e
     where
       rest : AnswersChain live c groups (chain live (complements c) units) answer → AnswersChain other (map there c) groups (chain other (complements (map there c)) units) (answer_renamed there answer)
       rest e = subst (λ x. AnswersChain other (map there c) groups x (answer_renamed there answer))
-          (sym (ap (λ ls. chain other ls units) (complements_mapped there back among r c) ∙ chain_mapped live other mapped within units (complements c) (complements_among there back among r c cw)))
-          (after_chain live other mapped within c groups (chain live (complements c) units) answer cw
-          (chain_among live other mapped within units (complements c) (complements_among there back among r c cw)) e)
+          (search (rules, complements_mapped, chain_mapped, complements_among))
+          (after_chain live other mapped within c groups _ answer cw
+          (search (rules, chain_among, complements_among)) e)
 
       by : (b : Bool) → MatchBool b (answer ≡ Err IdOutOfOrder) (AnswersChain live c groups (chain live (complements c) units) answer) →
           MatchBool b (answer_renamed there answer ≡ Err IdOutOfOrder) (AnswersChain other (map there c) groups (chain other (complements (map there c)) units) (answer_renamed there answer))
-      by true e = ap (answer_renamed there) e
-      by false e = rest e
+      by b e = grind (arith, rest)
   lrat_answers_mapped live other top mapped within (delete ids) answer cw e =
-      ap (answer_renamed there) e ∙ sym (answer_of_mapped (deletion_refusal live ids))
-      ∙ ap answer_of (sym (deletion_mapped ids live other mapped))
+      grind (arith, answer_of_mapped, deletion_mapped)

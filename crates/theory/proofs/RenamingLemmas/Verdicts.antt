@@ -1,19 +1,16 @@
 -- States, steps and proofs under other names.
-use Rattle.std.proofs.Common.{◌≡◌, ℕ, zero, suc, ◌+◌, ◌*◌, ◌%◌, Bool, true, false, cond, eqb, Some}
-use Rattle.std.proofs.Common.{None, Ok, Err, List, [], ◌∷◌, map, slice_get, refl, sym, ap, ◌∙◌}
-use Rattle.std.proofs.Common.{subst, arith, rules}
-use Rattle.std.proofs.lemmas.{Bool.false≢true, List.length-map}
-use Rattle.std.proofs.lemmas.Option.{none-some, slice_get-map}
-use Rattle.std.specs.{Bool.MatchBool, List.list_any, Prelude.nat_abs}
-use Rattle.cnf_base.specs.Literals.{Literal, complement, Clause, variable, same_clause}
+use Rattle.std.proofs.Common.{◌≡◌, ℕ, zero, suc, ◌+◌, ◌*◌, ◌%◌, Bool, true, false, cond, Ok, List}
+use Rattle.std.proofs.Common.{[], ◌∷◌, map, slice_get, refl, sym, ap, ◌∙◌, subst, arith, rules}
+use Rattle.std.proofs.lemmas.Bool.{false≢true}
+use Rattle.std.proofs.lemmas.{List.length-map, Option.none-some, Option.slice_get-map}
+use Rattle.std.specs.{Bool.MatchBool, Prelude.nat_abs, List.list_any}
+use Rattle.cnf_base.specs.Literals.{Literal, complement, Clause, variable}
 use Rattle.cnf_base.proofs.MemberLemmas.{variable-complement}
 use Rattle.proofs.specs.{Steps.Step, Steps.clause_part, declared.step_buf.StepKind.StepKind}
-use Rattle.proofs.specs.declared.step_buf.StepKind.TheVariants as kinds
 use Rattle.theory.specs.declared.{accepted.Accepted.Accepted, drat_rules.DratRules.DratRules}
 use Rattle.theory.specs.{Answers.StepAnswer, Propagation.Live}
 use Rattle.theory.specs.Drat.{DratStep, AnswersDrat, drat_step_of, take_off, after_drat}
-use Rattle.theory.specs.Lrat.{AnswersLrat, step_of, with_clause, without_id, without_ids}
-use Rattle.theory.specs.Lrat.{after_lrat}
+use Rattle.theory.specs.Lrat.{AnswersLrat, step_of, without_ids, after_lrat}
 use Rattle.theory.specs.Rules.{Rule, State, by_ids, by_copies, start, Answers, after}
 use Rattle.theory.specs.Verdicts.{Ending, verified, is_last, Ends, is_empty, Verdict}
 use Rattle.theory.specs.Renaming.{renamed, step_renamed, answer_renamed, ending_renamed, IsUndone}
@@ -21,7 +18,8 @@ use Rattle.theory.specs.Renaming.{AreUndone, StepsAreUndone, IsRenamed}
 use Rattle.theory.proofs.RenamingLemmas.Clauses.{Renames, take_has, drop_has}
 use Rattle.theory.proofs.RenamingLemmas.Drat.{IsOf, drat_answers_mapped, after_mapped}
 use Rattle.theory.proofs.RenamingLemmas.Drat.{drat_step_mapped}
-use Rattle.theory.proofs.RenamingLemmas.Lrat.{lrat_answers_mapped, with_mapped, without_all_mapped}
+use Rattle.theory.proofs.RenamingLemmas.Lrat.{lrat_answers_mapped, without_all_mapped}
+use Rattle.proofs.specs.declared.step_buf.StepKind.TheVariants as kinds
 
 -- ---- Names
 
@@ -73,14 +71,13 @@ module _ (name back : ℕ → ℕ) where
       (subst (λ o. AnswersDrat rules o (drat_step_of rules step.kind (map (renamed name) step.lits)) (answer_renamed (renamed name) answer)) (sym r.1)
       (subst (λ st. AnswersDrat rules (map (map (renamed name)) live) st (answer_renamed (renamed name) answer)) (sym (drat_step_mapped (renamed name) (renamed back) (IsTold name back) (renames name back) (renamed_complement back) rules step.kind step.lits told))
       (drat_answers_mapped (renamed name) (renamed back) (IsTold name back) (renames name back) (renamed_complement back) live r.2 rules (drat_step_of rules step.kind step.lits) answer (of_step rules step.kind step.lits told) a)))
-  step_answers (by_ids s) (by_copies rules other) step answer r told a = absurd r
-  step_answers (by_copies rules live) (by_ids t) step answer r told a = absurd r
+  step_answers first second step answer r told a = absurd r
 
   -- ---- What it leaves
 
   taken_undone : (c : Clause) (live : List Clause) → AreUndone name back (slice_get live) → AreUndone name back (slice_get (take_off c live))
   taken_undone c [] undone = undone
-  taken_undone c (e ∷ live) undone = by (same_clause c e) (taken_undone c live (λ k. undone (suc k)))
+  taken_undone c (e ∷ live) undone = by _ (taken_undone c live (λ k. undone (suc k)))
     where
       kept : AreUndone name back (slice_get (take_off c live)) → AreUndone name back (slice_get (e ∷ take_off c live))
       kept rest zero x at = undone zero x at
@@ -96,29 +93,18 @@ module _ (name back : ℕ → ℕ) where
   drat_undone : (live : List Clause) (step : DratStep) (word : Accepted) → IsOf (IsTold name back) step → AreUndone name back (slice_get live) → AreUndone name back (slice_get (after_drat live step word))
   drat_undone live step word h h2 = search (rules, added_undone, taken_undone)
 
-  with_undone : (live : Live) (id : ℕ) (c : Clause) → IsUndone name back c → AreUndone name back live → AreUndone name back (with_clause live id c)
-  with_undone live id c told undone k x = search rules
-
   without_undone : (ids : List ℕ) (live : Live) → AreUndone name back live → AreUndone name back (without_ids live ids)
   without_undone [] live undone = undone
-  without_undone (id ∷ ids) live undone = without_undone ids (without_id live id) (λ k x. by k x (eqb k id))
-    where
-      by : (k : ℕ) (x : Clause) (b : Bool) → cond b None (live k) ≡ Some x → IsUndone name back x
-      by k x true e = absurd (none-some x e)
-      by k x false e = undone k x e
+  without_undone (id ∷ ids) live undone = without_undone ids _ (search rules)
 
   pub step_leaves : (first second : State) (step : Step) (word : Accepted) → IsRenamed name back first second → IsUndone name back step.lits →
       IsRenamed name back (after first step word) (after second (step_renamed (renamed name) step) word)
   step_leaves (by_ids s) (by_ids t) step word r told = by step.kind
     where
       by : (kind : StepKind) → IsRenamed name back (by_ids (after_lrat s (step_of kind step.id step.lits step.hints))) (by_ids (after_lrat t (step_of kind step.id (map (renamed name) step.lits) step.hints)))
-      by kinds.Add = (
-        with_mapped (renamed name) (renamed back) (IsTold name back) (renames name back) s.live t.live r.0 step.id step.lits,
-        refl,
-        with_undone s.live step.id step.lits told r.2,
-      )
+      by kinds.Add = search rules
       by kinds.Delete = (
-        without_all_mapped (renamed name) (renamed back) (IsTold name back) (renames name back) (map nat_abs step.hints) s.live t.live r.0,
+        without_all_mapped _ _ _ (renames name back) (map nat_abs step.hints) s.live t.live r.0,
         r.1,
         without_undone (map nat_abs step.hints) s.live r.2,
       )
@@ -127,10 +113,9 @@ module _ (name back : ℕ → ℕ) where
     (λ i. after_drat (r.1 i) (drat_step_of (r.0 i) step.kind (map (renamed name) step.lits)) word)
         ∙ ap (λ st. after_drat (map (map (renamed name)) live) st word) (drat_step_mapped (renamed name) (renamed back) (IsTold name back) (renames name back) (renamed_complement back) rules step.kind step.lits told)
         ∙ after_mapped (renamed name) (renamed back) (IsTold name back) (renames name back) (renamed_complement back) live (drat_step_of rules step.kind step.lits) word r.2 (of_step rules step.kind step.lits told),
-    drat_undone live (drat_step_of rules step.kind step.lits) word (of_step rules step.kind step.lits told) r.2,
+    drat_undone live _ word (search (rules, of_step)) r.2,
   )
-  step_leaves (by_ids s) (by_copies rules other) step word r told = absurd r
-  step_leaves (by_copies rules live) (by_ids t) step word r told = absurd r
+  step_leaves first second step word r told = absurd r
 
   -- ---- A proof
 
@@ -139,7 +124,7 @@ module _ (name back : ℕ → ℕ) where
   ends_renamed [] [] ending first second r told e = ap (ending_renamed (renamed name)) e
   ends_renamed [] (word ∷ words) ending first second r told e = absurd e
   ends_renamed (step ∷ steps) [] ending first second r told e =
-      (_, ap (ending_renamed (renamed name)) e.1, step_answers first second step (Err e.0) r (told zero step refl) e.2)
+      (_, ap (ending_renamed _) e.1, step_answers first second step _ r (told zero step refl) e.2)
   ends_renamed (step ∷ steps) (word ∷ words) ending first second r told e = (
     step_answers first second step (Ok word) r (told zero step refl) e.0,
     by (is_last word) (ends_renamed steps words ending (after first step word) (after second (step_renamed (renamed name) step) word) (step_leaves first second step word r (told zero step refl)) (λ k. told (suc k))) e.1,
@@ -148,8 +133,7 @@ module _ (name back : ℕ → ℕ) where
       by : (b : Bool) → (Ends (after first step word) steps words ending → Ends (after second (step_renamed (renamed name) step) word) (map (step_renamed (renamed name)) steps) words (ending_renamed (renamed name) ending)) →
           MatchBool b ((words ≡ []) × (ending ≡ verified)) (Ends (after first step word) steps words ending) →
           MatchBool b ((words ≡ []) × (ending_renamed (renamed name) ending ≡ verified)) (Ends (after second (step_renamed (renamed name) step) word) (map (step_renamed (renamed name)) steps) words (ending_renamed (renamed name) ending))
-      by true rest h = (h.0, ap (ending_renamed (renamed name)) h.1)
-      by false rest h = rest h
+      by b rest h = grind arith
 
   empties : (formula : List Clause) → list_any is_empty (map (map (renamed name)) formula) ≡ list_any is_empty formula
   empties [] = refl
