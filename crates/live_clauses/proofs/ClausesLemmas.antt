@@ -1,6 +1,5 @@
 pub mod Distinct
 pub mod Joined
 pub mod Kept
-pub mod Keys
 pub mod Owners
 pub mod Touched

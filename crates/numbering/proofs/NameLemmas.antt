@@ -1,6 +1,6 @@
 -- Lists of the variables that were met.
-use Rattle.std.proofs.Common.{◌≡◌, ◌≢◌, ℕ, suc, ◌+◌, ◌<◌, true, false, not, cond, eqb, List, []}
-use Rattle.std.proofs.Common.{◌∷◌, ◌++◌, map, ◌*◌, ◌%◌, slice_index_or, length, refl, sym, ap, ◌∙◌}
+use Rattle.std.proofs.Common.{◌≡◌, ◌≢◌, ℕ, ◌<◌, true, false, eqb, List, []}
+use Rattle.std.proofs.Common.{◌∷◌, ◌++◌, map, slice_index_or, length, refl, sym, ap, ◌∙◌}
 use Rattle.std.proofs.Common.{arith, inl, inr, eq-eqb, rules}
 use Rattle.std.proofs.lemmas.{Bool.cases_Bool, Bool.false≢true, Bool.or_parts, List.map-append}
 use Rattle.std.specs.List.{position_or_len}
@@ -16,28 +16,16 @@ place names v = position_or_len (λ w. eqb w v) names
 
 place_inside : (names : List ℕ) (v : ℕ) → has names v ≡ true → (place names v < length names) × (slice_index_or names (place names v) 0 ≡ v)
 place_inside [] v h = absurd (false≢true h)
-place_inside (w ∷ names) v h = elim (cases_Bool (eqb w v)) [
-  | inl is ↦ search rules
-  | inr apart ↦ search (rules, arith, slice_index_or, (place_inside names v (rest apart)))
-]
-  where
-    rest : eqb w v ≡ false → has names v ≡ true
-    rest apart = elim (has_cases w names v h) [ inl e ↦ absurd (false≢true (sym apart ∙ eq-eqb w v e)) | inr g ↦ g ]
+place_inside (w ∷ names) v h =
+    search (rules, arith, cases_Bool, slice_index_or, has_cases, false≢true, eq-eqb, (place_inside names))
 
 place_outside : (names : List ℕ) (v : ℕ) → has names v ≡ false → place names v ≡ length names
 place_outside [] v none = refl
-place_outside (w ∷ names) v none =
-    let parts = or_parts (eqb w v) (has names v) none in
-    let below = place_outside names v parts.1 in
-    let more : 1 + place names v ≡ suc (length names) = omega arith in
-    ap (λ b. cond (not b) (1 + place names v) 0) parts.0 ∙ more
+place_outside (w ∷ names) v none = search (rules, arith, or_parts, (place_outside names))
 
 place_kept : (names more : List ℕ) (v : ℕ) → has names v ≡ true → place (names ++ more) v ≡ place names v
 place_kept [] more v h = absurd (false≢true h)
-place_kept (w ∷ names) more v h = elim (has_cases w names v h) [
-  | inl e ↦ cc (eq-eqb w v e)
-  | inr g ↦ ap (λ n. cond (not (eqb w v)) (1 + n) 0) (place_kept names more v g)
-]
+place_kept (w ∷ names) more v h = search (rules, arith, has_cases, eq-eqb, (place_kept names))
 
 pub told : (names : List ℕ) (v : ℕ) → has names v ≡ true → name_in names (number_in names v) ≡ v
 told names v h = search (rules, (place_inside names v h))
@@ -79,8 +67,8 @@ with_names_push names (k ∷ lits) l = with_names_push (with_name names (variabl
 -- those before keep their numbers
 pub renumbered : (names : List ℕ) (w : ℕ) (lits : List Literal) → ((l : Literal) → has lits l ≡ true → has names (variable l) ≡ true) → map (renamed (number_in (with_name names w))) lits ≡ map (renamed (number_in names)) lits
 renumbered names w [] met = refl
-renumbered names w (l ∷ lits) met = λ i.
-    (2 * kept_number names (variable l) w (met l (has_head l lits)) i + l % 2) ∷ renumbered names w lits (λ k h. met k (has_tail l lits k h)) i
+renumbered names w (l ∷ lits) met =
+    search (rules, arith, kept_number, has_head, has_tail, (renumbered names w lits))
 
 pub numbered_push : (names : List ℕ) (lits : List Literal) (l m : Literal) (numbered : List Literal) → numbered ≡ map (renamed (number_in (with_names names lits))) lits → m ≡ renamed (number_in (with_names names (lits ++ l ∷ []))) l →
     numbered ++ m ∷ [] ≡ map (renamed (number_in (with_names names (lits ++ l ∷ [])))) (lits ++ l ∷ [])
@@ -93,4 +81,4 @@ numbered_push names lits l m numbered before is =
 
 -- one more where the variable was met
 pub same_names : (names : List ℕ) (v : ℕ) → has names v ≡ true → with_name names v ≡ names
-same_names names v h = ap (λ b. cond b names (names ++ v ∷ [])) h
+same_names names v h = search rules

@@ -1,10 +1,9 @@
 -- Numbers by variable, and the list of the variables in the order of their numbers.
 use Rattle.std.proofs.Common.{◌≡◌, ◌≢◌, ℕ, zero, suc, ◌+◌, ◌≤◌, ◌<◌, true, false, cond, eqb, List}
-use Rattle.std.proofs.Common.{[], ◌∷◌, ◌++◌, length, length-append, refl, sym, ap, ◌∙◌, arith, inl}
-use Rattle.std.proofs.Common.{inr, eq-eqb, ne_eqb, add-one, ◌*◌, ◌↔◌, Option, Some, unwrap_or}
-use Rattle.std.proofs.Common.{IsSome, IfSome, slice_get, rules}
-use Rattle.std.proofs.lemmas.Bool.{cases_eq, cases_lt, Decides.nat_tests}
-use Rattle.std.proofs.lemmas.Option.{slice_get_past}
+use Rattle.std.proofs.Common.{[], ◌∷◌, ◌++◌, length, length-append, refl, ap, ◌∙◌, arith, inl, inr}
+use Rattle.std.proofs.Common.{eq-eqb, ne_eqb, add-one, Option, Some, unwrap_or, slice_get, rules}
+use Rattle.std.proofs.lemmas.Bool.{cases_eq, cases_lt}
+use Rattle.std.proofs.{lemmas.Bool.Decides.nat_tests, lemmas.Option.slice_get_past}
 use Rattle.cnf_base.specs.Literals.{has}
 use Rattle.numbering.specs.Names.{number_in}
 use Rattle.numbering.specs.Code.Numbers.{name_up_to, names_of, counted_as, met_up_to, number_or}
@@ -56,13 +55,9 @@ names_length f (suc n) = let e = names_length f n in omega (arith, length-append
 -- the one variable at which the number stands
 name_is : (f : ℕ → ℕ) (n w : ℕ) → f w ≡ n → 1 ≤ w → ((v : ℕ) → f v ≡ n → v ≡ w) → (b : ℕ) → w ≤ b → name_up_to f n b ≡ w
 unfolding name_up_to
-name_is f n w here from one zero to = absurd (let wrong : ⊥ = omega arith in wrong)
-name_is f n w here from one (suc b) to = elim (cases_eq (f (suc b)) n) [
-  | inl is ↦ ap (λ t. cond t (suc b) (name_up_to f n b)) (eq-eqb (f (suc b)) n is) ∙ one (suc b) is
-  | inr apart ↦
-      let other : suc b ≢ w = λ e. apart (ap f e ∙ here) in
-      search (rules, ne_eqb, from, one, (name_is f n w here from one b (omega (arith, other))))
-]
+name_is f n w here from one zero to = search rules
+name_is f n w here from one (suc b) to =
+    search (rules, arith, cases_eq, name_up_to, eq-eqb, ne_eqb, (name_is f n w here from one b))
 
 -- ---- How many were met
 
@@ -80,15 +75,13 @@ met_most f (suc b) = let e = met_most f b in grind (arith, nat_tests)
 
 met_below : (f : ℕ → ℕ) (w : ℕ) → f w ≡ 0 → 1 ≤ w → (b : ℕ) → w ≤ b → met_up_to f b < b
 unfolding met_up_to
-met_below f w none from zero to = absurd (let wrong : ⊥ = omega arith in wrong)
-met_below f w none from (suc b) to = elim (cases_eq w (suc b)) [
-  | inl is ↦ let here = ap f (sym is) ∙ none in let e = met_most f b in grind (arith, nat_tests)
-  | inr apart ↦ let e = met_below f w none from b (omega (arith, apart)) in grind (arith, nat_tests)
-]
+met_below f w none from zero to = search rules
+met_below f w none from (suc b) to =
+    search (rules, arith, cases_eq, met_most, nat_tests, (met_below f w none from b))
 
 met_more : (f g : ℕ → ℕ) (w n : ℕ) → f w ≡ 0 → n ≢ 0 → 1 ≤ w → ((v : ℕ) → g v ≡ cond (eqb v w) n (f v)) → (b : ℕ) → w ≤ b → met_up_to g b ≡ met_up_to f b + 1
 unfolding met_up_to
-met_more f g w n none some from writes zero to = absurd (let wrong : ⊥ = omega arith in wrong)
+met_more f g w n none some from writes zero to = search rules
 met_more f g w n none some from writes (suc b) to = elim (cases_eq w (suc b)) [
   | inl is ↦ search (rules, arith, met_same, to, ne_eqb, none, eq-eqb)
   | inr apart ↦ search (
@@ -112,10 +105,6 @@ all_written first room last key w n is same writes v = search rules
 pub number_near : (all : ℕ → Option ℕ) (near : List ℕ) → ((k : ℕ) → k < length near → slice_get near k ≡ all k) → (v n : ℕ) → n ≡ unwrap_or (slice_get near v) 0 → n ≢ 0 → unwrap_or (all v) 0 ≡ n
 number_near all near is v n at some = search (rules, arith, cases_lt, unwrap_or, slice_get_past)
 
--- a literal under the number of a variable
-pub under_is : (o : Option ℕ) (n m s d : ℕ) → (IsSome o ↔ ((1 ≤ n) × (n ≤ 268435455))) → IfSome o (λ l. l ≡ 2 * n + s) → n ≡ m → 1 ≤ m → m ≤ 268435455 → unwrap_or o d ≡ 2 * m + s
-under_is o n m s d h h2 h3 h4 h5 = search rules
-
 -- ---- A numbering
 
 met_none : (f : ℕ → ℕ) → ((v : ℕ) → f v ≡ 0) → (b : ℕ) → met_up_to f b ≡ 0
@@ -125,7 +114,7 @@ met_none f none (suc b) = cc ((none b), (none (suc b)), (met_none f none b))
 
 pub numbering_empty : (f : ℕ → ℕ) → ((v : ℕ) → f v ≡ 0) → IsNumbering f 0
 unfolding names_of
-numbering_empty f none = record { counted = sym (met_none f none 268435455); stands = none }
+numbering_empty f none = search (rules, arith, met_none)
 
 pub names_empty : (f : ℕ → ℕ) → names_of f 0 ≡ []
 unfolding names_of
@@ -133,22 +122,22 @@ names_empty f = refl
 
 module _ (f : ℕ → ℕ) (count : ℕ) (is : IsNumbering f count) where
   at_most : (v : ℕ) → f v ≤ count
-  at_most v = let e = is.stands v in omega (arith, number_most (names_of f count) v, names_length f count)
+  at_most v = search (rules, arith, number_most, names_of, names_length)
 
   pub is_unmet : (v : ℕ) → f v ≡ 0 → has (names_of f count) v ≡ false
-  is_unmet v none = has_none (names_of f count) v (sym (is.stands v) ∙ none)
+  is_unmet v none = search rules
 
   pub is_met : (v : ℕ) → f v ≢ 0 → has (names_of f count) v ≡ true
-  is_met v some = has_number (names_of f count) v (λ e. some (is.stands v ∙ e))
+  is_met v some = search rules
 
   pub unmet_at : (v : ℕ) → has (names_of f count) v ≡ false → f v ≡ 0
-  unmet_at v none = is.stands v ∙ ap (λ t. cond t (number_in (names_of f count) v) 0) none
+  unmet_at v none = search rules
 
   pub number_is : (v : ℕ) → f v ≢ 0 → number_in (names_of f count) v ≡ f v
   number_is v some = search rules
 
   pub next_is : (v : ℕ) → f v ≡ 0 → number_in (names_of f count) v ≡ count + 1
-  next_is v none = search (rules, arith, none, number_unmet, is_unmet, names_length)
+  next_is v none = search (rules, arith, number_unmet, names_length)
 
   pub count_most : count ≤ 268435455
   count_most = omega (arith, is.counted, met_most f 268435455)
@@ -162,10 +151,10 @@ module _ (f : ℕ → ℕ) (count : ℕ) (is : IsNumbering f count) where
   -- a new number
   module _ (g : ℕ → ℕ) (w : ℕ) (none : f w ≡ 0) (from : 1 ≤ w) (to : w ≤ 268435455) (writes : (v : ℕ) → g v ≡ cond (eqb v w) (count + 1) (f v)) where
     written : g w ≡ count + 1
-    written = writes w ∙ ap (λ t. cond t (count + 1) (f w)) (eq-eqb w w refl)
+    written = search rules
 
     one : (v : ℕ) → g v ≡ count + 1 → v ≡ w
-    one v is_new = search (rules, arith, cases_eq, ne_eqb, at_most)
+    one v is_new = search (rules, at_most)
 
     same_number : (n v : ℕ) → 1 ≤ n → n ≤ count → eqb (g v) n ≡ eqb (f v) n
     same_number n v low high = search rules
@@ -176,10 +165,9 @@ module _ (f : ℕ → ℕ) (count : ℕ) (is : IsNumbering f count) where
         ∙ ap (λ v. names_of f count ++ v ∷ []) (name_is g (count + 1) w written from one 268435455 to)
 
     numbering_new : IsNumbering g (count + 1)
-    numbering_new = record {
-      counted = ap (λ n. n + 1) is.counted ∙ sym (met_more f g w (count + 1) none (omega arith) from writes 268435455 to);
-      stands = search (rules, arith, names_length, number_push, is_unmet, none, names_new);
-    }
+    numbering_new =
+        let met = met_more f g w (count + 1) none (omega arith) from writes 268435455 to in
+        search (rules, arith, names_length, number_push, is_unmet, names_new)
 
 -- a variable that wasn't met has the next number: room is made, and the number is written
 module _ (first room last : ℕ → Option ℕ) (count : ℕ) (is : IsNumbering (λ v. unwrap_or (first v) 0) count) (key w : ℕ) (w_is : key ≡ w) (range : (1 ≤ key) × (key ≤ 268435455)) (unmet : has (names_of (λ v. unwrap_or (first v) 0) count) w ≡ false)
@@ -200,7 +188,7 @@ module _ (first room last : ℕ → Option ℕ) (count : ℕ) (is : IsNumbering 
   to = omega (arith, w_is, range.1)
 
   pub wrote : (v : ℕ) → after v ≡ cond (eqb v w) (count + 1) (before v)
-  wrote = all_written first room last key w (count + 1) w_is same writes
+  wrote = search rules
 
   pub next_invariant : IsNumbering after (count + 1)
   next_invariant = numbering_new before count is after w none from to wrote
@@ -212,7 +200,7 @@ module _ (first room last : ℕ → Option ℕ) (count : ℕ) (is : IsNumbering 
   next_low = count_below before count is w none from to
 
   pub next_at : after w ≡ count + 1
-  next_at = wrote w ∙ ap (λ t. cond t (count + 1) (before w)) (eq-eqb w w refl)
+  next_at = search rules
 
   pub next_number : number_in (names_of after (count + 1)) w ≡ count + 1
-  next_number = number_is after (count + 1) next_invariant w (omega (arith, next_at)) ∙ next_at
+  next_number = search (rules, arith, number_is, next_invariant, next_at)

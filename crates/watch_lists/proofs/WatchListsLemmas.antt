@@ -3,6 +3,5 @@ pub mod Cursor
 pub mod Entries
 pub mod Lists
 pub mod Made
-pub mod Results
 pub mod SlotList
 pub mod Watched

@@ -1,6 +1,6 @@
 -- The clauses that a literal touches, by their slots and by their identifiers.
-use Rattle.std.proofs.Common.{◌≡◌, ℕ, Bool, true, false, ◌||◌, eqb, Some, List, [], ◌∷◌, map, sym}
-use Rattle.std.proofs.Common.{◌∙◌, subst, slice_index, arith, rules}
+use Rattle.std.proofs.Common.{◌≡◌, ℕ, true, Some, List, [], ◌∷◌, map}
+use Rattle.std.proofs.Common.{◌∙◌, slice_index, arith, rules}
 use Rattle.std.proofs.lemmas.{Bool.or_left, List.Sorted.list_any-IsPermutation}
 use Rattle.std.specs.{Ordering.nat_cmp, FinMap.FinMap}
 use Rattle.std.specs.List.Sorted.{IsStrictlyIncreasing, IsPermutation, IsSorted}
@@ -11,7 +11,7 @@ use Rattle.theory.specs.Propagation.{Live}
 use Rattle.live_clauses.specs.LiveClauses.{LiveClausesState, Holds}
 use Rattle.live_clauses.specs.Code.LiveClauses.{joined, IsPaired, AreNoted}
 use Rattle.live_clauses.proofs.ClausesLemmas.Distinct.{mapped_has, mapped_from, rising_mapped}
-use Rattle.live_clauses.proofs.ClausesLemmas.Joined.{got_some, holder, some_is_some}
+use Rattle.live_clauses.proofs.ClausesLemmas.Joined.{holder, joined_is}
 
 -- those of the clauses that the literal touches, in ascending order
 pub record AreTouched (live : Live) (l : Literal) (found : List ℕ) : Type 0 where
@@ -24,32 +24,26 @@ module _ (ids : FinMap nat_cmp ℕ) (store : FinMap nat_cmp Clause) (state : Liv
     (each : (s : ℕ) → has slots s ≡ true → IsTouchedAt store (l ∷ []) s) (all : (s : ℕ) → IsTouchedAt store (l ∷ []) s → has slots s ≡ true)
     (moved : IsPermutation (map (λ s. slice_index by_slot s) slots) found) where
   owner_of : (s : ℕ) → has slots s ≡ true → (k : ℕ) × (maps.get ids k ≡ Some s)
-  owner_of s member = let t = each s member in paired.used s (some_is_some (maps.get store s) t.clause t.at)
+  owner_of s member = search rules
 
   found_has : (k : ℕ) → has (map (λ s. slice_index by_slot s) slots) k ≡ has found k
-  found_has k = list_any-IsPermutation (λ j. eqb j k) _ _ moved
-
-  one_alone : (b : Bool) → (b || false) ≡ true → b ≡ true
-  one_alone b h = search rules
+  found_has k = search (rules, list_any-IsPermutation)
 
   touched_each : (k : ℕ) → has found k ≡ true → Holds (maps.get state.live) (complement l) k
   touched_each k member =
-      let w = mapped_from (λ s. slice_index by_slot s) slots k (found_has k ∙ member) in
+      let w = mapped_from _ slots k (found_has k ∙ member) in
       let t = each w.0 w.1 in
-      let owner = owner_of w.0 w.1 in
-      search (rules, got_some, one_alone)
+      search (rules, joined_is, owner_of)
 
   touched_all : (k : ℕ) → Holds (maps.get state.live) (complement l) k → has found k ≡ true
   touched_all k holds =
       let w = holder ids store state view paired (complement l) k holds in
-      let member = all w.0 (record { clause = w.2; at = w.3; touched = or_left (has w.2 (complement l)) false w.4 }) in
-      sym (found_has k) ∙ subst (λ j. has (map (λ s. slice_index by_slot s) slots) j ≡ true) (noted k w.0 w.1) (mapped_has (λ s. slice_index by_slot s) slots w.0 member)
+      let member = mapped_has (λ s. slice_index by_slot s) slots w.0 (search (rules, or_left)) in
+      search (rules, found_has)
 
   touched_rise : IsStrictlyIncreasing slots → IsSorted nat_cmp found → IsStrictlyIncreasing found
-  touched_rise rising sorted = rising_mapped (λ s. slice_index by_slot s) slots found one_to_one rising moved sorted
-    where
-      one_to_one : (r s : ℕ) → has slots r ≡ true → has slots s ≡ true → slice_index by_slot r ≡ slice_index by_slot s → r ≡ s
-      one_to_one r s h h2 h3 = search rules
+  touched_rise rising sorted =
+      rising_mapped _ slots found (λ r s h h2 h3. search rules) rising moved sorted
 
   pub are_touched : IsStrictlyIncreasing slots → IsSorted nat_cmp found → AreTouched (maps.get state.live) l found
   are_touched rising sorted = search (rules, arith, touched_rise, touched_each, touched_all)

@@ -1,10 +1,10 @@
 -- A list of which an entry is kept or taken out.
-use Rattle.std.proofs.Common.{◌≡◌, ℕ, ◌+◌, ◌-◌, ◌<◌, ◌≤◌, ◌++◌, ◌∷◌, [], List, length, take, drop}
-use Rattle.std.proofs.Common.{set, sym, ap, ◌∙◌, arith}
-use Rattle.std.specs.List.{remove}
+use Rattle.std.proofs.Common.{rules, ◌≡◌, ℕ, ◌+◌, ◌-◌, ◌<◌, ◌≤◌, ◌++◌, ◌∷◌, [], List, length, take}
+use Rattle.std.proofs.Common.{drop, set, sym, ap, ◌∙◌, arith}
 use Rattle.std.proofs.lemmas.List.{append_assoc, drop-drop, drop-set-lt, drop_more, length-append}
 use Rattle.std.proofs.lemmas.List.{length-drop, length-take-le, set-append_right, take_more_set}
 use Rattle.std.proofs.lemmas.List.Edits.{remove-append_right}
+use Rattle.std.specs.List.{remove}
 
 module _ {X : Type 0} (xs : List X) (kept next : ℕ) (ordered : kept ≤ next) where
   -- how many entries there are
@@ -17,7 +17,7 @@ module _ {X : Type 0} (xs : List X) (kept next : ℕ) (ordered : kept ≤ next) 
 
   module _ (inside : next < length xs) where
     front : length (take kept xs) ≡ kept
-    front = length-take-le kept xs (omega (arith, ordered, inside))
+    front = search rules
 
     pub entry_kept : (x : X) → take (kept + 1) (set xs kept x) ++ drop (next + 1) (set xs kept x) ≡ set (take kept xs ++ drop next xs) kept x
     entry_kept x =
@@ -34,4 +34,4 @@ module _ {X : Type 0} (xs : List X) (kept next : ℕ) (ordered : kept ≤ next) 
 
 -- the next entry is inside the list where there is one
 pub next_inside : {X : Type 0} (xs : List X) (kept next : ℕ) → kept ≤ next → next ≤ length xs → kept < length (take kept xs ++ drop next xs) → next < length xs
-next_inside xs kept next ordered inside low = let n = entries_length xs kept next ordered inside in omega (arith, n, low)
+next_inside xs kept next ordered inside low = search (rules, arith, entries_length)

@@ -1,17 +1,14 @@
 -- The entries of one clause, and the slots of those that have none.
-use Rattle.std.proofs.Common.{◌≡◌, ◌≢◌, ℕ, ◌+◌, ◌<◌, ◌≤◌, Bool, true, false, cond, eqb, ◌||◌, ◌&&◌}
-use Rattle.std.proofs.Common.{List, [], ◌∷◌, Option, Some, length, get_or, refl, sym, ap, ◌∙◌}
+use Rattle.std.proofs.Common.{rules, ◌≡◌, ◌≢◌, ℕ, ◌+◌, ◌<◌, ◌≤◌, Bool, true, false, cond, eqb, ◌||◌}
+use Rattle.std.proofs.Common.{◌&&◌, List, [], ◌∷◌, Option, Some, length, get_or, refl, sym, ap, ◌∙◌}
 use Rattle.std.proofs.Common.{arith}
 use Rattle.std.proofs.lemmas.Bool.{true≢false, false≢true}
-use Rattle.std.proofs.lemmas.Bool.Decides.{nat_tests}
-use Rattle.std.proofs.lemmas.List.Sums.{sum_by-cons}
+use Rattle.std.proofs.{lemmas.Bool.Decides.nat_tests, lemmas.List.Sums.sum_by-cons}
 use Rattle.cnf_base.specs.Literals.{Literal, Clause, has, size}
-use Rattle.cnf_base.proofs.SetLemmas.{both_pass, has_head}
-use Rattle.cnf_base.proofs.SizeLemmas.{distinct_parts}
+use Rattle.cnf_base.proofs.{SetLemmas.both_pass, SetLemmas.has_head, SizeLemmas.distinct_parts}
 use Rattle.clause_db.specs.Store.{is_tautology}
 use Rattle.watch_lists.specs.Lists.{times_in}
-use Rattle.watch_lists.specs.Watched.{watches, is_short, IsTautologyList, tautology_for}
-use Rattle.watch_lists.proofs.WatchListsLemmas.Watched.{watches_first}
+use Rattle.watch_lists.specs.Watched.{watches, IsTautologyList, tautology_for}
 
 -- a clause of two literals or more
 module _ (first second : Literal) where
@@ -22,43 +19,17 @@ module _ (first second : Literal) where
       true≢false (sym (has_head b c) ∙ ap (has (b ∷ c)) (sym second_is ∙ sym same ∙ first_is) ∙ (distinct_parts a (b ∷ c) different).0)
 
   pub two_watched : (c : Clause) → is_tautology c ≡ false → 2 ≤ length c → first ≡ get_or c 0 first → second ≡ get_or c 1 second → (x : Literal) → watches c x ≡ (eqb first x || eqb second x)
-  two_watched [] apart long first_is second_is x = absurd (omega (arith, long))
-  two_watched (a ∷ []) apart long first_is second_is x = absurd (omega (arith, long))
-  two_watched (a ∷ b ∷ c) apart long first_is second_is x =
-      watches_first (a ∷ b ∷ c) x apart
-      ∙ ap (λ l. eqb l x || eqb b x) (sym first_is) ∙ ap (λ l. eqb first x || eqb l x) (sym second_is)
+  two_watched c h1 h2 h3 h4 x = search rules
 
   -- an entry in each of the two lists
   pub one_each : first ≢ second → (slot l s : ℕ) → cond {A = ℕ} ((eqb first l || eqb second l) && eqb s slot) 1 0 ≡ cond (eqb l first && eqb s slot) 1 0 + cond (eqb l second && eqb s slot) 1 0
   one_each apart slot l s = grind (arith, nat_tests)
 
-pub two_long : (c : Clause) → 2 ≤ length c → is_short c ≡ false
-two_long [] long = absurd (omega (arith, long))
-two_long (a ∷ []) long = absurd (omega (arith, long))
-two_long (a ∷ b ∷ c) long = refl
-
-pub short_is : (c : Clause) → length c < 2 → is_short c ≡ true
-short_is [] h = refl
-short_is (a ∷ []) h = refl
-short_is (a ∷ b ∷ c) h = absurd (omega (arith, h))
-
--- of a clause that is no tautology no list of them has more
-pub none_more : (c : Clause) (n s slot : ℕ) → is_tautology c ≡ false → n ≡ n + cond {A = ℕ} (is_tautology c && eqb s slot) 1 0
-none_more c n s slot alone =
-    let none = ap (λ b. cond {A = ℕ} (b && eqb s slot) 1 0) alone in omega (arith, none)
-
 -- ---- Slots in a list
 
 pub has_times : (xs : List ℕ) (s : ℕ) → 0 < times_in s xs → has xs s ≡ true
 has_times [] s h = absurd (omega (arith, h))
-has_times (x ∷ xs) s h = by_test (eqb x s) refl (has_times xs s)
-  where
-    by_test : (b : Bool) → eqb x s ≡ b → (0 < times_in s xs → has xs s ≡ true) → (b || has xs s) ≡ true
-    by_test true e rest = refl
-    by_test false e rest =
-        let split = sum_by-cons (λ y. cond (eqb y s) 1 0) x xs in
-        let none = ap (λ b. cond {A = ℕ} b 1 0) e in
-        rest (omega (arith, h, split, none))
+has_times (x ∷ xs) s h = search (rules, arith, sum_by-cons, (has_times xs))
 
 pub times_has : (xs : List ℕ) (s : ℕ) → has xs s ≡ true → 0 < times_in s xs
 times_has [] s h = absurd (false≢true h)
@@ -69,19 +40,9 @@ times_has (x ∷ xs) s h = by_test (eqb x s) refl (times_has xs s) h
         let split = sum_by-cons (λ y. cond (eqb y s) 1 0) x xs in
         let one = ap (λ b. cond {A = ℕ} b 1 0) e in
         omega (arith, split, one)
-    by_test false e rest g =
-        let split = sum_by-cons (λ y. cond (eqb y s) 1 0) x xs in
-        let more = rest g in
-        omega (arith, split, more)
+    by_test false e rest g = search rules
 
 -- a slot stands in their list where its clause is one
 pub tautology_listed : (live : ℕ → Option Clause) (list : List ℕ) → IsTautologyList live list → (s : ℕ) (c : Clause) → live s ≡ Some c → has list s ≡ is_tautology c
 tautology_listed live list listed s c here =
-    let count = listed.listed s ∙ ap tautology_for here in
-    both_pass (has list s) (is_tautology c)
-    (λ h. let some = times_has list s h in by_count (is_tautology c) (omega (arith, some, count)))
-    (λ h. has_times list s (let one = ap (λ b. cond {A = ℕ} b 1 0) h in omega (arith, one, count)))
-  where
-    by_count : (b : Bool) → 0 < cond {A = ℕ} b 1 0 → b ≡ true
-    by_count true h = refl
-    by_count false h = absurd (omega (arith, h))
+    search (rules, arith, tautology_for, both_pass, times_has, has_times)

@@ -1,34 +1,27 @@
 -- The literals that a clause watches, and tautologies.
-use Rattle.std.proofs.Common.{◌≡◌, true, false, [], ◌∷◌, inl, inr, not, ◌&&◌, refl, sym, ap, ◌∙◌}
-use Rattle.std.proofs.lemmas.Bool.{false≢true, and_parts, false_from_ne_true, not-true}
-use Rattle.std.proofs.Math.Bool.{and-true}
+use Rattle.std.proofs.Common.{arith, rules, ◌≡◌, true, false, [], ◌∷◌, refl, sym, ◌∙◌}
+use Rattle.std.proofs.lemmas.Bool.{false≢true, false_from_ne_true}
 use Rattle.cnf_base.specs.Literals.{Literal, complement, Clause, has}
 use Rattle.cnf_base.proofs.LiteralLemmas.{complement-other}
-use Rattle.cnf_base.proofs.SetLemmas.{any_from, any_some, both_pass, has_cases}
+use Rattle.cnf_base.proofs.SetLemmas.{any_from, any_some, both_pass}
 use Rattle.clause_db.specs.Store.{is_tautology}
 use Rattle.watch_lists.specs.Watched.{is_first, is_short, watches}
 
 -- a clause that watches a literal has it among its first two, and is no tautology
 pub watched_first : (c : Clause) (l : Literal) → watches c l ≡ true → is_first c l ≡ true
-watched_first c l there = (and_parts (is_first c l) (not (is_tautology c)) there).0
+watched_first c l there = search rules
 
 pub watched_apart : (c : Clause) (l : Literal) → watches c l ≡ true → is_tautology c ≡ false
-watched_apart c l there = not-true (is_tautology c) (and_parts (is_first c l) (not (is_tautology c)) there).1
+watched_apart c l there = search rules
 
 pub watches_first : (c : Clause) (l : Literal) → is_tautology c ≡ false → watches c l ≡ is_first c l
-watches_first c l apart = ap (λ b. is_first c l && not b) apart ∙ and-true (is_first c l)
+watches_first c l apart = search rules
 
 -- ---- Tautologies
 
 -- a clause in another order is one where it was
 pub tautology_alike : (c d : Clause) → ((l : Literal) → has d l ≡ has c l) → is_tautology d ≡ is_tautology c
-tautology_alike c d alike =
-    both_pass (is_tautology d) (is_tautology c) (carried d c alike) (carried c d (λ l. sym (alike l)))
-  where
-    carried : (c d : Clause) → ((l : Literal) → has c l ≡ has d l) → is_tautology c ≡ true → is_tautology d ≡ true
-    carried c d alike both =
-        let w = any_some (λ l. has c (complement l)) c both in
-        any_from (λ l. has d (complement l)) d w.0 (sym (alike w.0) ∙ w.1) (sym (alike (complement w.0)) ∙ w.2)
+tautology_alike c d alike = search (rules, arith, both_pass, any_some, any_from)
 
 -- one literal has no complement beside it
 pub short_apart : (c : Clause) → is_short c ≡ true → is_tautology c ≡ false
@@ -38,5 +31,5 @@ short_apart (a ∷ []) short = false_from_ne_true (is_tautology (a ∷ [])) (λ 
     complement-other w.0 (sym (only (complement w.0) w.2) ∙ only w.0 w.1))
   where
     only : (l : Literal) → has (a ∷ []) l ≡ true → a ≡ l
-    only l member = elim (has_cases a [] l member) [ inl e ↦ e | inr none ↦ absurd (false≢true none) ]
+    only l member = search rules
 short_apart (a ∷ b ∷ c) short = absurd (false≢true short)

@@ -1,7 +1,8 @@
-use Rattle.std.proofs.Common.{rules, ◌≡◌, Some, is_some, ap, ◌∙◌, arith}
+use Rattle.clause_db.proofs.StoreLemmas.Below.{below_all}
+use Rattle.std.proofs.Common.{rules, ◌≡◌, Some, is_some, ap, arith}
 use Rattle.std.specs.FinMap as maps
 use Rattle.watch_lists.proofs.WatchListsLemmas.Entries.{tautology_listed}
-use Rattle.watch_lists.proofs.WatchListsLemmas.Made.{made_all, made_next, made_none, made_nothing}
+use Rattle.watch_lists.proofs.WatchListsLemmas.Made.{made_next, made_none, made_nothing}
 use Rattle.watch_lists.proofs.listing.listed.Goals as goal
 use Rattle.watch_lists.proofs.listing.listed.Goals.{in-Some+in_ok-watch_first_two, in_default}
 
@@ -20,10 +21,7 @@ loop-number-preserved c =
     ]
 
 pub returns : goal.returns
-returns c = made_all c.args.store.now.live c.loop-number.number c.loop-number.lists (λ s some. search (rules, arith)) c.loop-number.invariant
+returns c = search (rules, arith, below_all)
 
 pub watch_first_two-requires-clause-complements : goal.watch_first_two-requires-clause-complements
-watch_first_two-requires-clause-complements c =
-    c.has.ensures
-    ∙ tautology_listed (maps.get c.args.store.now.live) c.args.tautologies.now c.requires.tautologies
-    c.loop-number.number c.in-Some.clause.now (search rules)
+watch_first_two-requires-clause-complements c = search (rules, arith, tautology_listed)

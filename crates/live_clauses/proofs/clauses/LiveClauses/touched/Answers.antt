@@ -1,10 +1,10 @@
-use Rattle.std.proofs.{Common.OnOk, Common.ap, Common.map, Common.subst, lemmas.Result.on_ok_weaker}
+use Rattle.std.proofs.Common.{rules, OnOk, ap, map, subst}
 use Rattle.std.specs.List.Sorted.{IsPermutation}
-use Rattle.std.specs.FinMap as maps
 use Rattle.live_clauses.specs.Code.LiveClauses.{owner_at}
 use Rattle.live_clauses.proofs.ClausesLemmas.Kept.{when_both}
 use Rattle.live_clauses.proofs.ClausesLemmas.Touched.{AreTouched, are_touched}
 use Rattle.live_clauses.proofs.clauses.LiveClauses.touched.Goals.{After-identify}
+use Rattle.std.specs.FinMap as maps
 use Rattle.live_clauses.proofs.clauses.LiveClauses.touched.Goals as goal
 
 found : (c : After-identify) → OnOk c.identify.result (AreTouched (maps.get c.args.self.now.live) c.args.l c.identify.new.into.items)
@@ -16,10 +16,10 @@ found c =
     when_both c.identify.result (λ moved. are_touched s.ids s.store.live c.args.self.now (ap (λ v. v.live) c.self.view_is) c.self.invariant.0.0 c.keep.new.self.by_slot.items noted c.args.l slots c.identify.new.into.items c.in_ok-slots_touched.ensures.each c.in_ok-slots_touched.ensures.all moved c.in_ok-slots_touched.ensures.ascending) moved c.identify.ensures.sorted
 
 pub returns-clause-ascending : goal.returns-clause-ascending
-returns-clause-ascending c = on_ok_weaker c.identify.result (λ (t : AreTouched _ _ _). t.ascending) (found c)
+returns-clause-ascending c = let f = found c in search rules
 
 pub returns-clause-each : goal.returns-clause-each
-returns-clause-each c = on_ok_weaker c.identify.result (λ (t : AreTouched _ _ _). t.each) (found c)
+returns-clause-each c = let f = found c in search rules
 
 pub returns-clause-all : goal.returns-clause-all
-returns-clause-all c = on_ok_weaker c.identify.result (λ (t : AreTouched _ _ _). t.all) (found c)
+returns-clause-all c = let f = found c in search rules

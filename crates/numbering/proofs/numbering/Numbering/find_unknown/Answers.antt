@@ -1,13 +1,11 @@
-use Rattle.std.proofs.{Common.sym, Common.ap, Common.◌∙◌, lemmas.Bool.false≢true}
-use Rattle.cnf_base.specs.Literals.{has, variable}
+use Rattle.std.proofs.Common.{rules}
+use Rattle.cnf_base.specs.Literals.{variable}
 use Rattle.numbering.specs.Code.Numbers.{number_at}
 use Rattle.numbering.proofs.NumberLemmas.{is_none, is_unmet}
 use Rattle.numbering.proofs.numbering.Numbering.find_unknown.Goals as goal
 
 pub find_next-requires : goal.find_next-requires
 find_next-requires c =
-    let n = c.self.inside in
-    let f = number_at n.numbers in
-    let v = variable c.args.l in
-    let none = is_none f n.count c.self.invariant.0 v c.get_or.result (c.get_or.ensures ∙ ap f c.var.ensures.value) (λ from to. false≢true (c.in-None.ensures.some.1 (from, to))) in
-    ap (λ ns. has ns v) (sym c.self.view_is) ∙ is_unmet f n.count c.self.invariant.0 v none
+    let f = number_at c.self.inside.numbers in
+    let none = is_none f _ c.self.invariant.0 (variable c.args.l) c.get_or.result in
+    search (rules, is_unmet, none)

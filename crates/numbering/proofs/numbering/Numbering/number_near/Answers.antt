@@ -1,11 +1,10 @@
-use Rattle.std.proofs.Common.{◌≡◌, ◌≢◌, ◌+◌, ◌*◌, ◌%◌, ◌++◌, ◌∷◌, [], ◌<◌, map, take, length, sym, ap, ◌∙◌, refl, arith}
-use Rattle.std.proofs.Common.{unwrap_or, slice_get, true, vec_len, slice_index_or}
+use Rattle.std.proofs.Common.{rules, ◌≡◌, ◌≢◌, ◌∷◌, [], ◌<◌, take, length, sym, ap, ◌∙◌, refl}
+use Rattle.std.proofs.Common.{arith, true, vec_len, slice_index_or}
 use Rattle.std.proofs.lemmas.List.{map-append}
 use Rattle.cnf_base.specs.Literals.{has, variable}
 use Rattle.cnf_base.proofs.WalkLemmas.{take_is}
 use Rattle.theory.specs.Renaming.{renamed}
-use Rattle.numbering.specs.Names.{number_in, with_name, with_names}
-use Rattle.numbering.specs.Code.Numbers.{number_at}
+use Rattle.numbering.specs.{Names.number_in, Code.Numbers.number_at}
 use Rattle.numbering.proofs.NameLemmas.{with_names_push, same_names}
 use Rattle.numbering.proofs.NumberLemmas.{is_met, number_is, number_near}
 use Rattle.tables.specs.Filled.{at}
@@ -26,20 +25,13 @@ loop-near-preserved c =
     let split = ap (λ k. take k lits) c.push_reserved.ensures.len ∙ take_is lits i inside l (c.index-lits-len.is ∙ ap (λ k. slice_index_or lits k l) c.len-in-loop-near.ensures) in
     let from = (c.in-Some.ensures.some.0 refl).0 in
     let some : number ≢ 0 = omega (arith, from) in
-    let stands = number_near (at n.numbers) near c.near-near.ensures v number (c.number_among.ensures ∙ ap (λ k. unwrap_or (slice_get near k) 0) c.var.ensures.value) some in
+    let stands = number_near (at n.numbers) near c.near-near.ensures v number (search rules) some in
     let met_there = is_met (number_at n.numbers) n.count c.self.invariant.0 v (λ none. some (sym stands ∙ none)) in
-    let met : has names v ≡ true = ap (λ ns. has ns v) (sym c.self.view_is) ∙ met_there in
-    let number_there = number_is (number_at n.numbers) n.count c.self.invariant.0 v (λ none. some (sym stands ∙ none)) ∙ stands in
-    let numbered : number_in names v ≡ number = ap (λ ns. number_in ns v) (sym c.self.view_is) ∙ number_there in
-    let literal : c.in-Some.l ≡ renamed (number_in names) l = c.in-Some.ensures.value ∙ ap (λ k. 2 * k + l % 2) (sym numbered) in
-    record {
-      met =
-          ap (with_names names) split ∙ with_names_push names before l ∙ ap (λ ns. with_name ns v) c.loop-near.invariant.met
-          ∙ same_names names v met;
-      literals = c.push_reserved.ensures.items
-          ∙ (λ j. c.loop-near.invariant.literals j ++ literal j ∷ [])
-          ∙ sym (map-append (renamed (number_in names)) before (l ∷ []))
-          ∙ ap (map (renamed (number_in names))) (sym split);
-      within = omega (arith, c.push_reserved.ensures.len);
-      room = omega (arith, c.push_reserved.ensures.capacity, c.loop-near.invariant.room);
-    }
+    let met : has names v ≡ true = search rules in
+    let number_there = number_is (number_at n.numbers) n.count c.self.invariant.0 v (λ none. some (sym stands ∙ none)) in
+    let numbered : number_in names v ≡ number = search rules in
+    let literal : c.in-Some.l ≡ renamed (number_in names) l = search rules in
+    let pushed = with_names_push names before l in
+    let same = same_names names v met in
+    let mapped = map-append (renamed (number_in names)) before (l ∷ []) in
+    record { met = search rules; literals = search rules; within = search (rules, arith); room = search (rules, arith) }

@@ -1,27 +1,15 @@
-use Rattle.std.proofs.Common.{◌<◌, ◌≤◌, sym, ap, ◌∙◌, nat_eq, length, arith}
-use Rattle.std.proofs.lemmas.Bool.{le-ltb}
-use Rattle.std.proofs.lemmas.Grind.{get_or_default_zero}
+use Rattle.std.proofs.Common.{rules, ◌≤◌, sym, ap, ◌∙◌, length, arith}
+use Rattle.std.proofs.{lemmas.Bool.le-ltb, lemmas.Grind.get_or_default_zero}
 use Rattle.cnf_base.specs.Literals.{has}
 use Rattle.tables.specs.Table.{at}
 use Rattle.watch_lists.proofs.WatchListsLemmas.SlotList.{absent_none, absent_past, there_if}
 use Rattle.watch_lists.proofs.slot_list.SlotList.has.Goals as goal
 
 pub returns-in_default : goal.returns-in_default
-returns-in_default c =
-    let i = c.self.inside in
-    absent_none i.slots.items (at i.places) c.self.invariant c.args.slot
-    (sym c.get.ensures ∙ c.in_default.is)
-    ∙ ap (λ ls. has ls c.args.slot) c.self.view_is
+returns-in_default c = search (rules, arith, absent_none)
 
 pub returns-then-place-len : goal.returns-then-place-len
-returns-then-place-len c =
-    let i = c.self.inside in
-    let low : c.in-Some.place < length i.slots.items = omega arith in
-    ap (λ x. nat_eq x c.args.slot)
-    (c.index.ensures ∙ get_or_default_zero i.slots.items c.in-Some.place c.index.result.now low)
-    ∙ there_if i.slots.items (at i.places) c.self.invariant c.args.slot c.in-Some.place
-    (sym c.get.ensures ∙ c.in-Some.is) low
-    ∙ ap (λ ls. has ls c.args.slot) c.self.view_is
+returns-then-place-len c = search (rules, arith, get_or_default_zero, there_if)
 
 pub returns-else-place-len : goal.returns-else-place-len
 returns-else-place-len c =

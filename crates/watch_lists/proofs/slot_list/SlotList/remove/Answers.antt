@@ -1,7 +1,6 @@
-use Rattle.std.proofs.Common.{◌+◌, cond, eqb, sym, ap, ◌∙◌, arith}
+use Rattle.std.proofs.Common.{rules, sym, ap, ◌∙◌, arith}
 use Rattle.tables.specs.Table.{at}
 use Rattle.cnf_base.specs.Literals.{has}
-use Rattle.watch_lists.specs.Lists.{times_in}
 use Rattle.watch_lists.proofs.WatchListsLemmas.Lists.{times_taken}
 use Rattle.watch_lists.proofs.WatchListsLemmas.SlotList.{placed_none, placed_some}
 use Rattle.watch_lists.proofs.slot_list.SlotList.remove.Goals as goal
@@ -14,18 +13,10 @@ swap_remove-requires c =
     omega arith
 
 pub returns-in-Some-clause-times : goal.returns-in-Some-clause-times
-returns-in-Some-clause-times c s =
-    let i = c.self.inside in
-    let w = placed_some i.slots.items (at i.places) c.self.invariant c.args.slot (ap (λ ls. has ls c.args.slot) c.self.view_is ∙ c.requires) c.in-Some.place (sym c.get.ensures ∙ c.in-Some.is) in
-    ap (λ xs. times_in s xs + cond (eqb s c.args.slot) 1 0) c.swap_remove.ensures.items
-    ∙ times_taken i.slots.items c.in-Some.place c.args.slot c.swap_remove.result w.0 w.1 c.swap_remove.ensures.value s ∙ ap (times_in s) c.self.view_is
+returns-in-Some-clause-times c s = search (rules, arith, placed_some, times_taken)
 
 pub returns-in_default-clause-times : goal.returns-in_default-clause-times
-returns-in_default-clause-times c s =
-    let i = c.self.inside in
-    absurd (placed_none i.slots.items (at i.places) c.self.invariant c.args.slot (ap (λ ls. has ls c.args.slot) c.self.view_is ∙ c.requires) (sym c.get.ensures ∙ c.in_default.is))
+returns-in_default-clause-times c s = search (rules, arith, placed_none)
 
 pub returns-in_default-clause-len : goal.returns-in_default-clause-len
-returns-in_default-clause-len c =
-    let i = c.self.inside in
-    absurd (placed_none i.slots.items (at i.places) c.self.invariant c.args.slot (ap (λ ls. has ls c.args.slot) c.self.view_is ∙ c.requires) (sym c.get.ensures ∙ c.in_default.is))
+returns-in_default-clause-len c = search (rules, arith, placed_none)
