@@ -1,41 +1,37 @@
 -- A check, step by step.
-use Rattle.theory.specs.{Verdicts.system_of, Losses.LostBySteps}
-use Rattle.theory.specs.Rules.{Rule, after, sum_of, IsFinite}
-use Rattle.theory.proofs.LawLemmas.Existence.{after_finite, same_finite}
-use Rattle.std.proofs.Common.{◌≡◌, ℕ, ◌+◌, ◌≤◌, Bool, true, false, Option, None, Some, List, []}
-use Rattle.std.proofs.Common.{◌++◌, refl, sym, ap, ◌∙◌, subst, arith, append_assoc, inr, rules}
-use Rattle.std.specs.Prelude.{Result, Ok, Err}
-use Rattle.cnf_base.specs.Stream.{Input, Suffix, from_start, Reader, Stream, Along, unread_stream}
-use Rattle.cnf_base.specs.Stream.{bytes_read}
-use Rattle.cnf_base.specs.Seen.{Seen, IsSeen}
-use Rattle.writers.specs.Lines.{Sink, Writes}
-use Rattle.cnf_base.specs.declared.fault.Fault.{Fault}
-use Rattle.cnf_base.specs.declared.fault.Fault.TheVariants.{Text, Binary, ReadFailed, OutOfMemory}
-use Rattle.writers.proofs.LineLemmas.{Writes-then}
-use Rattle.cnf_base.proofs.StreamLemmas.{Along-then, Along-map, Along-none, Along-within}
-use Rattle.cnf_base.proofs.SeenLemmas.{Seen-nothing, Seen-run, Seen-fact}
+use Rattle.cnf_base.specs.declared.fault.Fault.TheVariants.{Binary, ReadFailed, Text}
+use Rattle.cnf_base.proofs.SeenLemmas.{Seen-fact, Seen-nothing, Seen-run}
+use Rattle.cnf_base.proofs.StreamLemmas.{Along-map, Along-none, Along-then, Along-within}
+use Rattle.cnf_base.specs.{Seen.IsSeen, Seen.Seen, Stream.Along, Stream.Input}
+use Rattle.cnf_base.specs.Stream.{Reader, Stream, Suffix, bytes_read, from_start, unread_stream}
+use Rattle.cnf_base.specs.declared.fault.Fault.{Fault, TheVariants.OutOfMemory}
 use Rattle.dimacs.specs.Formula.{formula_of}
+use Rattle.proofs.specs.Reading.{GivesStep, IsFaulty, PassesNoEnd, Proof, ProofReading, with_step}
 use Rattle.proofs.specs.{Steps.Step, declared.step_end.StepEnd.StepEnd}
-use Rattle.proofs.specs.Reading.{ProofReading, Proof, with_step, IsFaulty, GivesStep, PassesNoEnd}
-use Rattle.steps.specs.ProofSession.{View, is_over}
-use Rattle.sat_check.specs.{FormulaReach.ReadsNoFurtherThanFault, Code.Reach.IsVerdict}
-use Rattle.sat_check.specs.Code.Checking.{end_report, Standing, Rest, GoesOn, Stops, IsRefused}
-use Rattle.sat_check.specs.Code.Checking.{LeavesRest, LeavesProof, AllReports, RunsInto, counted}
-use Rattle.sat_check.specs.Code.Checking.{traced}
-use Rattle.sat_check.specs.{Code.Writer.LeavesWriter, Reach.ReadsNoFurther, Reach.TellsFault}
-use Rattle.sat_check.specs.{Reach.TellsWhy, Report.Report, Report.Outcome, Report.Reports}
-use Rattle.sat_check.specs.{Report.text_of, Report.with_lines, declared.checked.Checked.Checked}
-use Rattle.sat_check.specs.declared.input_fault.InputFault.TheVariants as of
-use Rattle.sat_check.proofs.ShownLemmas.{traced_same}
+use Rattle.report.specs.declared.status.Status.TheVariants.{Malformed}
+use Rattle.report.specs.declared.status.Status.TheVariants.{NotVerified, OutOfMemory as NoMemory}
 use Rattle.sat_check.proofs.OutcomeLemmas.{Outcome-after, Writes-all, Writes-still, text_of-append}
-use Rattle.sat_check.proofs.ReadLemmas.{unread_fault}
-use Rattle.sat_check.proofs.ReachLemmas.{no_verdict, LeavesRest-none, LeavesRest-broken}
-use Rattle.sat_check.proofs.ReachLemmas.{TellsFault-none, TellsLoss-none, LeavesRest-decided}
-use Rattle.sat_check.proofs.ReachLemmas.{LeavesRest-step}
-use Rattle.sat_check.proofs.ReportLemmas.{some_report}
-use Rattle.sat_check.proofs.RestLemmas.{Rest-clean, Rest-fault, Rest-some, Rest-step}
-use Rattle.report.specs.declared.status.Status.TheVariants.{NotVerified, Malformed}
-use Rattle.report.specs.declared.status.Status.TheVariants.{OutOfMemory as NoMemory}
+use Rattle.sat_check.proofs.ReachLemmas.{LeavesRest-broken, LeavesRest-decided, LeavesRest-none}
+use Rattle.sat_check.proofs.ReachLemmas.{LeavesRest-step, TellsFault-none, TellsLoss-none}
+use Rattle.sat_check.proofs.{ReachLemmas.no_verdict, ReadLemmas.unread_fault}
+use Rattle.sat_check.proofs.{ReportLemmas.some_report, RestLemmas.Rest-clean, RestLemmas.Rest-fault}
+use Rattle.sat_check.proofs.{RestLemmas.Rest-some, RestLemmas.Rest-step, ShownLemmas.traced_same}
+use Rattle.sat_check.specs.Code.Checking.{AllReports, GoesOn, IsRefused, LeavesProof, LeavesRest}
+use Rattle.sat_check.specs.Code.Checking.{Rest, RunsInto, Standing, Stops, counted, end_report}
+use Rattle.sat_check.specs.Code.{Checking.traced, Reach.IsVerdict, Writer.LeavesWriter}
+use Rattle.sat_check.specs.FormulaReach.{ReadsNoFurtherThanFault}
+use Rattle.sat_check.specs.Reach.{ReadsNoFurther, TellsFault, TellsWhy}
+use Rattle.sat_check.specs.Report.{Outcome, Report, Reports, text_of, with_lines}
+use Rattle.sat_check.specs.declared.checked.Checked.{Checked}
+use Rattle.std.proofs.Common.{Bool, List, None, Option, Some, [], ap, append_assoc, arith, false}
+use Rattle.std.proofs.Common.{inr, refl, rules, subst, sym, true, ℕ, ◌++◌, ◌+◌, ◌∙◌, ◌≡◌, ◌≤◌}
+use Rattle.std.specs.Prelude.{Err, Ok, Result}
+use Rattle.steps.specs.ProofSession.{View, is_over}
+use Rattle.theory.proofs.LawLemmas.Existence.{after_finite, same_finite}
+use Rattle.theory.specs.Losses.{LostBySteps}
+use Rattle.theory.specs.{Rules.IsFinite, Rules.Rule, Rules.after, Rules.sum_of, Verdicts.system_of}
+use Rattle.writers.{proofs.LineLemmas.Writes-then, specs.Lines.Sink, specs.Lines.Writes}
+use Rattle.sat_check.specs.declared.input_fault.InputFault.TheVariants as of
 
 abbrev pub fresh_reading : Stream → ProofReading
 fresh_reading s = record { stream = s; kept = None; step_end = None; stored = 0 }
@@ -102,15 +98,11 @@ module _ (trace : Bool) (start now new : Standing) (first session : View) (accep
       written = so_far.written ++ traced trace number goes.word;
       run = Along-then _ _ _ _ _ _ so_far.run gives (λ i j k m p q. (
         (λ r rest.
-            let P : Report → Type 0 = Rest trace first.state 0 first.peak (start.to_come i) in
-            let Q : Proof → Type 0 = λ x. Rest trace session.state so_far.count session.peak x (with_lines (traced trace number goes.word) r) in
-            subst P (with_both so_far.written (traced trace number goes.word) r) (p.0 (with_lines (traced trace number goes.word) r) (subst Q (sym q.0.2) (front k q.0.0 r rest)))),
+            rw (← with_both so_far.written (traced trace number goes.word) r) (p.0 (with_lines (traced trace number goes.word) r) (rw q.0.2 (front k q.0.0 r rest)))),
         (λ left checked leaves.
-            let Q : Proof → Type 0 = λ x. LeavesRest session x left checked in
-            p.1 left checked (subst Q (sym q.0.2) (LeavesRest-step session step q.0.0 k.offset (new.to_come k) left checked t goes.word goes.answers goes.not_last goes.state goes.lost leaves))),
+            p.1 left checked (rw q.0.2 (LeavesRest-step session step q.0.0 k.offset (new.to_come k) left checked t goes.word goes.answers goes.not_last goes.state goes.lost leaves))),
       ));
-      wrote = let P : List ℕ → Type 0 = Writes was last in
-          subst P (sym (text_of-append so_far.written (traced trace number goes.word))) (Writes-then _ _ _ _ _ so_far.wrote goes.wrote);
+      wrote = rw (text_of-append so_far.written (traced trace number goes.word)) (Writes-then _ _ _ _ _ so_far.wrote goes.wrote);
       whole = goes.whole;
       sound = goes.sound;
       finite = same_finite t.state (after session.state step goes.word) goes.state (after_finite session.state step goes.word so_far.finite);
@@ -121,11 +113,8 @@ module _ (trace : Bool) (start now new : Standing) (first session : View) (accep
         front : (k : Suffix) (at : StepEnd) (r : Report) → Rest trace t.state (so_far.count + 1) t.peak (new.to_come k) r
             → Rest trace session.state so_far.count session.peak (with_step step at k.offset (new.to_come k)) (with_lines (traced trace number goes.word) r)
         front k at r rest =
-            let R : ℕ → Type 0 = λ m. Rest trace t.state (so_far.count + 1) m (new.to_come k) r in
-            let S : List (List ℕ) → Type 0 = λ x. Rest trace session.state so_far.count session.peak (with_step step at k.offset (new.to_come k)) (with_lines x r) in
-            subst S (sym (traced_same trace number (so_far.count + 1) goes.word counts))
-            (Rest-step trace session.state so_far.count session.peak step at k.offset (new.to_come k) goes.word t.state r goes.answers goes.not_last
-            goes.state so_far.least (subst R goes.peak rest))
+            rw (traced_same trace number (so_far.count + 1) goes.word counts) (Rest-step trace session.state so_far.count session.peak step at k.offset (new.to_come k) goes.word t.state r goes.answers goes.not_last
+            goes.state so_far.least (rw (← goes.peak) rest))
 
     pub Checking-stop : (checked : Checked) (last : Sink) → Stops trace number session step lines last checked.status
         → (checked.status ≡ NotVerified → IsRefused session.state step)
@@ -134,14 +123,11 @@ module _ (trace : Bool) (start now new : Standing) (first session : View) (accep
         → checked.fault ≡ None → (checked.status ≡ Malformed → ⊥)
         → Along start.stream new.stream (λ i j. Ended checked last i j)
     Checking-stop checked last stops refuses told only loss none_lost none not = Along-then _ _ _ _ _ _ so_far.run gives (λ i j k m p q.
-        let s = stops so_far.count k.offset q.0.0 (new.to_come k) counts so_far.least so_far.finite in
-        let Q : Proof → Type 0 = λ x. Rest trace session.state so_far.count session.peak x s.0 in
-        let R : Proof → Type 0 = λ x. LeavesRest session x k checked in
-        let S : Proof → Type 0 = λ x. PassesNoEnd x k in (
+        let s = stops so_far.count k.offset q.0.0 (new.to_come k) counts so_far.least so_far.finite in (
           with_lines so_far.written s.0,
-          p.0 s.0 (subst Q (sym q.0.2) s.1),
+          p.0 s.0 (rw q.0.2 s.1),
           Outcome-after checked.status was.held lines.held last.held so_far.written s.0 (Writes-all was lines (text_of so_far.written) so_far.wrote so_far.whole) s.2,
-          p.1 k checked (subst R (sym q.0.2) (LeavesRest-decided session step q.0.0 k.offset (new.to_come k) k checked refuses (λ v. told v ∙ q.0.1) only loss none_lost (TellsFault-none None (new.to_come k).fault checked none not) (subst S q.0.2 q.1))),
+          p.1 k checked (rw q.0.2 (LeavesRest-decided session step q.0.0 k.offset (new.to_come k) k checked refuses (λ v. told v ∙ q.0.1) only loss none_lost (TellsFault-none None (new.to_come k).fault checked none not) (rw (← q.0.2) q.1))),
         ))
 
   -- what is known so far of the report, and of the step that decides
@@ -163,11 +149,8 @@ module _ (trace : Bool) (start now new : Standing) (first session : View) (accep
     pub Checking-end : Along now.stream new.stream (Gave (Ok false) None step)
         → Outcome checked.status lines.held last.held (end_report None) → TellsFault None None checked → Along start.stream new.stream (λ i j. Ended checked last i j)
     Checking-end gives o tells = Along-then _ _ _ _ _ _ so_far.run gives (λ i j k m p q.
-        let Q : Proof → Type 0 = λ x. Rest trace session.state so_far.count session.peak x (end_report None) in
-        let R : Proof → Type 0 = λ x. LeavesRest session x k checked in
-        let S : Proof → Type 0 = λ x. PassesNoEnd x k in
-        ended checked last i j k (end_report None) p (subst Q (sym q.0.1) (Rest-clean trace session.state so_far.count session.peak)) o
-        (subst R (sym q.0.1) (LeavesRest-none session None None k checked none quiet tells (subst S q.0.1 q.1))))
+        ended checked last i j k (end_report None) p (rw q.0.1 (Rest-clean trace session.state so_far.count session.peak)) o
+        (rw q.0.1 (LeavesRest-none session None None k checked none quiet tells (rw (← q.0.1) q.1))))
 
     -- what is told where the proof has this fault
     abbrev TellsOf : Fault → Type 0
@@ -180,14 +163,10 @@ module _ (trace : Bool) (start now new : Standing) (first session : View) (accep
     Checking-fault end f gives refused other tells = by f gives refused other tells
       where
         met : (f : Fault) (i j k : Suffix) → SoFar i j → IsFaulty f (now.to_come j) × PassesNoEnd (now.to_come j) k → Outcome checked.status lines.held last.held (end_report (Some f)) → TellsOf f → Ended checked last i k
-        met f i j k p q o tells =
-            let end = (now.to_come j).fault_end in
+        met f i j k p q o tells = let end = (now.to_come j).fault_end in
             let e = IsFaulty-is f (now.to_come j) q.0 in
-            let Q : Proof → Type 0 = λ x. Rest trace session.state so_far.count session.peak x (end_report (Some f)) in
-            let R : Proof → Type 0 = λ x. LeavesRest session x k checked in
-            let S : Proof → Type 0 = λ x. PassesNoEnd x k in
-            ended checked last i j k (end_report (Some f)) p (subst Q (sym e) (Rest-fault trace session.state so_far.count session.peak f end)) o
-            (subst R (sym e) (LeavesRest-none session (Some f) end k checked none quiet (record { malformed = tells.0; only = tells.1 }) (subst S e q.1)))
+            ended checked last i j k (end_report (Some f)) p (rw e (Rest-fault trace session.state so_far.count session.peak f end)) o
+            (rw e (LeavesRest-none session (Some f) end k checked none quiet (record { malformed = tells.0; only = tells.1 }) (rw (← e) q.1)))
 
         by : (f : Fault) → Along now.stream new.stream (Gave (Err f) end step)
             → (f ≡ OutOfMemory → (r : Report) → Outcome checked.status lines.held last.held r) → ((f ≡ OutOfMemory → ⊥) → Outcome checked.status lines.held last.held (end_report (Some f)))
@@ -213,17 +192,15 @@ step_told now new result answer end s gives is = search rules
 reports_nothing : (rule : Rule) (trace : Bool) (steps : Input → Proof) (formula proof new : Reader) (checked : Checked) (was now : Sink) → proof ≡ new
     → checked.refused ≡ None → checked.literal_lost ≡ false → ((r : Report) → Outcome checked.status was.held now.held r) → checked.fault ≡ None → (checked.status ≡ Malformed → ⊥) → AllReports rule trace steps formula formula proof new checked was.held now.held
 reports_nothing rule trace steps formula proof new checked was now same none quiet o sound not =
-    let P : Reader → Type 0 = λ r. AllReports rule trace steps formula formula proof r checked was.held now.held in
-    subst P same (record {
+    rw (← same) (record {
       first = Seen-nothing formula;
       second = Seen-nothing proof;
-      fact = λ i j s t.
-          let some = some_report rule trace i (steps j) in (
-            record { report = some.0; reports = some.1; outcome = o some.0 },
-            record { unread = λ n. refl; past = λ words ending last whole e d. omega arith; fault = λ offset e. omega arith },
-            record { unread = λ n. none; refused = λ words ending whole is e. absurd (broken (inr is)); only = λ _. none; loss = TellsLoss-none rule (formula_of i).fault (formula_of i).clauses (steps j) checked none quiet; malformed = TellsFault-none (formula_of i).fault (steps j).fault checked sound not },
-            unread_fault i formula formula refl,
-          );
+      fact = λ i j s t. let some = some_report rule trace i (steps j) in (
+        record { report = some.0; reports = some.1; outcome = o some.0 },
+        record { unread = λ n. refl; past = λ words ending last whole e d. omega arith; fault = λ offset e. omega arith },
+        record { unread = λ n. none; refused = λ words ending whole is e. absurd (broken (inr is)); only = λ _. none; loss = TellsLoss-none rule (formula_of i).fault (formula_of i).clauses (steps j) checked none quiet; malformed = TellsFault-none (formula_of i).fault (steps j).fault checked sound not },
+        unread_fault i formula formula refl,
+      );
     })
   where
     broken : IsVerdict checked.status → ⊥
@@ -277,13 +254,5 @@ module _ (rule : Rule) (trace : Bool) (to_come : ProofReading → Suffix → Pro
 -- the same report by the same rule of the same steps
 pub reports_as : (rule other : Rule) (trace : Bool) (steps others : Input → Proof) (formula formula_new proof new : Reader) (checked : Checked) (was now : Sink) → rule ≡ other → ((j : Input) → steps j ≡ others j)
     → AllReports rule trace steps formula formula_new proof new checked was.held now.held → AllReports other trace others formula formula_new proof new checked was.held now.held
-reports_as rule other trace steps others formula formula_new proof new checked was now is all reports = record {
-  first = reports.first;
-  second = reports.second;
-  fact = λ i j s t.
-      let P : Rule → Proof → Type 0 = λ q p. Reports (system_of q) trace i p was.held now.held checked.status
-      × ReadsNoFurther (system_of q) (formula_of i) p proof new × TellsWhy (system_of q) (LostBySteps q) (formula_of i).fault (formula_of i).clauses p checked
-      × ReadsNoFurtherThanFault i formula formula_new in
-      let Q : Rule → Type 0 = λ q. P q (steps j) in
-      subst (P other) (all j) (subst Q is (reports.fact i j s t));
-}
+reports_as rule other trace steps others formula formula_new proof new checked was now is all reports =
+    search rules

@@ -24,11 +24,9 @@ pub claim_consistent : (i : Input) → IfOk (claim_of i) IsConsistent
 claim_consistent i = by (claim_of i) refl
   where
     of_listed : (listed : List Literal) → claim_of i ≡ Ok listed → IsConsistent listed
-    of_listed listed ok =
-        let P : Input → Type 0 = λ x. claim_of x ≡ Ok listed in
+    of_listed listed ok = let P : Input → Type 0 = λ x. claim_of x ≡ Ok listed in
         let whole : claim_of (input_of i.bytes) ≡ Ok listed =
-        subst P (ap (λ e. record { bytes = i.bytes; ending = e }) (claim_ends i listed ok)) ok
-        in
+        subst P (ap (λ e. record { bytes = i.bytes; ending = e }) (claim_ends i listed ok)) ok in
         let consistent = (claim_text i.bytes listed whole).0.consistent in
         λ l h. sym (has_reverse listed (complement l)) ∙ consistent l (has_reverse listed l ∙ h)
 

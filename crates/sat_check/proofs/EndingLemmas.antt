@@ -1,19 +1,16 @@
 -- An input in which no fault was found was read to its end.
-use Rattle.std.proofs.Common.{◌≡◌, ℕ, Bool, List, [], ◌∷◌, Option, None, Some}
-use Rattle.std.proofs.Common.{Result, Ok, Err, refl, ◌∙◌, subst, rules}
-use Rattle.std.specs.Prelude.{IfOk}
-use Rattle.cnf_base.specs.{Literals.Literal, Stream.Input, Text.Listed, Text.Listing, Text.Spot}
-use Rattle.cnf_base.specs.{Text.lines_listing, Text.listing_of, Text.lines_of, Text.is_comment}
+use Rattle.cnf_base.specs.{Literals.Literal, Stream.Input, Text.Listed}
+use Rattle.cnf_base.specs.Text.{Listing, Spot, is_comment, lines_listing, lines_of, listing_of}
+use Rattle.cnf_base.specs.declared.fault.{Fault.Fault, TextFault.TextFault}
 use Rattle.cnf_base.specs.declared.input.Ending.{Ending, TheVariants.End, TheVariants.Failed}
-use Rattle.cnf_base.specs.declared.{place.Place.Place}
-use Rattle.cnf_base.specs.declared.fault.Fault.{Fault}
-use Rattle.cnf_base.specs.declared.fault.TextFault.{TextFault}
+use Rattle.cnf_base.specs.declared.place.Place.{Place}
+use Rattle.dimacs.specs.Claim.{Said, claim_among, claim_of, claim_on_token, nothing}
+use Rattle.dimacs.specs.Formula.{and_then, body_among, body_on_word, formula_of, formula_with}
+use Rattle.dimacs.specs.{Formula.header_of, Formula.judged, declared.header.Header.Header}
+use Rattle.std.proofs.Common.{Bool, Err, List, None}
+use Rattle.std.proofs.Common.{Ok, Option, Result, Some, [], refl, rules, subst, ℕ, ◌∙◌, ◌∷◌, ◌≡◌}
+use Rattle.std.specs.Prelude.{IfOk}
 use Rattle.cnf_base.specs.declared.token.Token.TheVariants as token
-use Rattle.dimacs.specs.Claim.{Said, nothing, claim_on_token, claim_among, claim_of}
-use Rattle.dimacs.specs.Formula.{and_then}
-use Rattle.dimacs.specs.Formula.{header_of, judged}
-use Rattle.dimacs.specs.Formula.{body_on_word, body_among, formula_with, formula_of}
-use Rattle.dimacs.specs.{declared.header.Header.Header}
 
 -- ---- What is left of a text ends as the text does
 
@@ -74,15 +71,12 @@ formula_ends i whole = by i.ending refl
         whole)
 
 -- and it has a header
-pub formula_header : (i : Input) → (formula_of i).fault ≡ None
-    → (h : Header)
-    × (formula_of i ≡
+pub formula_header : (i : Input) → (formula_of i).fault ≡ None → (h : Header) × (formula_of i ≡
     record { header = Some h; clauses = (formula_of i).clauses; fault = None })
 formula_header i whole = by (header_of (listing_of i)) whole
   where
     by : (r : Result (Header × Listing) (Fault × List ℕ)) → (formula_with r).fault ≡ None
-        → (h : Header)
-        × (formula_with r ≡
+        → (h : Header) × (formula_with r ≡
         record { header = Some h; clauses = (formula_with r).clauses; fault = None })
     by (Ok h) whole = search rules
     by (Err f) whole = absurd (no_fault _ whole)
@@ -108,8 +102,7 @@ claim_ends i listed ok = by i.ending refl
   where
     by : (e : Ending) → i.ending ≡ e → e ≡ End
     by End is = refl
-    by Failed is =
-        let P : Ending → Type 0 =
+    by Failed is = let P : Ending → Type 0 =
         λ e. claim_among nothing (listing_of i).tokens (listing_of i).end e ≡ Ok listed in
         absurd (claim_failed nothing (listing_of i).tokens (listing_of i).end listed
         (subst P (listing_ending _ _ (lines_of i.bytes) i.ending ∙ is) ok))

@@ -1,25 +1,24 @@
 -- A formula is judged by listed literals, clause by clause.
-use Rattle.std.proofs.Common.{◌≡◌, ℕ, ◌+◌, ◌-◌, ◌≤◌, cond, Bool, true, false, List, [], ◌∷◌, ◌++◌}
-use Rattle.std.proofs.Common.{length, Option, None, Some, refl, sym, ap, ◌∙◌, subst, arith, rules}
-use Rattle.std.proofs.lemmas.Option.{none-some}
-use Rattle.std.specs.Prelude.{Result, Ok, Err, slice_get}
-use Rattle.cnf_base.specs.{Literals.Literal, Literals.Clause, Code.Seen.OfSeen}
-use Rattle.cnf_base.specs.Stream.{Input, Suffix, Reader, Stream, Along, unread_stream}
-use Rattle.cnf_base.specs.declared.fault.Fault.{Fault}
-use Rattle.cnf_base.specs.declared.fault.Fault.TheVariants.{Text, Binary, ReadFailed, OutOfMemory}
-use Rattle.cnf_base.proofs.StreamLemmas.{Along-then, Along-map}
-use Rattle.dimacs.specs.Formula.{Body, Formula, formula_at, formula_of, ends_at, opened}
-use Rattle.dimacs.specs.Reading.{FormulaReading, clauses_to_come, ends_to_come, unopened}
-use Rattle.dimacs.specs.Reading.{PassesNoEnd}
-use Rattle.sat_check.specs.{FormulaReach.ReadsNoFurtherThanFault, ModelReport.meets}
-use Rattle.sat_check.specs.{ModelReport.first_unmet, Code.FormulaReach.LeavesFault}
+use Rattle.cnf_base.proofs.StreamLemmas.{Along-map, Along-then}
+use Rattle.cnf_base.specs.{Code.Seen.OfSeen, Literals.Clause, Literals.Literal}
+use Rattle.cnf_base.specs.Stream.{Along, Input, Reader, Stream, Suffix, unread_stream}
+use Rattle.cnf_base.specs.declared.fault.Fault.{Fault, TheVariants.OutOfMemory}
+use Rattle.dimacs.specs.Formula.{Body, Formula, ends_at, formula_at, formula_of, opened}
+use Rattle.dimacs.specs.Reading.{FormulaReading}
+use Rattle.dimacs.specs.Reading.{PassesNoEnd, clauses_to_come, ends_to_come, unopened}
+use Rattle.sat_check.proofs.ReadLemmas.{FaultAfter, Gave}
+use Rattle.sat_check.proofs.ReadLemmas.{NonePassed, Reads, Reads-clause, Reads-done, Reads-fault}
+use Rattle.sat_check.proofs.ReadLemmas.{Reads-start, fault_left, length_push, past_first, seen_map}
+use Rattle.sat_check.proofs.ReadLemmas.{seen_nothing, seen_within, unread_fault, with_clauses}
+use Rattle.sat_check.specs.Code.FormulaReach.{LeavesFault}
 use Rattle.sat_check.specs.Code.Judging.{Judges, LeavesUnmet, ReadsToUnmet}
-use Rattle.sat_check.specs.declared.judgement.Judgement.{Judgement}
+use Rattle.sat_check.specs.{FormulaReach.ReadsNoFurtherThanFault, ModelReport.first_unmet}
+use Rattle.sat_check.specs.{ModelReport.meets, declared.judgement.Judgement.Judgement}
 use Rattle.sat_check.specs.declared.judgement.Judgement.TheVariants.{Met, Unmet}
-use Rattle.sat_check.proofs.ReadLemmas.{length_push, with_clauses, seen_nothing, past_first}
-use Rattle.sat_check.proofs.ReadLemmas.{fault_left, unread_fault, seen_within, seen_map, Reads}
-use Rattle.sat_check.proofs.ReadLemmas.{Gave, NonePassed, FaultAfter, Reads-start, Reads-clause}
-use Rattle.sat_check.proofs.ReadLemmas.{Reads-done, Reads-fault}
+use Rattle.std.proofs.Common.{Bool, List, None, Option, Some, [], ap, arith, cond, false, length}
+use Rattle.std.proofs.Common.{refl, rules, subst, sym, true, ℕ, ◌++◌, ◌+◌, ◌-◌, ◌∙◌, ◌∷◌, ◌≡◌, ◌≤◌}
+use Rattle.std.proofs.lemmas.Option.{none-some}
+use Rattle.std.specs.Prelude.{Err, Ok, Result, slice_get}
 
 -- after clauses that are met, the first that isn't is one of those that follow
 first_unmet-append : (k : ℕ) (listed : List Literal) (cs ds : List Clause) → first_unmet k listed cs ≡ None
@@ -44,8 +43,7 @@ unmet_least k listed (c ∷ cs) m h = by (meets listed c) h (λ g. unmet_least (
 -- after clauses that are met, where no end of the others was passed, that of the first one that isn't met wasn't
 not_passed : (listed : List Literal) (read : List Clause) (old : FormulaReading) (i k : Suffix) → first_unmet 1 listed read ≡ None → NonePassed old read i k
     → LeavesUnmet listed (clauses_to_come old i).clauses (ends_to_come old i) k
-not_passed listed read old i k met passed m offset unmet at =
-    let later = passed.0 in
+not_passed listed read old i k met passed m offset unmet at = let later = passed.0 in
     let ends = passed.1 in
     let on = passed.2 in
     let first = on.1.0 in
@@ -138,7 +136,7 @@ module _ (listed : List Literal) (left : Reader) (borrows : List ℕ) (source : 
       let P : Formula → Type 0 = λ x. JudgesFormula listed (Err f) x × (first_unmet 1 listed x.clauses ≡ None) in
       seen_map left new _ (λ i. JudgesFormula listed (Err f) (formula_of i) × ReadsToUnmet listed i left new × ReadsNoFurtherThanFault i left new)
       (seen_within (λ p i j. P (formula_at p i) × LeavesFault (formula_at p i).clauses (ends_at p i) j) left borrows source last new is kept
-      (Along-map _ _ _ _ run (λ i j m e. (subst P (sym e.0) (by f, refl), λ offset at. e.1 _ offset at))))
+      (Along-map _ _ _ _ run (λ i j m e. (rw e.0 (by f, refl), λ offset at. e.1 _ offset at))))
       (λ i x. (
         x.1.0.0,
         λ k offset unmet at. absurd (none-some k (sym x.1.0.1 ∙ unmet)),
@@ -146,10 +144,7 @@ module _ (listed : List Literal) (left : Reader) (borrows : List ℕ) (source : 
       ))
     where
       by : (f : Fault) → JudgesFormula listed (Err f) (unopened f)
-      by (Text k p) = (refl, refl)
-      by (Binary k n) = (refl, refl)
-      by ReadFailed = (refl, refl)
-      by OutOfMemory = tt
+      by f = search rules
 
   -- the clauses were judged
   pub judges_body : (r : FormulaReading) (result : Result Judgement Fault) → Along source r.stream (λ i j. (formula_at source.place i ≡ opened r.header (clauses_to_come r j)) × (ends_at source.place i ≡ ends_to_come r j))
@@ -160,11 +155,7 @@ module _ (listed : List Literal) (left : Reader) (borrows : List ℕ) (source : 
       let P : Formula → List ℕ → Suffix → Type 0 = λ x ends j. JudgesFormula listed result x × LeavesUnmet listed x.clauses ends j × LeavesFault x.clauses ends j in
       seen_map left new _ (λ i. JudgesFormula listed result (formula_of i) × ReadsToUnmet listed i left new × ReadsNoFurtherThanFault i left new)
       (seen_within (λ p i j. P (formula_at p i) (ends_at p i) j) left borrows source last new is kept
-      (Along-then _ _ _ _ _ _ opens body (λ i j k m e q.
-      let Q : Formula → Type 0 = λ x. P x (ends_to_come r j) k in
-      let R : List ℕ → Type 0 = λ ends. P (formula_at source.place i) ends k in
-      subst R (sym e.1) (subst Q (sym e.0) q))))
-      (λ i x. (
+      (Along-then _ _ _ _ _ _ opens body (λ i j k m e q. rw e.1 (rw e.0 q)))) (λ i x. (
         x.1.0,
         λ k offset unmet at. let later = x.1.1 k offset unmet at in omega (arith, later, x.2),
         λ offset at. let later = x.1.2 offset at in omega (arith, later, x.2),

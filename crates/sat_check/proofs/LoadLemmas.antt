@@ -1,34 +1,33 @@
 -- Clauses go into a session one by one.
-use Rattle.std.proofs.Common.{◌≡◌, ℕ, zero, suc, ◌+◌, ◌≤◌, max, Bool, true, false, ◌||◌, List, []}
-use Rattle.std.proofs.Common.{◌∷◌, ◌++◌, length, Some, sym, ap, ◌∙◌, subst, arith, rules}
-use Rattle.std.proofs.lemmas.{Option.none-some, List.Folds.list_any-append, List.Sums.sum_by-append}
-use Rattle.std.specs.{Prelude.Result, Prelude.Ok, Prelude.Err, Ordering.nat_cmp, FinMap.get-empty}
-use Rattle.std.specs.FinMap as maps
-use Rattle.cnf_base.specs.{Literals.Clause, Literals.same_clause, Literals.size, Code.Seen.OfSeen}
-use Rattle.cnf_base.specs.Stream.{Suffix, Reader, Stream, Along, unread_stream}
-use Rattle.cnf_base.specs.declared.place.Place.{Place}
+use Rattle.cnf_base.proofs.{SetLemmas.same_itself, StreamLemmas.Along-map, StreamLemmas.Along-then}
+use Rattle.cnf_base.specs.{Code.Seen.OfSeen, Literals.Clause, Literals.same_clause, Literals.size}
+use Rattle.cnf_base.specs.Stream.{Along, Reader, Stream, Suffix, unread_stream}
 use Rattle.cnf_base.specs.declared.fault.Fault.{Fault, TheVariants.OutOfMemory}
-use Rattle.cnf_base.proofs.{StreamLemmas.Along-then, StreamLemmas.Along-map, SetLemmas.same_itself}
-use Rattle.dimacs.specs.Formula.{Body, Formula, formula_at, formula_of, ends_at, opened}
-use Rattle.dimacs.specs.declared.header.Header.{Header}
-use Rattle.dimacs.specs.Reading.{FormulaReading, clauses_to_come, ends_to_come, unopened}
-use Rattle.dimacs.specs.Reading.{PassesNoEnd}
-use Rattle.steps.specs.{Session.SessionState, Session.fresh, Session.view_of, ProofSession.View}
-use Rattle.theory.specs.Rules.{Rule, lrat, drat, State, by_ids, by_copies, start, with_input}
-use Rattle.theory.specs.Rules.{sum_of, Same, rule_of}
-use Rattle.theory.specs.Lrat.{with_clause, numbered, lrat_start}
-use Rattle.theory.specs.{Sizes.total, Sizes.size_at, Sizes.sum_to, Verdicts.is_empty}
-use Rattle.theory.proofs.LawLemmas.{Existence.numbered_above, Rules.same_trans, Rules.sum_same}
-use Rattle.theory.proofs.DratLemmas.Copies.{copies-cons, none_alive}
-use Rattle.theory.proofs.LratLemmas.{LiveSets.SameClauses-eq, SameSets.with_same}
-use Rattle.theory.proofs.LratLemmas.{States.numbered_push, Sums.sum_with}
+use Rattle.cnf_base.specs.declared.place.Place.{Place}
+use Rattle.dimacs.specs.Formula.{Body, Formula, ends_at, formula_at, formula_of, opened}
+use Rattle.dimacs.specs.Reading.{FormulaReading, PassesNoEnd, clauses_to_come, ends_to_come}
+use Rattle.dimacs.specs.{Reading.unopened, declared.header.Header.Header}
 use Rattle.drat_steps.proofs.DratLemmas.Steps.{none_listed}
-use Rattle.sat_check.specs.FormulaReach.{ReadsNoFurtherThanFault}
-use Rattle.sat_check.specs.Code.Checking.{IsLoaded, LoadsBody, Loads}
-use Rattle.sat_check.specs.Code.FormulaReach.{LeavesFault}
-use Rattle.sat_check.proofs.ReadLemmas.{length_push, seen_nothing, seen_within, seen_map, Reads}
-use Rattle.sat_check.proofs.ReadLemmas.{Gave, FaultAfter, Reads-start, Reads-clause, Reads-done}
-use Rattle.sat_check.proofs.ReadLemmas.{Reads-fault, fault_left, opened_left, unread_fault}
+use Rattle.sat_check.proofs.ReadLemmas.{FaultAfter}
+use Rattle.sat_check.proofs.ReadLemmas.{Gave, Reads, Reads-clause, Reads-done, Reads-fault}
+use Rattle.sat_check.proofs.ReadLemmas.{Reads-start, fault_left, length_push, opened_left}
+use Rattle.sat_check.proofs.ReadLemmas.{seen_map, seen_nothing, seen_within, unread_fault}
+use Rattle.sat_check.specs.Code.Checking.{IsLoaded, Loads, LoadsBody}
+use Rattle.sat_check.specs.{Code.FormulaReach.LeavesFault, FormulaReach.ReadsNoFurtherThanFault}
+use Rattle.std.proofs.Common.{List, Some, [], ap, arith, false, length, max, rules}
+use Rattle.std.proofs.Common.{subst, suc, sym, true, zero, ℕ, ◌++◌, ◌+◌, ◌||◌, ◌∙◌, ◌∷◌, ◌≡◌, ◌≤◌}
+use Rattle.std.proofs.lemmas.{List.Folds.list_any-append, List.Sums.sum_by-append, Option.none-some}
+use Rattle.std.specs.{FinMap.get-empty, Ordering.nat_cmp, Prelude.Err, Prelude.Ok, Prelude.Result}
+use Rattle.steps.specs.{ProofSession.View, Session.SessionState, Session.fresh, Session.view_of}
+use Rattle.theory.proofs.DratLemmas.Copies.{copies-cons, none_alive}
+use Rattle.theory.proofs.LawLemmas.{Existence.numbered_above, Rules.same_trans, Rules.sum_same}
+use Rattle.theory.proofs.LratLemmas.LiveSets.{SameClauses-eq}
+use Rattle.theory.proofs.LratLemmas.{SameSets.with_same, States.numbered_push, Sums.sum_with}
+use Rattle.theory.specs.Lrat.{lrat_start, numbered, with_clause}
+use Rattle.theory.specs.Rules.{Rule, Same, State}
+use Rattle.theory.specs.Rules.{by_copies, by_ids, drat, lrat, rule_of, start, sum_of, with_input}
+use Rattle.theory.specs.{Sizes.size_at, Sizes.sum_to, Sizes.total, Verdicts.is_empty}
+use Rattle.std.specs.FinMap as maps
 
 -- no clause has a number past the last
 -- one clause more, and its size more
@@ -65,9 +64,6 @@ loaded_more rule old new cs c l state verified peak unstepped sound reason room 
   room = let was = l.room in let count = length_push cs c in omega (arith, was, count, room);
 }
   where
-    or_false : (a b : Bool) → (a || b) ≡ (a || (b || false))
-    or_false a b = search rules
-
     same : Same new.state (start rule (cs ++ c ∷ []))
     same = same_trans _ (with_input old.state c) _ state
         (same_trans _ (with_input (start rule cs) c) _ (input_same old.state (start rule cs) c l.state) (start_push rule cs c))
@@ -117,14 +113,12 @@ module _ (rule : Rule) (old now new : FormulaReading) (s : View) (so_far : Loadi
   pub Loading-done : (c : Clause) → Gave now new (Ok false) c
       → Along old.stream new.stream (Body-loaded s (Ok tt))
   Loading-done c gives = Along-map _ _ _ _ (Reads-done old now new so_far.clauses so_far.reads c gives) (λ i j m e.
-      let P : List Clause → Type 0 = IsLoaded rule s in
-      ((ap (λ b. b.fault) e.0, subst P (sym (ap (λ b. b.clauses) e.0)) so_far.loaded), fault_left so_far.clauses old i j e.1))
+      ((ap (λ b. b.fault) e.0, rw (ap (λ b. b.clauses) e.0) so_far.loaded), fault_left so_far.clauses old i j e.1))
 
   pub Loading-fault : (t : View) (c : Clause) (f : Fault) (result : Result (Unit {0}) Fault)
       → result ≡ Err f → Gave now new (Err f) c → Along old.stream new.stream (Body-loaded t result)
   Loading-fault t c f result is gives =
-      let P : Result (Unit {0}) Fault → Type 0 = λ r. Along old.stream new.stream (Body-loaded t r) in
-      subst P (sym is) (Along-map _ _ _ _ (Reads-fault old now new so_far.clauses so_far.reads c f gives) (λ i j m e. (by f (clauses_to_come old i) e.0, fault_left so_far.clauses old i j e.1)))
+      rw is (Along-map _ _ _ _ (Reads-fault old now new so_far.clauses so_far.reads c f gives) (λ i j m e. (by f (clauses_to_come old i) e.0, fault_left so_far.clauses old i j e.1)))
     where
       by : (f : Fault) (b : Body) → FaultAfter so_far.clauses f b → LoadsBody rule t (Err f) b
       by f b h = search rules
@@ -163,10 +157,7 @@ module _ (rule : Rule) (s : View) (left : Reader) (borrows : List ℕ) (source :
 
   pub loads_fault : (f : Fault) (last : Stream) (new : Reader) → new ≡ last.reader
       → Along source last (λ i j. (formula_at source.place i ≡ unopened f) × PassesNoEnd (ends_at source.place i) j) → AllLoads rule s left new (Err f)
-  loads_fault f last new kept run = all_loads last new (Err f) kept (Along-map _ _ _ _ run (λ i j m p. (
-    fault_loads f _ (ap (λ y. y.fault) p.0),
-    λ offset at. p.1 _ offset at,
-  )))
+  loads_fault f last new kept run = all_loads last new (Err f) kept (search (rules, Along-map, fault_loads))
 
   module _ (r : FormulaReading) (last : Stream) (new : Reader) (kept : new ≡ last.reader)
       (opens : Along source r.stream (λ i j. (formula_at source.place i ≡ opened r.header (clauses_to_come r j)) × (ends_at source.place i ≡ ends_to_come r j))) where
@@ -175,17 +166,9 @@ module _ (rule : Rule) (s : View) (left : Reader) (borrows : List ℕ) (source :
     Rest result = Along r.stream last (λ i j. LoadsBody rule s result (clauses_to_come r i) × LeavesFault (clauses_to_come r i).clauses (ends_to_come r i) j)
 
     pub loads_body : (h : Header) → h ≡ r.header → Rest (Ok tt) → AllLoads rule s left new (Ok h)
-    loads_body h same body = all_loads last new (Ok h) kept (Along-then _ _ _ _ _ _ opens body (λ i j k m p q.
-        let P : List Clause → Type 0 = IsLoaded rule s in (
-          (ap (λ y. y.header) p.0 ∙ ap Some (sym same), ap (λ y. y.fault) p.0 ∙ q.0.0, subst P (sym (ap (λ y. y.clauses) p.0)) q.0.1),
-          opened_left _ r.header (clauses_to_come r j) _ (ends_to_come r j) k p.0 p.1 q.1,
-        )))
+    loads_body h same body = all_loads last new (Ok h) kept (search (rules, Along-then, same, opened_left))
 
     pub loads_body_fault : (f : Fault) (result : Result Header Fault) → result ≡ Err f → Rest (Err f)
         → AllLoads rule s left new result
     loads_body_fault f result is body =
-        let P : Result Header Fault → Type 0 = AllLoads rule s left new in
-        subst P (sym is) (all_loads last new (Err f) kept (Along-then _ _ _ _ _ _ opens body (λ i j k m p q. (
-          body_fault f _ r.header _ p.0 q.0,
-          opened_left _ r.header (clauses_to_come r j) _ (ends_to_come r j) k p.0 p.1 q.1,
-        ))))
+        rw is (all_loads last new (Err f) kept (search (rules, Along-then, body_fault, opened_left)))

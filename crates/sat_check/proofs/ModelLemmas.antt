@@ -1,38 +1,34 @@
 -- The report of a model, and what a verified one says.
-use Rattle.std.proofs.Common.{◌≡◌, ℕ, zero, suc, ◌+◌, ◌-◌, ◌<◌, ◌≤◌, ◌*◌, ◌/◌, ◌%◌, cond, Bool}
-use Rattle.std.proofs.Common.{true, false, not, List, [], ◌∷◌, length, Option, None, Some}
-use Rattle.std.proofs.Common.{refl, sym, ap, ◌∙◌, subst, arith, slice_get, codes, rules}
-use Rattle.std.proofs.lemmas.{Option.none-some, Bool.Decides.nat_tests}
-use Rattle.std.specs.Prelude.{Result, Ok, Err, IfOk, IsTrue, ◌==◌}
-use Rattle.writers.specs.Lines.{Sink}
-use Rattle.cnf_base.specs.Literals.{Literal, Clause, complement}
-use Rattle.cnf_base.specs.{Literals.has, declared.fault.Fault.Fault}
-use Rattle.cnf_base.specs.declared.fault.Fault.TheVariants.{Text, Binary, ReadFailed, OutOfMemory}
-use Rattle.cnf_base.specs.{Seen.OfBothSeen, Stream.Input, Stream.Reader, Stream.bytes_read}
 use Rattle.cnf_base.proofs.SetLemmas.{any_from, any_some}
-use Rattle.dimacs.specs.Claim.{claim_of, IsClaim, IsConsistent}
-use Rattle.dimacs.specs.Formula.{Formula, formula_of, ends_of}
+use Rattle.cnf_base.specs.Literals.{Clause, Literal, complement, has}
+use Rattle.cnf_base.specs.{Seen.OfBothSeen, Stream.Input, Stream.Reader, Stream.bytes_read}
+use Rattle.cnf_base.specs.declared.fault.Fault.{Fault, TheVariants.OutOfMemory}
 use Rattle.dimacs.proofs.OffsetLemmas.{ends_of-length}
-use Rattle.theory.specs.Models.{Assignment, holds, satisfies, HasModel}
-use Rattle.sat_check.specs.FormulaReach.{ReadsNoFurtherThanFault}
-use Rattle.sat_check.specs.Report.{Outcome, Report, concluded}
-use Rattle.sat_check.specs.ModelReport.{meets, first_unmet, met_report, clauses_report}
-use Rattle.sat_check.specs.ModelReport.{claim_report, model_report, Satisfies, ChecksModel}
-use Rattle.sat_check.specs.ModelReport.{ModelConsequences, ReadsFormulaNoFurther, TellsModelFault}
-use Rattle.sat_check.specs.ModelReport.{TellsUnmet, first_model_fault}
-use Rattle.sat_check.specs.Reach.{TellsFault, first_fault}
+use Rattle.dimacs.specs.Claim.{IsClaim, IsConsistent, claim_of}
+use Rattle.dimacs.specs.Formula.{Formula, ends_of, formula_of}
+use Rattle.report.specs.Lines.{a_model, fault_line, fault_status}
+use Rattle.report.specs.declared.status.Status.{Status, TheVariants.Malformed}
+use Rattle.report.specs.declared.status.Status.TheVariants.{OutOfMemory as NoMemory, Verified}
+use Rattle.sat_check.proofs.{ClaimLemmas.claim_consistent, JudgeLemmas.unread_unmet}
+use Rattle.sat_check.proofs.{OutcomeLemmas.both_told, ReadLemmas.unread_fault}
+use Rattle.sat_check.proofs.SoundLemmas.{fault_is_no_verdict, outcome_complete, outcome_verified}
+use Rattle.sat_check.proofs.WrittenLemmas.{written_model}
+use Rattle.sat_check.specs.Code.Judging.{Judges, ReadsToUnmet, judged_report, unmet_in}
+use Rattle.sat_check.specs.{FormulaReach.ReadsNoFurtherThanFault, ModelReport.ChecksModel}
+use Rattle.sat_check.specs.ModelReport.{ModelConsequences, ReadsFormulaNoFurther, Satisfies}
+use Rattle.sat_check.specs.ModelReport.{TellsModelFault, TellsUnmet, claim_report, clauses_report}
+use Rattle.sat_check.specs.ModelReport.{first_unmet, meets, met_report, model_report}
+use Rattle.sat_check.specs.{Reach.TellsFault, Report.Outcome, Report.Report, Report.concluded}
 use Rattle.sat_check.specs.declared.{checked.Checked.Checked, judgement.Judgement.Judgement}
 use Rattle.sat_check.specs.declared.judgement.Judgement.TheVariants.{Met, Unmet}
-use Rattle.sat_check.specs.Code.Judging.{Judges, ReadsToUnmet, judged_report, unmet_in}
+use Rattle.std.proofs.Common.{Bool, List, None, Option, Some, [], ap}
+use Rattle.std.proofs.Common.{arith, codes, cond, false, length, refl, rules, slice_get, subst, suc}
+use Rattle.std.proofs.Common.{sym, true, zero, ℕ, ◌%◌, ◌*◌, ◌+◌, ◌-◌, ◌/◌, ◌<◌, ◌∙◌, ◌∷◌, ◌≡◌, ◌≤◌}
+use Rattle.std.proofs.lemmas.{Bool.Decides.nat_tests, Option.none-some}
+use Rattle.std.specs.Prelude.{Err, IfOk, IsTrue, Ok, Result, ◌==◌}
+use Rattle.theory.specs.Models.{Assignment, HasModel, holds, satisfies}
+use Rattle.writers.specs.Lines.{Sink}
 use Rattle.sat_check.specs.declared.input_fault.InputFault.TheVariants as of
-use Rattle.sat_check.proofs.{JudgeLemmas.unread_unmet, ReadLemmas.unread_fault}
-use Rattle.sat_check.proofs.{OutcomeLemmas.both_told, ClaimLemmas.claim_consistent}
-use Rattle.sat_check.proofs.WrittenLemmas.{written_model}
-use Rattle.sat_check.proofs.SoundLemmas.{fault_is_no_verdict, outcome_verified, outcome_complete}
-use Rattle.report.specs.Lines.{a_model, fault_line, fault_status}
-use Rattle.report.specs.declared.status.Status.{Status}
-use Rattle.report.specs.declared.status.Status.TheVariants.{Verified, NotVerified, Malformed}
-use Rattle.report.specs.declared.status.Status.TheVariants.{OutOfMemory as NoMemory}
 
 -- ---- Literals that are the same set meet the same clauses
 
@@ -70,10 +66,7 @@ judged_unmet listed (Unmet k) f j = sym j
 
 -- where the formula has a fault, each clause before it is met
 pub fault_unmet : (listed : List Literal) (e : Fault) (f : Formula) → Judges listed (Err e) f.clauses f.fault → (e ≡ OutOfMemory → ⊥) → first_unmet 1 listed f.clauses ≡ None
-fault_unmet listed (Text k p) f j room = j.0
-fault_unmet listed (Binary k n) f j room = j.0
-fault_unmet listed ReadFailed f j room = j.0
-fault_unmet listed OutOfMemory f j room = absurd (room refl)
+fault_unmet listed e f j room = search rules
 
 -- a fault's lines, or want of memory
 abbrev pub WritesFault : List ℕ → Fault → Status → Sink → Sink → Type 0
@@ -84,49 +77,16 @@ module _ (status : Status) (was now : Sink) where
   -- the formula's fault
   pub formula_fault : (listed : List Literal) (e : Fault) (f : Formula) → Judges listed (Err e) f.clauses f.fault → WritesFault (codes "formula") e status was now
       → Outcome status was.held now.held (claim_report (Ok listed) f)
-  formula_fault listed e f j told = by e j told
-    where
-      other : (e : Fault) → (first_unmet 1 listed f.clauses ≡ None) × (f.fault ≡ Some e) → Outcome status was.held now.held (concluded a_model (fault_line (codes "formula") e) (fault_status e))
-          → Outcome status was.held now.held (claim_report (Ok listed) f)
-      other e j o =
-          let P : Report → Type 0 = Outcome status was.held now.held in
-          subst P (ap (met_report (length f.clauses)) (sym j.1) ∙ ap (λ u. clauses_report u f) (sym j.0)) o
-
-      by : (e : Fault) → Judges listed (Err e) f.clauses f.fault → WritesFault (codes "formula") e status was now → Outcome status was.held now.held (claim_report (Ok listed) f)
-      by (Text k p) j told = other (Text k p) j (told.1 (λ e. cc))
-      by (Binary k n) j told = other (Binary k n) j (told.1 (λ e. cc))
-      by ReadFailed j told = other ReadFailed j (told.1 (λ e. cc))
-      by OutOfMemory j told = told.0 refl _
+  formula_fault listed e f j told = search rules
 
   -- the output's
   pub output_fault : (e : Fault) (claim : Result (List Literal) Fault) (f : Formula) → IsClaim (Err e) claim → WritesFault (codes "output") e status was now
       → Outcome status was.held now.held (claim_report claim f)
-  output_fault e claim f is told = by e is told
-    where
-      other : (e : Fault) → claim ≡ Err e → Outcome status was.held now.held (concluded a_model (fault_line (codes "output") e) (fault_status e))
-          → Outcome status was.held now.held (claim_report claim f)
-      other e is o = let P : Result (List Literal) Fault → Type 0 = λ r. Outcome status was.held now.held (claim_report r f) in subst P (sym is) o
-
-      by : (e : Fault) → IsClaim (Err e) claim → WritesFault (codes "output") e status was now → Outcome status was.held now.held (claim_report claim f)
-      by (Text k p) is told = other (Text k p) is (told.1 (λ e. cc))
-      by (Binary k n) is told = other (Binary k n) is (told.1 (λ e. cc))
-      by ReadFailed is told = other ReadFailed is (told.1 (λ e. cc))
-      by OutOfMemory is told = told.0 refl _
+  output_fault e claim f is told = search rules
 
   -- no fault ends in a positive verdict
   pub fault_unverified : (name : List ℕ) (e : Fault) → WritesFault name e status was now → status ≡ Verified → ⊥
-  fault_unverified name e told is = by e told
-    where
-      other : (e : Fault) → Outcome status was.held now.held (concluded a_model (fault_line name e) (fault_status e)) → ⊥
-      other e o = fault_is_no_verdict e (outcome_verified status was.held now.held _ is o)
-
-      by : (e : Fault) → WritesFault name e status was now → ⊥
-      by (Text k p) told = other (Text k p) (told.1 (λ e. cc))
-      by (Binary k n) told = other (Binary k n) (told.1 (λ e. cc))
-      by ReadFailed told = other ReadFailed (told.1 (λ e. cc))
-      by OutOfMemory told =
-          let bad : NotVerified ≡ Verified = outcome_verified status was.held now.held (concluded a_model [] NotVerified) is (told.0 refl (concluded a_model [] NotVerified)) in
-          cc
+  fault_unverified name e told is = search (rules, fault_is_no_verdict, outcome_verified)
 
 -- ---- What a verified model says
 
@@ -169,16 +129,11 @@ odd_half l h = grind (arith, nat_tests)
 -- under it each listed literal is true
 pub listed_holds : (listed : List Literal) → IsConsistent listed → (l : Literal) → has listed l ≡ true → holds (assigned listed) l ≡ true
 unfolding holds
-listed_holds listed consistent l h = by (l % 2 == 0) refl
-  where
-    by : (b : Bool) → (l % 2 == 0) ≡ b → cond b (has listed (2 * (l / 2))) (not (has listed (2 * (l / 2)))) ≡ true
-    by true e = ap (has listed) (even_half l e) ∙ h
-    by false e = ap not (ap (has listed) (odd_half l e) ∙ consistent l h)
+listed_holds listed consistent l h = search (rules, even_half, odd_half)
 
 -- so a clause with a listed literal is satisfied
 met_satisfied : (listed : List Literal) → IsConsistent listed → (c : Clause) → meets listed c ≡ true → satisfies (assigned listed) c ≡ true
-met_satisfied listed consistent c h =
-    let w = any_some (has listed) c h in
+met_satisfied listed consistent c h = let w = any_some (has listed) c h in
     any_from (holds (assigned listed)) c w.0 w.1 (listed_holds listed consistent w.0 w.2)
 
 -- and the formula has a model
@@ -218,15 +173,6 @@ both_check_model formula formula_new output output_new Told status old new first
 
 -- ---- What is told of a fault
 
-of_ok : (a b : List Literal) (r : Result (List Literal) Fault) → r ≡ Ok a → r ≡ Ok b → a ≡ b
-of_ok a b r is also = cc
-
-not_malformed : NoMemory ≡ Malformed → ⊥
-not_malformed is = cc
-
-not_err : (a : List Literal) (e : Fault) (r : Result (List Literal) Fault) → r ≡ Ok a → r ≡ Err e → ⊥
-not_err a e r is also = cc
-
 -- a claim without a fault leaves the formula's
 pub claimed_tells : (model : List Literal) (claim : Result (List Literal) Fault) (f : Formula) (checked : Checked) → IsClaim (Ok model) claim → TellsFault f.fault None checked → TellsUnmet model f.clauses checked
     → TellsModelFault claim f checked
@@ -234,8 +180,8 @@ claimed_tells model (Ok listed) f checked same tells unmet = record {
   malformed = tells.malformed;
   only = tells.only;
   unmet = λ other is room. unmet room ∙ first_unmet_same 1 model listed same f.clauses
-      ∙ ap (λ l. first_unmet 1 l f.clauses) (of_ok listed other (Ok listed) refl is);
-  unclaimed = λ e is. absurd (not_err listed e (Ok listed) refl is);
+      ∙ ap (λ l. first_unmet 1 l f.clauses) (let e : listed ≡ other = cc in e);
+  unclaimed = λ e is. absurd (cc);
 }
 claimed_tells model (Err e) f checked none tells unmet = absurd none
 
@@ -243,40 +189,12 @@ module _ (f : Formula) (checked : Checked) (none : checked.unmet ≡ None) (only
   -- the output has this fault
   pub output_tells : (e : Fault) (claim : Result (List Literal) Fault) → IsClaim (Err e) claim → (e ≡ OutOfMemory → checked.status ≡ NoMemory)
       → (checked.status ≡ Malformed → checked.fault ≡ Some (of.Second e)) → TellsModelFault claim f checked
-  output_tells e claim is memory told = by e is memory told
-    where
-      other : (e : Fault) → claim ≡ Err e → (checked.status ≡ Malformed → checked.fault ≡ Some (of.Second e)) → TellsModelFault claim f checked
-      other e is told = record {
-        malformed = λ m. told m ∙ sym (ap (λ x. first_model_fault x f) is);
-        only = only;
-        unmet = λ listed ok. absurd (not_err listed e claim ok is);
-        unclaimed = λ _ _. none;
-      }
-
-      by : (e : Fault) → IsClaim (Err e) claim → (e ≡ OutOfMemory → checked.status ≡ NoMemory) → (checked.status ≡ Malformed → checked.fault ≡ Some (of.Second e)) → TellsModelFault claim f checked
-      by (Text k p) is memory told = other (Text k p) is told
-      by (Binary k n) is memory told = other (Binary k n) is told
-      by ReadFailed is memory told = other ReadFailed is told
-      by OutOfMemory is memory told = record {
-        malformed = λ m. absurd (not_malformed (sym (memory refl) ∙ m));
-        only = only;
-        unmet = λ listed ok room. absurd (room (memory refl));
-        unclaimed = λ _ _. none;
-      }
+  output_tells e claim is memory told = search rules
 
   -- the formula has it
   pub formula_tells : (listed : List Literal) (e : Fault) → Judges listed (Err e) f.clauses f.fault → (e ≡ OutOfMemory → checked.status ≡ Malformed → ⊥)
       → (checked.status ≡ Malformed → checked.fault ≡ Some (of.Formula e)) → TellsFault f.fault None checked
-  formula_tells listed e j memory told = by e j memory told
-    where
-      other : (e : Fault) → f.fault ≡ Some e → (checked.status ≡ Malformed → checked.fault ≡ Some (of.Formula e)) → TellsFault f.fault None checked
-      other e is told = record { malformed = λ m. told m ∙ sym (ap (λ x. first_fault x None) is); only = only }
-
-      by : (e : Fault) → Judges listed (Err e) f.clauses f.fault → (e ≡ OutOfMemory → checked.status ≡ Malformed → ⊥) → (checked.status ≡ Malformed → checked.fault ≡ Some (of.Formula e)) → TellsFault f.fault None checked
-      by (Text k p) j memory told = other (Text k p) j.1 told
-      by (Binary k n) j memory told = other (Binary k n) j.1 told
-      by ReadFailed j memory told = other ReadFailed j.1 told
-      by OutOfMemory j memory told = record { malformed = λ m. absurd (memory refl m); only = only }
+  formula_tells listed e j memory told = search rules
 
 -- ---- How far the formula was read
 
@@ -318,8 +236,7 @@ pub formula_needed : (model : List ℕ) (claim : Result (List ℕ) Fault) (i : I
     → ReadsNoFurtherThanFault i old new → ReadsFormulaNoFurther claim i old new
 formula_needed model claim i old new same reads fault = record {
   unread = λ f is. absurd (let P : Result (List ℕ) Fault → Type 0 = IsClaim (Ok model) in subst P is same);
-  past = λ listed k is unmet.
-      let P : Result (List ℕ) Fault → Type 0 = IsClaim (Ok model) in
+  past = λ listed k is unmet. let P : Result (List ℕ) Fault → Type 0 = IsClaim (Ok model) in
       let alike = first_unmet_same 1 model listed (subst P is same) (formula_of i).clauses in
       reads_no_further listed i old new (λ m offset e at. reads m offset (alike ∙ e) at) k unmet;
   fault = fault;

@@ -1,18 +1,17 @@
 -- What a run wrote, and how it ended.
-use Rattle.std.proofs.Common.{◌≡◌, ℕ, false, List, [], ◌∷◌, ◌++◌, Option, refl, sym, ap, ◌∙◌, subst}
-use Rattle.std.proofs.Common.{append_assoc, arith, rules}
-use Rattle.std.proofs.lemmas.{Grind.common_steps, Bool.Decides.nat_tests}
-use Rattle.std.specs.{Prelude.Result, Prelude.OnOk, Io.KnownBytes.Appends}
-use Rattle.writers.specs.Lines.{Sink, Writes}
-use Rattle.cnf_base.specs.Printing.{line_of}
-use Rattle.cnf_base.specs.{Seen.OfBothSeen, Stream.Input, Stream.Reader}
 use Rattle.cnf_base.proofs.TextLemmas.{append_nil}
+use Rattle.cnf_base.specs.{Printing.line_of, Seen.OfBothSeen, Stream.Input, Stream.Reader}
+use Rattle.report.specs.Lines.{Certificate, sentence}
+use Rattle.report.specs.declared.status.Status.{Status, TheVariants.Malformed}
+use Rattle.report.specs.declared.status.Status.TheVariants.{NotVerified, OutOfMemory, ReadFailed}
+use Rattle.report.specs.declared.status.Status.TheVariants.{Usage, Verified, WriteFailed}
+use Rattle.sat_check.specs.Report.{Outcome, Report, concluded, text_of, with_lines}
+use Rattle.std.proofs.Common.{List, Option, [], ap, append_assoc}
+use Rattle.std.proofs.Common.{arith, false, refl, rules, subst, sym, ℕ, ◌++◌, ◌∙◌, ◌∷◌, ◌≡◌}
+use Rattle.std.proofs.lemmas.{Bool.Decides.nat_tests, Grind.common_steps}
+use Rattle.std.specs.{Io.KnownBytes.Appends, Prelude.OnOk, Prelude.Result}
 use Rattle.writers.proofs.LineLemmas.{Appends-then, Writes-nothing}
-use Rattle.sat_check.specs.Report.{Report, text_of, Outcome, with_lines, concluded}
-use Rattle.report.specs.{Lines.Certificate, Lines.sentence, declared.status.Status.Status}
-use Rattle.report.specs.declared.status.Status.TheVariants.{Verified, NotVerified, Malformed}
-use Rattle.report.specs.declared.status.Status.TheVariants.{ReadFailed, OutOfMemory, WriteFailed}
-use Rattle.report.specs.declared.status.Status.TheVariants.{Usage}
+use Rattle.writers.specs.Lines.{Sink, Writes}
 
 pub text_of-append : (front back : List (List ℕ)) → text_of (front ++ back) ≡ text_of front ++ text_of back
 text_of-append [] back = refl
@@ -45,7 +44,7 @@ Outcome-after status old now new front r a o = by status o
       front ++ o.0,
       o.1,
       ap (λ t. front ++ t) o.2 ∙ sym (append_assoc front o.0 o.1),
-      (let P : List ℕ → Type 0 = Appends old new in subst P (sym (text_of-append front o.0)) (Appends-then old now new _ _ a o.3)),
+      (rw (text_of-append front o.0) (Appends-then old now new _ _ a o.3)),
     )
     by WriteFailed o = (
       text_of front ++ o.0,
@@ -71,15 +70,11 @@ Outcome-closed old new r w = ([], text_of r.lines, refl, Writes-nothing old new 
 pub Outcome-refused : (old new : Sink) (r : Report) → Writes old new [] → Outcome OutOfMemory old.held new.held r
 Outcome-refused old new r w = ([], r.lines, refl, Writes-nothing old new w)
 
-line_text : (text : List ℕ) → text_of (text ∷ []) ≡ line_of text
-line_text text = append_nil (line_of text)
-
 -- a whole line, and then the rest
 pub Outcome-line : (status : Status) (old now : Sink) (new : Option (List ℕ)) (text : List ℕ) (r : Report)
     → Writes old now (line_of text) → now.is_broken ≡ false → Outcome status now.held new r → Outcome status old.held new (with_lines (text ∷ []) r)
 Outcome-line status old now new text r w sound o =
-    let P : List ℕ → Type 0 = Appends old.held now.held in
-    Outcome-after status old.held now.held new (text ∷ []) r (subst P (sym (line_text text)) (Writes-all old now (line_of text) w sound)) o
+    Outcome-after status old.held now.held new (text ∷ []) r (rw (append_nil (line_of text)) (Writes-all old now (line_of text) w sound)) o
 
 -- the bytes of a line, by the text that they are
 written : (old new : Sink) (bytes text : List ℕ) → bytes ≡ text → Writes old new (line_of bytes) → Writes old new (line_of text)

@@ -1,36 +1,31 @@
 -- How far a proof is read, step by step.
-use Rattle.theory.specs.Verdicts.{system_of, Ending, verified, refused, no_empty_clause, Ends}
-use Rattle.theory.specs.Verdicts.{Verdict, is_last, is_empty}
-use Rattle.theory.specs.Rules.{Rule, State, by_ids, by_copies, start, Answers, after, Same}
-use Rattle.theory.specs.Losses.{StepLoses, HasLost, LostBySteps}
-use Rattle.theory.specs.declared.accepted.Accepted.{Accepted}
-use Rattle.theory.proofs.LratLemmas.{LiveSets.SameClauses-sym, Steps.ok_is, Steps.ok_err}
-use Rattle.theory.proofs.LawLemmas.{Rules.answer_unique, Losses.lost_same, Verdicts.ends_same}
-use Rattle.std.proofs.Common.{◌≡◌, ℕ, ◌≤◌, true, false, Option, None, Some, List, [], ◌∷◌}
-use Rattle.std.proofs.Common.{refl, sym, ap, ◌∙◌, subst, inl, inr, ◌⊎◌, ◌↔◌, Ok, Err, is_some}
-use Rattle.std.proofs.Common.{IsSome, rules}
-use Rattle.std.proofs.lemmas.Bool.{false≢true, MatchBool-at_false}
-use Rattle.std.proofs.lemmas.Option.{none-some}
-use Rattle.std.specs.{Prelude.IsTrue, List.list_any}
-use Rattle.writers.specs.Lines.{Sink}
-use Rattle.cnf_base.specs.Literals.{Clause}
-use Rattle.cnf_base.specs.Stream.{Input, Suffix, Reader}
-use Rattle.cnf_base.specs.declared.fault.Fault.{Fault}
-use Rattle.cnf_base.specs.declared.fault.Fault.TheVariants.{OutOfMemory}
+use Rattle.cnf_base.specs.{Literals.Clause, Stream.Input, Stream.Reader, Stream.Suffix}
+use Rattle.cnf_base.specs.declared.fault.Fault.{Fault, TheVariants.OutOfMemory}
 use Rattle.dimacs.specs.Formula.{formula_of}
-use Rattle.proofs.specs.{Steps.Step, Reading.PlacedStep, Reading.Proof, Reading.with_step}
-use Rattle.proofs.specs.{Reading.PassesNoEnd, declared.step_end.StepEnd.StepEnd}
-use Rattle.steps.specs.ProofSession.{View}
-use Rattle.sat_check.specs.Reach.{deciding_step, refused_end, NeedsNoProof, TellsFault}
-use Rattle.sat_check.specs.Reach.{TellsLoss}
-use Rattle.sat_check.specs.{Code.Reach.IsVerdict, Code.Checking.IsLoaded, Code.Checking.Loads}
-use Rattle.sat_check.specs.{Code.Checking.IsRefused, Code.Checking.IsTold, Code.Checking.LeavesRest}
-use Rattle.sat_check.specs.{Code.Checking.LeavesProof, Report.Outcome, Report.bare_steps}
-use Rattle.sat_check.specs.{Report.is_cut_short, declared.checked.Checked.Checked}
-use Rattle.sat_check.specs.declared.input_fault.InputFault.TheVariants as of
+use Rattle.proofs.specs.Reading.{PassesNoEnd, PlacedStep, Proof, with_step}
+use Rattle.proofs.specs.{Steps.Step, declared.step_end.StepEnd.StepEnd}
 use Rattle.report.specs.declared.status.Status.{Status}
-use Rattle.report.specs.declared.status.Status.TheVariants.{NotVerified, Malformed}
+use Rattle.report.specs.declared.status.Status.TheVariants.{Malformed, NotVerified}
 use Rattle.report.specs.declared.status.Status.TheVariants.{OutOfMemory as NoMemory, WriteFailed}
+use Rattle.sat_check.specs.Code.Checking.{IsLoaded, IsRefused, IsTold, LeavesProof, LeavesRest}
+use Rattle.sat_check.specs.Code.{Checking.Loads, Reach.IsVerdict}
+use Rattle.sat_check.specs.Reach.{NeedsNoProof, TellsFault, TellsLoss, deciding_step, refused_end}
+use Rattle.sat_check.specs.Report.{Outcome, bare_steps, is_cut_short}
+use Rattle.sat_check.specs.declared.checked.Checked.{Checked}
+use Rattle.std.proofs.Common.{Err, IsSome, List, None, Ok, Option, Some, [], ap, false, inr}
+use Rattle.std.proofs.Common.{is_some, refl, rules, subst, sym, true, ℕ, ◌↔◌, ◌∙◌, ◌∷◌, ◌≡◌, ◌≤◌}
+use Rattle.std.proofs.{Common.◌⊎◌, lemmas.Bool.MatchBool-at_false, lemmas.Bool.false≢true}
+use Rattle.std.{proofs.lemmas.Option.none-some, specs.List.list_any, specs.Prelude.IsTrue}
+use Rattle.steps.specs.ProofSession.{View}
+use Rattle.theory.proofs.LawLemmas.{Losses.lost_same, Rules.answer_unique, Verdicts.ends_same}
+use Rattle.theory.proofs.LratLemmas.{LiveSets.SameClauses-sym, Steps.ok_err, Steps.ok_is}
+use Rattle.theory.specs.Losses.{HasLost, LostBySteps, StepLoses}
+use Rattle.theory.specs.Rules.{Answers, Rule, Same, State, after, by_copies, by_ids, start}
+use Rattle.theory.specs.Verdicts.{Ending, Ends, Verdict}
+use Rattle.theory.specs.Verdicts.{is_empty, is_last, no_empty_clause, refused, system_of, verified}
+use Rattle.theory.specs.declared.accepted.Accepted.{Accepted}
+use Rattle.writers.specs.Lines.{Sink}
+use Rattle.sat_check.specs.declared.input_fault.InputFault.TheVariants as of
 
 same_sym : (s t : State) → Same s t → Same t s
 same_sym (by_ids s) (by_ids t) same = (SameClauses-sym _ _ same.0, sym same.1)
@@ -77,27 +72,8 @@ told_not s now told m = let P : Status → Type 0 = λ x. IsTold x now in subst 
 -- no step decides where none is to come
 pub LeavesRest-none : (s : View) (fault : Option Fault) (end : Option ℕ) (rest : Suffix) (checked : Checked) → checked.refused ≡ None → checked.literal_lost ≡ false → TellsFault None fault checked
     → PassesNoEnd (record { steps = []; fault = fault; fault_end = end }) rest → LeavesRest s (record { steps = []; fault = fault; fault_end = end }) rest checked
-LeavesRest-none s fault end rest checked none quiet tells reach = record {
-  past = λ words ending last e d. by words ending last e d;
-  past_fault = reach.fault;
-  refused = λ words ending is e. none ∙ no_end words ending e;
-  only = λ _. none;
-  lost = λ words ending is e. no_loss checked _ none quiet;
-  none_lost = λ not. quiet;
-  malformed = tells;
-}
-  where
-    by : (words : List Accepted) (ending : Ending) (last : PlacedStep) → Ends s.state [] words ending → deciding_step [] words ending ≡ Some last → rest.offset ≤ last.offset
-    by [] verified last e d = absurd (none-some last d)
-    by [] (refused r) last e d = absurd (none-some last d)
-    by [] no_empty_clause last e d = absurd (none-some last d)
-    by (w ∷ ws) ending last e d = absurd e
-
-    no_end : (words : List Accepted) (ending : Ending) → Ends s.state [] words ending → None ≡ refused_end [] words ending
-    no_end [] verified e = refl
-    no_end [] (refused r) e = refl
-    no_end [] no_empty_clause e = refl
-    no_end (w ∷ ws) ending e = absurd e
+LeavesRest-none s fault end rest checked none quiet tells reach =
+    search (rules, none, no_loss, none-some)
 
 -- no verdict was answered
 pub LeavesRest-broken : (s : View) (p : Proof) (rest : Suffix) (checked : Checked) → checked.refused ≡ None → checked.literal_lost ≡ false → (IsVerdict checked.status → ⊥) → TellsFault None p.fault checked → PassesNoEnd p rest
@@ -146,44 +122,25 @@ module _ (s : View) (step : Step) (end : StepEnd) (offset : ℕ) (p : Proof) (re
 
       -- and so it does from the state that this step left
       goes_on : (w : Accepted) (ws : List Accepted) (ending : Ending) → Ends s.state (step ∷ bare_steps p) (w ∷ ws) ending → Ends t.state (bare_steps p) ws ending
-      goes_on w ws ending e =
-          let is = ok_is w word (answer_unique s.state step _ _ e.0 a) in
+      goes_on w ws ending e = let is = ok_is w word (answer_unique s.state step _ _ e.0 a) in
           let P : Accepted → Type 0 = λ x. Ends (after s.state step x) (bare_steps p) ws ending in
           let ends = subst P is (MatchBool-at_false _ _ (ap is_last is ∙ not_last) e.1) in
           ends_same (bare_steps p) ws ending (after s.state step word) t.state (same_sym t.state (after s.state step word) same) ends
 
       -- a literal was lost before this step, by it or after it
       over : (ws : List Accepted) → (IsTrue t.has_lost_literal ⊎ HasLost t.state (bare_steps p) ws) ↔ (IsTrue s.has_lost_literal ⊎ HasLost s.state (step ∷ bare_steps p) (word ∷ ws))
-      over ws = (
-        λ q. elim q [
-          | inl had ↦ elim (loss.0 had) [
-            | inl earlier ↦ inl earlier
-            | inr now ↦ inr (inl now)
-          ]
-          | inr d ↦ inr (inr (lost_same (bare_steps p) ws t.state (after s.state step word) same d))
-        ],
-        λ q. elim q [
-          | inl earlier ↦ inl (loss.1 (inl earlier))
-          | inr d ↦ elim d [
-            | inl now ↦ inl (loss.1 (inr now))
-            | inr later ↦ inr (lost_same (bare_steps p) ws (after s.state step word) t.state (same_sym t.state (after s.state step word) same) later)
-          ]
-        ],
-      )
+      over ws = search (rules, lost_same, same_sym)
 
       before : (words : List Accepted) (ending : Ending) → checked.status ≡ NotVerified → Ends s.state (step ∷ bare_steps p) words ending
           → IsTrue checked.literal_lost ↔ (IsSome checked.refused × (IsTrue s.has_lost_literal ⊎ HasLost s.state (step ∷ bare_steps p) words))
       before [] ending v e = absurd (ok_err word e.0 (answer_unique s.state step _ _ a e.2))
-      before (w ∷ ws) ending v e =
-          let P : Accepted → Type 0 = λ x. IsTrue checked.literal_lost ↔ (IsSome checked.refused × (IsTrue s.has_lost_literal ⊎ HasLost s.state (step ∷ bare_steps p) (x ∷ ws))) in
-          let tells = later.lost ws ending v (goes_on w ws ending e) in
-          subst P (sym (ok_is w word (answer_unique s.state step _ _ e.0 a))) (λ t. let q = tells.0 t in (q.0, (over ws).0 q.1), λ q. tells.1 (q.0, (over ws).1 q.1))
+      before (w ∷ ws) ending v e = let tells = later.lost ws ending v (goes_on w ws ending e) in
+          rw (ok_is w word (answer_unique s.state step _ _ e.0 a)) (λ t. let q = tells.0 t in (q.0, (over ws).0 q.1), λ q. tells.1 (q.0, (over ws).1 q.1))
 
       by : (words : List Accepted) (ending : Ending) (last : PlacedStep) → Ends s.state (step ∷ bare_steps p) words ending
           → deciding_step (here ∷ p.steps) words ending ≡ Some last → rest.offset ≤ last.offset
       by [] ending last e d = absurd (ok_err word e.0 (answer_unique s.state step _ _ a e.2))
-      by (w ∷ ws) ending last e d =
-          let now = goes_on w ws ending e in
+      by (w ∷ ws) ending last e d = let now = goes_on w ws ending e in
           later.past ws ending last now (sym (later_step p.steps w ws ending now) ∙ d)
 
       ended : (words : List Accepted) (ending : Ending) → checked.status ≡ NotVerified → Ends s.state (step ∷ bare_steps p) words ending
@@ -196,12 +153,7 @@ module _ (s : View) (step : Step) (end : StepEnd) (offset : ℕ) (p : Proof) (re
 module _ (rule : Rule) (fault : Option Fault) (clauses : List Clause) (p : Proof) (reader : Reader) (rest : Suffix) (checked : Checked) (none : checked.refused ≡ None) (quiet : checked.literal_lost ≡ false) (tells : TellsFault fault p.fault checked) where
   -- no verdict was answered, and nothing was read
   pub LeavesProof-broken : (IsVerdict checked.status → ⊥) → LeavesProof rule fault clauses p reader reader rest checked
-  LeavesProof-broken broken = record {
-    unread = λ n. refl;
-    past = λ words ending last whole e d. inl refl;
-    past_fault = λ offset e. inl refl;
-    told = record { unread = λ n. none; refused = λ words ending whole is e. absurd (broken (inr is)); only = λ _. none; loss = TellsLoss-none rule fault clauses p checked none quiet; malformed = tells };
-  }
+  LeavesProof-broken broken = search (rules, none, TellsLoss-none)
 
   -- some clause is empty
   pub LeavesProof-empty : list_any is_empty clauses ≡ true → LeavesProof rule fault clauses p reader reader rest checked

@@ -1,20 +1,18 @@
 -- What was read of an input, and of a formula clause by clause.
-use Rattle.std.proofs.Common.{◌≡◌, ℕ, suc, ◌+◌, ◌≤◌, Bool, true, false, List, [], ◌∷◌, ◌++◌, Option}
-use Rattle.std.proofs.Common.{None, Some, refl, sym, ap, ◌∙◌, subst, append_assoc, length}
-use Rattle.std.proofs.Common.{length-append, arith, rules}
-use Rattle.std.specs.Prelude.{Result, Ok, Err, slice_get}
-use Rattle.cnf_base.specs.{Literals.Clause, Stream.Input, Stream.Suffix, Stream.from_start}
-use Rattle.cnf_base.specs.{Stream.Reader, Stream.Stream, Stream.Along, Stream.unread_stream}
-use Rattle.cnf_base.specs.{Stream.bytes_read, Code.Seen.OfSeen, declared.fault.Fault.Fault}
-use Rattle.cnf_base.specs.declared.fault.Fault.TheVariants.{Text, Binary, ReadFailed, OutOfMemory}
+use Rattle.cnf_base.proofs.SeenLemmas.{Seen-fact, Seen-nothing, Seen-run}
+use Rattle.cnf_base.proofs.StreamLemmas.{Along-map, Along-none, Along-then, Along-within}
+use Rattle.cnf_base.specs.{Code.Seen.OfSeen, Literals.Clause, Stream.Along, Stream.Input}
+use Rattle.cnf_base.specs.Stream.{Reader, Stream, Suffix, bytes_read, from_start, unread_stream}
+use Rattle.cnf_base.specs.declared.fault.Fault.{Fault, TheVariants.OutOfMemory}
 use Rattle.cnf_base.specs.declared.place.Place.{Place}
-use Rattle.cnf_base.proofs.SeenLemmas.{Seen-nothing, Seen-run, Seen-fact}
-use Rattle.cnf_base.proofs.StreamLemmas.{Along-then, Along-map, Along-none, Along-within}
-use Rattle.dimacs.specs.Formula.{Body, Formula, opened}
+use Rattle.dimacs.specs.{Formula.Body, Formula.Formula, Formula.opened, Reading.FormulaReading}
+use Rattle.dimacs.specs.Reading.{GivesClause, GivesEnd, PassesNoEnd, clauses_to_come, ends_to_come}
 use Rattle.dimacs.specs.declared.header.Header.{Header}
-use Rattle.dimacs.specs.Reading.{FormulaReading, clauses_to_come, GivesClause, ends_to_come}
-use Rattle.dimacs.specs.Reading.{PassesNoEnd, GivesEnd}
-use Rattle.sat_check.specs.{FormulaReach.ReadsNoFurtherThanFault, Code.FormulaReach.LeavesFault}
+use Rattle.sat_check.specs.{Code.FormulaReach.LeavesFault, FormulaReach.ReadsNoFurtherThanFault}
+use Rattle.std.proofs.Common.{Bool, List, None, Option, Some}
+use Rattle.std.proofs.Common.{[], ap, append-nil, append_assoc, arith, false, length, length-append}
+use Rattle.std.proofs.Common.{refl, rules, subst, suc, sym, true, ℕ, ◌++◌, ◌+◌, ◌∙◌, ◌∷◌, ◌≡◌, ◌≤◌}
+use Rattle.std.specs.Prelude.{Err, Ok, Result, slice_get}
 
 -- ---- A whole input
 
@@ -94,8 +92,7 @@ past_first xs ys n m h = search rules
 -- so the token at fault wasn't
 pub fault_left : (read : List Clause) (old : FormulaReading) (i k : Suffix) → NonePassed old read i k
     → LeavesFault (clauses_to_come old i).clauses (ends_to_come old i) k
-fault_left read old i k passed offset at =
-    let later = passed.0 in
+fault_left read old i k passed offset at = let later = passed.0 in
     let ends = passed.1 in
     let on = passed.2 in
     let first = on.1.0 in
@@ -130,7 +127,7 @@ module _ (old now new : FormulaReading) (clauses : List Clause) (so_far : Reads 
     count = length_push clauses c ∙ ap (λ n. n + 1) so_far.count ∙ sym count;
     run = Along-then _ _ _ _ _ _ so_far.run gives (λ i j k m p q. (
       p.0 ∙ ap (with_clauses clauses) q.0
-          ∙ ap (λ cs. record { clauses = cs; fault = (clauses_to_come new k).fault }) (clauses_assoc clauses (clauses_to_come new k).clauses),
+          ∙ ap (λ cs. record { clauses = cs; fault = (clauses_to_come new k).fault }) (sym (append_assoc clauses (c ∷ []) (clauses_to_come new k).clauses)),
       (
         p.1.0 ++ k.offset ∷ [],
         length-append p.1.0 (k.offset ∷ []) ∙ ap (λ n. n + 1) p.1.1 ∙ sym (length_push clauses c),
@@ -139,19 +136,11 @@ module _ (old now new : FormulaReading) (clauses : List Clause) (so_far : Reads 
     ));
     header = header ∙ so_far.header;
   }
-    where
-      clauses_assoc : (cs ds : List Clause) → cs ++ c ∷ ds ≡ (cs ++ c ∷ []) ++ ds
-      clauses_assoc [] ds = refl
-      clauses_assoc (b ∷ cs) ds = ap (λ t. b ∷ t) (clauses_assoc cs ds)
 
   -- nothing follows these clauses
   after : (o : Option Fault) (i : Suffix) → clauses_to_come old i ≡ with_clauses clauses (record { clauses = []; fault = o })
       → clauses_to_come old i ≡ record { clauses = clauses; fault = o }
-  after o i e = e ∙ ap (λ cs. record { clauses = cs; fault = o }) (no_more clauses)
-    where
-      no_more : (cs : List Clause) → cs ++ [] ≡ cs
-      no_more [] = refl
-      no_more (b ∷ cs) = ap (λ t. b ∷ t) (no_more cs)
+  after o i e = e ∙ ap (λ cs. record { clauses = cs; fault = o }) (append-nil clauses)
 
   -- so it is where a call gave anything
   passed : (result : Result Bool Fault) (i j k : Suffix) → ReadsOn clauses (clauses_to_come old i) (clauses_to_come now j) (ends_to_come old i) (ends_to_come now j)
@@ -164,13 +153,7 @@ module _ (old now new : FormulaReading) (clauses : List Clause) (so_far : Reads 
 
   pub Reads-fault : (f : Fault) → Gave now new (Err f) c
       → Along old.stream new.stream (λ i j. FaultAfter clauses f (clauses_to_come old i) × NonePassed old clauses i j)
-  Reads-fault (Text k x) gives = Along-then _ _ _ _ _ _ so_far.run gives (λ i j n m p q.
-      (after (Some (Text k x)) i (p.0 ∙ ap (with_clauses clauses) q.0.1), passed (Err (Text k x)) i j n p q.1))
-  Reads-fault (Binary k x) gives = Along-then _ _ _ _ _ _ so_far.run gives (λ i j n m p q.
-      (after (Some (Binary k x)) i (p.0 ∙ ap (with_clauses clauses) q.0.1), passed (Err (Binary k x)) i j n p q.1))
-  Reads-fault ReadFailed gives = Along-then _ _ _ _ _ _ so_far.run gives (λ i j n m p q.
-      (after (Some ReadFailed) i (p.0 ∙ ap (with_clauses clauses) q.0.1), passed (Err ReadFailed) i j n p q.1))
-  Reads-fault OutOfMemory gives = Along-then _ _ _ _ _ _ so_far.run gives (λ i j n m p q. (tt, passed (Err OutOfMemory) i j n p q.1))
+  Reads-fault f gives = search (rules, Along-then, after, passed)
 
 -- what a call gave, by its answer's pattern
 pub clause_told : (now new : FormulaReading) (result answer : Result Bool Fault) (c : Clause) → Gave now new result c → result ≡ answer → Gave now new answer c

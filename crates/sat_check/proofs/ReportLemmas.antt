@@ -1,29 +1,26 @@
 -- A whole report.
-use Rattle.theory.specs.Verdicts.{system_of, verified}
-use Rattle.theory.specs.Rules.{Rule, start, sum_of, IsFinite}
-use Rattle.theory.proofs.LawLemmas.{Existence.same_finite, Existence.start_finite, Rules.sum_same}
-use Rattle.theory.proofs.LawLemmas.Verdicts.{ends_same, some_ending, some_verdict}
-use Rattle.std.proofs.Common.{◌≡◌, ℕ, ◌≤◌, max, Bool, true, false, Option, None, Some, List, []}
-use Rattle.std.proofs.Common.{◌∷◌, refl, sym, ap, ◌∙◌, subst, codes, arith, rules}
-use Rattle.std.specs.Prelude.{Result, Ok, Err}
-use Rattle.cnf_base.specs.Literals.{Clause}
-use Rattle.cnf_base.specs.Stream.{Input}
-use Rattle.writers.specs.Lines.{Sink, Writes}
-use Rattle.cnf_base.specs.Printing.{line_of}
-use Rattle.cnf_base.specs.declared.fault.Fault.{Fault}
-use Rattle.cnf_base.specs.declared.fault.Fault.TheVariants.{Text, Binary, ReadFailed, OutOfMemory}
+use Rattle.cnf_base.specs.{Literals.Clause, Printing.line_of, Stream.Input}
 use Rattle.cnf_base.specs.Text.{Listing, listing_of}
+use Rattle.cnf_base.specs.declared.fault.Fault.{Fault, TheVariants.OutOfMemory}
 use Rattle.dimacs.specs.Formula.{Formula, formula_of, formula_with, header_of}
 use Rattle.dimacs.specs.declared.header.Header.{Header}
-use Rattle.proofs.specs.{Reading.Proof, Steps.Step}
-use Rattle.steps.specs.ProofSession.{View}
-use Rattle.report.specs.Lines.{a_proof, formula_line, steps_line, fault_line, fault_status}
+use Rattle.proofs.specs.Reading.{Proof}
+use Rattle.report.specs.Lines.{a_proof, fault_line, fault_status, formula_line, steps_line}
 use Rattle.report.specs.declared.status.Status.{Status, TheVariants.Verified}
-use Rattle.sat_check.specs.Report.{Report, Outcome, Reports, concluded, with_lines, Checks}
-use Rattle.sat_check.specs.Report.{ReportsFormula, bare_steps, proof_report}
-use Rattle.sat_check.specs.Code.Checking.{peak_of, IsLoaded, Loads, Rest}
-use Rattle.sat_check.proofs.{ShownLemmas.steps_same, OutcomeLemmas.Outcome-line}
-use Rattle.sat_check.proofs.RestLemmas.{peak_least, peak_same}
+use Rattle.sat_check.proofs.{OutcomeLemmas.Outcome-line, RestLemmas.peak_least}
+use Rattle.sat_check.proofs.{RestLemmas.peak_none, RestLemmas.peak_same, ShownLemmas.steps_same}
+use Rattle.sat_check.specs.Code.Checking.{IsLoaded, Loads, Rest, peak_of}
+use Rattle.sat_check.specs.Report.{Checks, Outcome, Report, Reports}
+use Rattle.sat_check.specs.Report.{ReportsFormula, bare_steps, concluded, proof_report, with_lines}
+use Rattle.std.proofs.Common.{Bool, List, None, Option, Some, [], ap, arith}
+use Rattle.std.proofs.Common.{codes, false, max, refl, rules, sym, true, ℕ, ◌∙◌, ◌∷◌, ◌≡◌, ◌≤◌}
+use Rattle.std.specs.Prelude.{Err, Ok, Result}
+use Rattle.steps.specs.ProofSession.{View}
+use Rattle.theory.proofs.LawLemmas.{Existence.same_finite, Existence.start_finite, Rules.sum_same}
+use Rattle.theory.proofs.LawLemmas.Verdicts.{ends_same, some_ending, some_verdict}
+use Rattle.theory.specs.Rules.{IsFinite, Rule, start, sum_of}
+use Rattle.theory.specs.Verdicts.{system_of, verified}
+use Rattle.writers.specs.Lines.{Sink, Writes}
 
 module _ (rule : Rule) (s : View) (clauses : List Clause) (l : IsLoaded rule s clauses) where
   pub loaded_finite : IsFinite s.state
@@ -44,13 +41,9 @@ module _ (rule : Rule) (s : View) (clauses : List Clause) (l : IsLoaded rule s c
     words = [];
     ending = verified;
     verdict = search rules;
-    report = ap (λ m. with_lines (formula_line h ∷ []) (concluded a_proof (steps_line 0 m) Verified)) (l.peak ∙ sym (none (bare_steps p))) ∙ ap (with_lines (formula_line h ∷ [])) (untraced trace (peak_of (start rule clauses) (bare_steps p) []));
+    report = ap (λ m. with_lines (formula_line h ∷ []) (concluded a_proof (steps_line 0 m) Verified)) (l.peak ∙ sym (peak_none (bare_steps p) (start rule clauses))) ∙ ap (with_lines (formula_line h ∷ [])) (untraced trace (peak_of (start rule clauses) (bare_steps p) []));
   }
     where
-      none : (steps : List Step) → peak_of (start rule clauses) steps [] ≡ sum_of (start rule clauses)
-      none [] = refl
-      none (step ∷ steps) = refl
-
       untraced : (trace : Bool) (m : ℕ) → concluded a_proof (steps_line 0 m) Verified ≡ proof_report trace 0 m [] verified p.fault
       untraced trace m = search rules
 
@@ -60,8 +53,7 @@ module _ (rule : Rule) (s : View) (clauses : List Clause) (l : IsLoaded rule s c
     where
       by : (v : Bool) → s.is_verified ≡ v → (r : Report) × Checks (system_of rule) trace h clauses p (with_lines (formula_line h ∷ []) r)
       by true e = (concluded a_proof (steps_line 0 s.peak) Verified, checks_verified trace h p e)
-      by false e =
-          let v = some_ending (bare_steps p) s.state loaded_finite in
+      by false e = let v = some_ending (bare_steps p) s.state loaded_finite in
           let r = proof_report trace 0 (max s.peak (peak_of s.state (bare_steps p) v.0)) v.0 v.1 p.fault in
           (r, checks_rest trace h p r e (record { words = v.0; ending = v.1; verdict = v.2; report = refl }))
 
@@ -70,15 +62,11 @@ module _ (rule : Rule) (s : View) (clauses : List Clause) (l : IsLoaded rule s c
 -- a formula without a fault
 pub reports_checked : (rule : Rule) (trace : Bool) (f : Formula) (p : Proof) (h : Header) (r : Report) → f.header ≡ Some h → f.fault ≡ None → Checks (system_of rule) trace h f.clauses p r
     → ReportsFormula (system_of rule) trace f.header f.clauses f.fault p r
-reports_checked rule trace f p h r header fault checks =
-    let P : Option Header → Type 0 = λ o. ReportsFormula (system_of rule) trace o f.clauses f.fault p r in
-    let Q : Option Fault → Type 0 = λ o. ReportsFormula (system_of rule) trace (Some h) f.clauses o p r in
-    subst P (sym header) (subst Q (sym fault) checks)
+reports_checked rule trace f p h r header fault checks = rw header (rw fault checks)
 
 -- each formula and proof has a report
 checks_any : (rule : Rule) (trace : Bool) (h : Header) (clauses : List Clause) (p : Proof) → (r : Report) × Checks (system_of rule) trace h clauses p r
-checks_any rule trace h clauses p =
-    let v = some_verdict rule clauses (bare_steps p) in
+checks_any rule trace h clauses p = let v = some_verdict rule clauses (bare_steps p) in
     (_, record { words = v.0; ending = v.1; verdict = v.2; report = refl })
 
 pub report_any : (rule : Rule) (trace : Bool) (h : Result (Header × Listing) (Fault × List ℕ)) (p : Proof)
@@ -99,20 +87,15 @@ pub err_report : (rule : Rule) (s : View) (trace : Bool) (f : Fault) (i : Input)
     → (f ≡ OutOfMemory → (r : Report) → Outcome status was.held now.held r)
     → ((f ≡ OutOfMemory → ⊥) → Outcome status was.held now.held (concluded a_proof (fault_line (codes "formula") f) (fault_status f)))
     → Reports (system_of rule) trace i p was.held now.held status
-err_report rule s trace (Text k x) i p status was now l memory told = search rules
-err_report rule s trace (Binary k x) i p status was now l memory told = search rules
-err_report rule s trace ReadFailed i p status was now l memory told = search rules
-err_report rule s trace OutOfMemory i p status was now l memory told =
-    search (rules, (some_report rule trace i p))
+err_report rule s trace f i p status was now l memory told = search (rules, (some_report rule trace i p))
 
 -- a formula with an empty clause
 pub verified_report : (rule : Rule) (s : View) (clauses : List Clause) (l : IsLoaded rule s clauses) (trace : Bool) (h : Header) (p : Proof) (status : Status) (was mid now : Sink) (m : ℕ)
     → s.is_verified ≡ true → m ≡ s.peak → Writes was mid (line_of (formula_line h)) → mid.is_broken ≡ false
     → Outcome status mid.held now.held (concluded a_proof (steps_line 0 m) Verified)
     → (r : Report) × Checks (system_of rule) trace h clauses p r × Outcome status was.held now.held r
-verified_report rule s clauses l trace h p status was mid now m is shown wrote whole o =
-    let P : List ℕ → Type 0 = λ t. Outcome status mid.held now.held (concluded a_proof t Verified) in (
-      with_lines (formula_line h ∷ []) (concluded a_proof (steps_line 0 s.peak) Verified),
-      checks_verified rule s clauses l trace h p is,
-      Outcome-line status was mid now.held (formula_line h) (concluded a_proof (steps_line 0 s.peak) Verified) wrote whole (subst P (steps_same 0 0 m s.peak refl shown) o),
-    )
+verified_report rule s clauses l trace h p status was mid now m is shown wrote whole o = (
+  with_lines (formula_line h ∷ []) (concluded a_proof (steps_line 0 s.peak) Verified),
+  checks_verified rule s clauses l trace h p is,
+  Outcome-line status was mid now.held (formula_line h) (concluded a_proof (steps_line 0 s.peak) Verified) wrote whole (rw (← steps_same 0 0 m s.peak refl shown) o),
+)

@@ -1,22 +1,19 @@
 -- The rest of a report, step by step.
-use Rattle.std.proofs.Common.{◌≡◌, ℕ, ◌+◌, ◌≤◌, max, cond, Bool, true, false, Option, None, Some}
-use Rattle.std.proofs.Common.{List, [], ◌∷◌, length, refl, sym, ap, ◌∙◌, subst, arith, Ok, Err}
-use Rattle.std.proofs.Common.{rules}
-use Rattle.std.specs.Bool.{MatchBool}
 use Rattle.cnf_base.specs.declared.fault.Fault.{Fault}
-use Rattle.proofs.specs.{Steps.Step, Reading.Proof, Reading.clean, Reading.with_step}
-use Rattle.proofs.specs.declared.step_end.StepEnd.{StepEnd}
-use Rattle.theory.specs.declared.accepted.Accepted.{Accepted, TheVariants.Empty}
-use Rattle.theory.specs.declared.refusal.Refusal.{Refusal}
-use Rattle.theory.specs.Rules.{State, Answers, after, sum_of, Same, IsFinite}
-use Rattle.theory.specs.Verdicts.{verified, refused, no_empty_clause, is_last, Ends}
+use Rattle.proofs.specs.Reading.{Proof, clean, with_step}
+use Rattle.proofs.specs.{Steps.Step, declared.step_end.StepEnd.StepEnd}
+use Rattle.report.specs.Lines.{a_proof, refusal_line, steps_line}
+use Rattle.report.specs.declared.status.Status.TheVariants.{NotVerified, Verified}
+use Rattle.sat_check.specs.Code.Checking.{Rest, end_report, peak_of, traced}
+use Rattle.sat_check.specs.Report.{Report, bare_steps, concluded, proof_report, with_lines}
+use Rattle.std.proofs.Common.{Bool, Err, List, None, Ok, Option, Some, [], ap, arith, cond, false}
+use Rattle.std.proofs.Common.{length, max, refl, rules, sym, true, ℕ, ◌+◌, ◌∙◌, ◌∷◌, ◌≡◌, ◌≤◌}
 use Rattle.theory.proofs.LawLemmas.Rules.{after_same, sum_same}
 use Rattle.theory.proofs.LawLemmas.Verdicts.{ends_same, some_ending}
-use Rattle.report.specs.Lines.{a_proof, refusal_line, steps_line}
-use Rattle.report.specs.declared.status.Status.TheVariants.{Verified, NotVerified}
-use Rattle.sat_check.specs.Report.{Report, concluded, with_lines, trace_lines, verdict_report}
-use Rattle.sat_check.specs.Report.{bare_steps, proof_report}
-use Rattle.sat_check.specs.Code.Checking.{end_report, peak_of, Rest, traced}
+use Rattle.theory.specs.Rules.{Answers, IsFinite, Same, State, after, sum_of}
+use Rattle.theory.specs.Verdicts.{is_last, no_empty_clause, refused, verified}
+use Rattle.theory.specs.declared.accepted.Accepted.{Accepted, TheVariants.Empty}
+use Rattle.theory.specs.declared.refusal.Refusal.{Refusal}
 
 pub peak_same : (steps : List Step) (words : List Accepted) (first second : State) → Same first second → peak_of first steps words ≡ peak_of second steps words
 peak_same (step ∷ steps) (word ∷ words) first second same =
@@ -29,7 +26,7 @@ peak_least [] words state = omega arith
 peak_least (step ∷ steps) [] state = omega arith
 peak_least (step ∷ steps) (word ∷ words) state = omega arith
 
-peak_none : (steps : List Step) (state : State) → peak_of state steps [] ≡ sum_of state
+pub peak_none : (steps : List Step) (state : State) → peak_of state steps [] ≡ sum_of state
 peak_none [] state = refl
 peak_none (step ∷ steps) state = refl
 
@@ -46,8 +43,7 @@ module _ (trace : Bool) (s : State) (n peak : ℕ) where
   Rest-fault f end = search rules
 
   pub Rest-some : IsFinite s → (p : Proof) → (r : Report) × Rest trace s n peak p r
-  Rest-some b p =
-      let v = some_ending (bare_steps p) s b in
+  Rest-some b p = let v = some_ending (bare_steps p) s b in
       (proof_report trace n (max peak (peak_of s (bare_steps p) v.0)) v.0 v.1 p.fault, record { words = v.0; ending = v.1; verdict = v.2; report = refl })
 
   module _ (st : Step) (end : StepEnd) (offset : ℕ) (p : Proof) where
@@ -56,8 +52,7 @@ module _ (trace : Bool) (s : State) (n peak : ℕ) where
       words = [];
       ending = refused r;
       verdict = (r, refl, a);
-      report = ap (λ m. concluded a_proof (refusal_line (m + 1) r) NotVerified) (let e : n ≡ n + 0 = omega arith in e)
-          ∙ sym (no_trace trace (concluded a_proof (refusal_line (n + 0 + 1) r) NotVerified));
+      report = search (rules, no_trace);
     }
 
     pub Rest-verified : (t : State) → Answers s st (Ok Empty) → Same t (after s st Empty) → sum_of s ≤ peak
@@ -70,8 +65,7 @@ module _ (trace : Bool) (s : State) (n peak : ℕ) where
     }
       where
         peaks : max peak (sum_of t) ≡ max peak (peak_of s (st ∷ bare_steps p) (Empty ∷ []))
-        peaks =
-            let here = sum_same t (after s st Empty) same in
+        peaks = let here = sum_same t (after s st Empty) same in
             let none = peak_none (bare_steps p) (after s st Empty) in
             omega (arith, here, none, least)
 
@@ -81,19 +75,14 @@ module _ (trace : Bool) (s : State) (n peak : ℕ) where
     Rest-step word t r a not_last same least rest = record {
       words = word ∷ rest.words;
       ending = rest.ending;
-      verdict = (
-        a,
-        (let P : Bool → Type 0 = λ v. MatchBool v ((rest.words ≡ []) × (rest.ending ≡ verified)) (Ends (after s st word) (bare_steps p) rest.words rest.ending) in
-            subst P (sym not_last) (ends_same (bare_steps p) rest.words rest.ending t (after s st word) same rest.verdict)),
-      );
+      verdict = search (rules, ends_same);
       report = ap (with_lines (traced trace (n + 1) word)) rest.report
           ∙ ap (λ m. with_lines (traced trace (n + 1) word) (proof_report trace (n + 1) m rest.words rest.ending p.fault)) peaks
           ∙ joined trace (max peak (peak_of s (st ∷ bare_steps p) (word ∷ rest.words)));
     }
       where
         peaks : max (max peak (sum_of t)) (peak_of t (bare_steps p) rest.words) ≡ max peak (peak_of s (st ∷ bare_steps p) (word ∷ rest.words))
-        peaks =
-            let later = peak_same (bare_steps p) rest.words t (after s st word) same in
+        peaks = let later = peak_same (bare_steps p) rest.words t (after s st word) same in
             let low = peak_least (bare_steps p) rest.words t in
             omega (arith, later, low, least)
 
@@ -102,5 +91,4 @@ module _ (trace : Bool) (s : State) (n peak : ℕ) where
 
         joined : (trace : Bool) (m : ℕ) → with_lines (traced trace (n + 1) word) (proof_report trace (n + 1) m rest.words rest.ending p.fault)
             ≡ proof_report trace n m (word ∷ rest.words) rest.ending p.fault
-        joined true m = ap (λ k. with_lines (trace_lines (n + 1) (word ∷ rest.words)) (verdict_report k m rest.ending p.fault)) count
-        joined false m = ap (λ k. with_lines [] (verdict_report k m rest.ending p.fault)) count
+        joined trace m = search (rules, count)

@@ -1,9 +1,8 @@
 -- Numbers are shown up to the greatest of 64 bits.
-use Rattle.std.proofs.Common.{◌≡◌, ℕ, Bool, true, false, [], ◌∷◌, ◌++◌, refl, ap, ◌∙◌}
-use Rattle.std.proofs.Common.{codes, rules}
-use Rattle.theory.specs.declared.{accepted.Accepted.Accepted, refusal.Refusal.Refusal}
-use Rattle.report.specs.Lines.{shown, word_text, refusal_line, with_cause, steps_line}
+use Rattle.report.specs.Lines.{refusal_line, shown, steps_line, with_cause, word_text}
 use Rattle.sat_check.specs.Code.Checking.{counted, traced}
+use Rattle.std.proofs.Common.{Bool, [], ap, codes, false, refl, rules, true, ℕ, ◌++◌, ◌∙◌, ◌∷◌, ◌≡◌}
+use Rattle.theory.specs.declared.{accepted.Accepted.Accepted, refusal.Refusal.Refusal}
 
 pub shown_counted : (n : ℕ) → shown (counted n) ≡ shown n
 shown_counted n = search rules

@@ -1,24 +1,21 @@
 -- What status 0 and a written `s VERIFIED` mean.
-use Rattle.theory.specs.Verdicts.{system_of}
-use Rattle.theory.specs.{Losses.LostBySteps, Models.HasModel, Rules.Rule}
-use Rattle.theory.proofs.LawLemmas.Verdicts.{verdict_sound, verdict_unique}
-use Rattle.std.proofs.Common.{◌≡◌, ℕ, Bool, Option, None, Some, List, refl, sym, ap}
-use Rattle.std.proofs.Common.{◌∙◌, slice_get, rules}
-use Rattle.writers.specs.Lines.{Sink}
-use Rattle.cnf_base.specs.Seen.{OfBothSeen}
-use Rattle.cnf_base.specs.Stream.{Input, Reader}
-use Rattle.cnf_base.specs.declared.fault.Fault.{Fault}
+use Rattle.cnf_base.specs.{Seen.OfBothSeen, Stream.Input, Stream.Reader, declared.fault.Fault.Fault}
 use Rattle.dimacs.specs.{Formula.Formula, Formula.formula_of, declared.header.Header.Header}
 use Rattle.proofs.specs.Reading.{Proof}
-use Rattle.sat_check.specs.Code.Checking.{AllReports, RunsInto}
-use Rattle.sat_check.specs.{FormulaReach.ReadsNoFurtherThanFault}
-use Rattle.sat_check.specs.Reach.{ReadsNoFurther, TellsWhy}
-use Rattle.sat_check.specs.Report.{Report, Outcome, ReportsFormula, Verifies, Reports}
-use Rattle.sat_check.specs.Report.{ProofConsequences, ChecksProof, IsUnlessBroken, bare_steps}
-use Rattle.sat_check.specs.{Runs.RunsPlaced, declared.checked.Checked.Checked}
+use Rattle.report.specs.Lines.{fault_status}
+use Rattle.report.specs.declared.status.Status.{Status, TheVariants.Verified}
 use Rattle.sat_check.proofs.{OutcomeLemmas.both_told, WrittenLemmas.written_verified}
-use Rattle.report.specs.{Lines.fault_status, declared.status.Status.Status}
-use Rattle.report.specs.declared.status.Status.TheVariants.{Verified}
+use Rattle.sat_check.specs.Code.Checking.{AllReports, RunsInto}
+use Rattle.sat_check.specs.FormulaReach.{ReadsNoFurtherThanFault}
+use Rattle.sat_check.specs.Reach.{ReadsNoFurther, TellsWhy}
+use Rattle.sat_check.specs.Report.{ChecksProof, IsUnlessBroken, Outcome, ProofConsequences}
+use Rattle.sat_check.specs.Report.{Report, Reports, ReportsFormula, Verifies, bare_steps}
+use Rattle.sat_check.specs.{Runs.RunsPlaced, declared.checked.Checked.Checked}
+use Rattle.std.proofs.Common.{Bool, List}
+use Rattle.std.proofs.Common.{None, Option, Some, ap, refl, rules, slice_get, sym, ℕ, ◌∙◌, ◌≡◌}
+use Rattle.theory.proofs.LawLemmas.Verdicts.{verdict_sound, verdict_unique}
+use Rattle.theory.specs.{Losses.LostBySteps, Models.HasModel, Rules.Rule, Verdicts.system_of}
+use Rattle.writers.specs.Lines.{Sink}
 
 -- no fault is a positive verdict
 pub fault_is_no_verdict : (f : Fault) → fault_status f ≡ Verified → ⊥

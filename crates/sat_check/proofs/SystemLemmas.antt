@@ -1,24 +1,21 @@
 -- A run by DRAT's own proof system is one by the rule, and the other way round.
-use Rattle.std.proofs.Common.{◌≡◌, ℕ, ◌-◌, ◌^◌, min, max, Bool, true, false, List, [], ◌∷◌, Option}
-use Rattle.std.proofs.Common.{refl, ap, ◌⊎◌, rules}
-use Rattle.std.specs.{Prelude.◌↔◌, Prelude.sum_by, Prelude.MatchBool}
 use Rattle.cnf_base.specs.Literals.{Clause, size}
 use Rattle.cnf_base.specs.{Stream.Input, Stream.Reader, declared.fault.Fault.Fault}
 use Rattle.dimacs.specs.{Formula.Formula, Formula.formula_of, declared.header.Header.Header}
 use Rattle.proofs.specs.{Reading.Proof, Steps.Step}
+use Rattle.report.specs.declared.status.Status.{Status}
+use Rattle.sat_check.proofs.RunLemmas.{weakened}
+use Rattle.sat_check.specs.{Code.Checking.peak_of, Reach.ReadsNoFurther, Reach.TellsWhy}
+use Rattle.sat_check.specs.Report.{ChecksProof, ProofConsequences, Report, Reports, ReportsFormula}
+use Rattle.sat_check.specs.{Report.peak_by, Runs.RunsPlaced, declared.checked.Checked.Checked}
+use Rattle.std.proofs.Common.{Bool, List, Option, []}
+use Rattle.std.proofs.Common.{ap, false, max, min, refl, rules, true, ℕ, ◌-◌, ◌^◌, ◌∷◌, ◌≡◌, ◌⊎◌}
+use Rattle.std.specs.Prelude.{MatchBool, sum_by, ◌↔◌}
 use Rattle.theory.specs.Drat.{after_drat, drat_step}
 use Rattle.theory.specs.Losses.{HasLost, LostBySteps, LostInDrat}
-use Rattle.theory.specs.{Rules.drat, Rules.by_copies, Systems.ProofSystem, Systems.drat_system}
-use Rattle.theory.specs.Verdicts.{Ending, verified, is_last, EndsBy, Ends, VerdictBy}
-use Rattle.theory.specs.Verdicts.{system_of}
+use Rattle.theory.specs.{Rules.by_copies, Rules.drat, Systems.ProofSystem, Systems.drat_system}
+use Rattle.theory.specs.Verdicts.{Ending, Ends, EndsBy, VerdictBy, is_last, system_of, verified}
 use Rattle.theory.specs.declared.{accepted.Accepted.Accepted, drat_rules.DratRules.DratRules}
-use Rattle.sat_check.specs.{Code.Checking.peak_of, Reach.ReadsNoFurther}
-use Rattle.sat_check.specs.{Reach.TellsWhy, Report.Report, Report.ReportsFormula}
-use Rattle.sat_check.specs.{Report.Reports, Report.ProofConsequences}
-use Rattle.sat_check.specs.{Report.ChecksProof, Report.peak_by}
-use Rattle.sat_check.specs.{Runs.RunsPlaced, declared.checked.Checked.Checked}
-use Rattle.sat_check.proofs.RunLemmas.{weakened}
-use Rattle.report.specs.{declared.status.Status.Status}
 
 -- two systems that give the same verdicts and the same peaks
 pub record Alike {S T : Type 0} (one : ProofSystem S) (other : ProofSystem T) : Type 0 where

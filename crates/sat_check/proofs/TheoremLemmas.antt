@@ -1,58 +1,42 @@
 -- The theorem, by the report and the grammars.
-use Rattle.theory.specs.{Verdicts.system_of, Verdicts.verified, Verdicts.Verdict, Models.Assignment}
-use Rattle.theory.specs.{Models.holds, Models.satisfies, Models.HasModel, Rules.Rule}
-use Rattle.std.proofs.Common.{◌≡◌, ℕ, suc, ◌++◌, Bool, true, false, List, [], ◌∷◌, reverse}
-use Rattle.std.proofs.Common.{Option, None, Some, refl, sym, ap, ◌∙◌, subst, append-nil, slice_get}
-use Rattle.std.proofs.Common.{inl, inr, codes, rules}
-use Rattle.std.proofs.lemmas.Bool.{and_parts, and_from, false_from_ne_true}
-use Rattle.std.specs.{List.list_all, Prelude.IsFalse, Io.KnownBytes.Consumes, Io.KnownBytes.IsAtEnd}
-use Rattle.writers.specs.Lines.{Sink}
-use Rattle.cnf_base.specs.Literals.{Literal, Clause, has}
-use Rattle.cnf_base.specs.{Printing.input_of, Seen.Seen, Seen.IsSeen, Seen.OfBothSeen}
-use Rattle.cnf_base.specs.Stream.{Input, Reader, MayFollow, tells_failure}
-use Rattle.cnf_base.specs.declared.input.Ending.{Ending, TheVariants.End, TheVariants.Failed}
 use Rattle.cnf_base.proofs.SeenLemmas.{seen_is_some}
-use Rattle.cnf_base.proofs.SetLemmas.{any_from, any_some, all_each, each_all}
-use Rattle.dimacs.specs.{Claim.claim_of, Formula.Formula, Formula.formula_of}
-use Rattle.dimacs.specs.declared.header.Header.{Header}
-use Rattle.dimacs.proofs.FormulaGrammar.{formula_grammar}
+use Rattle.cnf_base.proofs.SetLemmas.{all_each, any_from, any_some, each_all}
+use Rattle.cnf_base.specs.Literals.{Clause, Literal, has}
+use Rattle.cnf_base.specs.{Printing.input_of, Seen.IsSeen, Seen.OfBothSeen, Seen.Seen}
+use Rattle.cnf_base.specs.Stream.{Input, Reader, tells_failure}
+use Rattle.cnf_base.specs.declared.input.Ending.TheVariants.{End, Failed}
+use Rattle.dimacs.{proofs.FormulaGrammar.formula_grammar, specs.Claim.claim_of}
+use Rattle.dimacs.specs.{Formula.Formula, Formula.formula_of, declared.header.Header.Header}
+use Rattle.proofs.proofs.BinaryGrammar.{binary_both_ways}
+use Rattle.proofs.proofs.{DratGrammar.drat_both_ways, LratGrammar.lrat_both_ways}
 use Rattle.proofs.specs.{Grammar.IsLratText, Lrat.lrat_steps, Reading.Proof, Steps.Step}
-use Rattle.proofs.proofs.{BinaryGrammar.binary_both_ways, DratGrammar.drat_both_ways}
-use Rattle.proofs.proofs.LratGrammar.{lrat_both_ways}
-use Rattle.sat_check.specs.{Code.Checking.RunsInto, ModelReport.meets, ModelReport.model_report}
-use Rattle.sat_check.specs.{ModelReport.Satisfies, Report.Outcome, Report.Reports, Report.Verifies}
-use Rattle.sat_check.specs.{Report.bare_steps, Report.drat_proof, Runs.IsVerifiedBy}
-use Rattle.sat_check.specs.{Runs.IsDratProof, Theorem.IsAnswered, Theorem.IsFormulaText}
-use Rattle.sat_check.specs.{Theorem.ShowsUnsatisfiable, Theorem.StepsVerify, Theorem.IsSatisfied}
-use Rattle.sat_check.specs.{Theorem.ShowsSatisfied, declared.checked.Checked.Checked}
+use Rattle.report.specs.declared.status.Status.{Status, TheVariants.Verified}
 use Rattle.sat_check.proofs.ClaimLemmas.{claim_consistent, claim_text, has_reverse}
 use Rattle.sat_check.proofs.EndingLemmas.{claim_ends, formula_ends, formula_header}
 use Rattle.sat_check.proofs.ModelLemmas.{Made, assigned, listed_holds, verified_satisfied}
 use Rattle.sat_check.proofs.SoundLemmas.{outcome_verified, report_verified, verifies_sound}
 use Rattle.sat_check.proofs.WrittenLemmas.{written_model, written_verified}
-use Rattle.report.specs.declared.status.Status.{Status, TheVariants.Verified}
+use Rattle.sat_check.specs.Code.Checking.{RunsInto}
+use Rattle.sat_check.specs.ModelReport.{Satisfies, meets, model_report}
+use Rattle.sat_check.specs.Report.{Outcome, Reports, Verifies, bare_steps, drat_proof}
+use Rattle.sat_check.specs.{Runs.IsDratProof, Runs.IsVerifiedBy, Theorem.IsAnswered}
+use Rattle.sat_check.specs.Theorem.{IsFormulaText, IsSatisfied, ShowsSatisfied, ShowsUnsatisfiable}
+use Rattle.sat_check.specs.{Theorem.StepsVerify, declared.checked.Checked.Checked}
+use Rattle.std.proofs.Common.{Bool, List, None, Option, Some, [], ap, append-nil, codes, false, inl}
+use Rattle.std.proofs.Common.{inr, refl, reverse, rules, slice_get, suc, true, ℕ, ◌∙◌, ◌∷◌, ◌≡◌}
+use Rattle.std.proofs.lemmas.Bool.{and_from, and_parts, false_from_ne_true}
+use Rattle.std.specs.{List.list_all, Prelude.IsFalse}
+use Rattle.theory.specs.Models.{Assignment, HasModel, holds, satisfies}
+use Rattle.theory.specs.{Rules.Rule, Verdicts.system_of}
+use Rattle.writers.specs.Lines.{Sink}
 
 -- ---- What was seen of a reader that has these bytes
-
-not_an_end : Failed ≡ End → ⊥
-not_an_end e = cc
 
 module _ (old new : Reader) (seen : Seen old new) (bytes : List ℕ)
     (has_these : old.left ≡ Some bytes) where
   -- where no read failed, they are an input that fits
   seen_unless : (seen.met ≡ Some Failed → ⊥) → IsSeen seen (input_of bytes)
-  seen_unless unfailed =
-      let P : Option (List ℕ) → Type 0 = λ left. Consumes left new.left seen.handed in
-      by seen.met new.left unfailed seen.ended (subst P has_these seen.lost)
-    where
-      by : (met : Option Ending) (left : Option (List ℕ)) → (met ≡ Some Failed → ⊥) →
-          (met ≡ Some End → IsAtEnd left)
-          → Consumes (Some bytes) left seen.handed → MayFollow met left seen.handed bytes End
-      by met None unfailed ended lost = absurd lost
-      by None (Some later) unfailed ended lost = (later, lost, refl)
-      by (Some End) (Some later) unfailed ended lost =
-          (lost ∙ ap (λ x. seen.handed ++ x) (ended refl) ∙ append-nil seen.handed, refl)
-      by (Some Failed) (Some later) unfailed ended lost = absurd (unfailed refl)
+  seen_unless unfailed = search (rules, append-nil)
 
   -- so they are where each input that fits has an end
   seen_whole : ((i : Input) → IsSeen seen i → i.ending ≡ End) → IsSeen seen (input_of bytes)
@@ -60,10 +44,7 @@ module _ (old new : Reader) (seen : Seen old new) (bytes : List ℕ)
     where
       failed : seen.met ≡ Some Failed → ⊥
       failed is =
-          let P : Option Ending → Type 0 =
-          λ met. MayFollow met new.left seen.handed seen.handed Failed in
-          not_an_end
-          (ends (record { bytes = seen.handed; ending = Failed }) (subst P (sym is) (refl, refl)))
+          let e : Failed ≡ End = ends (record { bytes = seen.handed; ending = Failed }) (rw is (refl, refl)) in cc
 
   -- and where the reader tells of no failure
   seen_unfailed : tells_failure new ≡ false → IsSeen seen (input_of bytes)
@@ -74,8 +55,7 @@ module _ (old new : Reader) (seen : Seen old new) (bytes : List ℕ)
 -- a formula without a fault is the text of its header and its clauses
 formula_text : (bytes : List ℕ) → (formula_of (input_of bytes)).fault ≡ None
     → (h : Header) × IsFormulaText bytes h (formula_of (input_of bytes)).clauses
-formula_text bytes whole =
-    let read = formula_header (input_of bytes) whole in
+formula_text bytes whole = let read = formula_header (input_of bytes) whole in
     let written = formula_grammar.read_is_written bytes read.0 _ read.1 in
     (read.0, record { within = written.0; text = written.1 })
 
@@ -136,13 +116,11 @@ module _ (rule : Rule) (trace : Bool) (steps : Input → Proof)
   -- so the formula was read whole
   whole_formula : IsAnswered (codes "s VERIFIED") status old new → (bytes : List ℕ) →
       formula.left ≡ Some bytes → IsSeen both.first (input_of bytes)
-  whole_formula answer bytes holds =
-      let j = seen_is_some proof proof_new both.second in
+  whole_formula answer bytes holds = let j = seen_is_some proof proof_new both.second in
       search (rules, seen_whole, formula_ends, verifies)
 
   pub shows_unsatisfiable : ShowsUnsatisfiable formula.left status old new
-  shows_unsatisfiable bytes holds answer =
-      let j = seen_is_some proof proof_new both.second in
+  shows_unsatisfiable bytes holds answer = let j = seen_is_some proof proof_new both.second in
       let v = verifies answer (input_of bytes) j.0 (whole_formula answer bytes holds) j.1 in
       let text = formula_text bytes v.whole in
       record {
@@ -159,16 +137,11 @@ module _ (rule : Rule) (trace : Bool) (steps : Input → Proof)
       → StepsVerify IsText (IsVerifiedBy rule) formula.left proof.left (tells_failure proof_new)
       status old new
   shows_steps IsText is_read bytes proof_bytes h clauses ss holds also_holds quiet text steps_text
-      answer =
-      let v = verifies answer (input_of bytes) (input_of proof_bytes)
+      answer = let v = verifies answer (input_of bytes) (input_of proof_bytes)
       (whole_formula answer bytes holds)
-      (seen_unfailed proof proof_new both.second proof_bytes also_holds quiet) in
-      let P : List Clause → Type 0 =
-      λ cs. Verdict rule cs (bare_steps (steps (input_of proof_bytes))) v.words verified in
-      let Q : List Step → Type 0 = λ ss. Verdict rule clauses ss v.words verified in (
+      (seen_unfailed proof proof_new both.second proof_bytes also_holds quiet) in (
         v.words,
-        subst Q (is_read proof_bytes ss steps_text)
-            (subst P (text_read bytes h clauses text) v.verdict),
+        rw (← is_read proof_bytes ss steps_text) (rw (← text_read bytes h clauses text) v.verdict),
       )
 
 -- the same of what the lines hold, where the writer holds it
@@ -178,11 +151,7 @@ module _ (rule : Rule) (trace : Bool) (steps : Input → Proof)
     (runs : RunsInto rule trace steps formula formula_new proof proof_new was now checked) where
   pub into_unsatisfiable : ShowsUnsatisfiable formula.left checked.status old new
   into_unsatisfiable =
-      let P : Option (List ℕ) → Type 0 =
-      λ x. ShowsUnsatisfiable formula.left checked.status x now.held in
-      let Q : Option (List ℕ) → Type 0 =
-      λ y. ShowsUnsatisfiable formula.left checked.status old y in
-      subst Q after (subst P before (shows_unsatisfiable rule trace steps formula formula_new proof
+      rw (← after) (rw (← before) (shows_unsatisfiable rule trace steps formula formula_new proof
       proof_new was.held now.held checked.status _ runs.report (λ i j x. x.0)))
 
   pub into_steps : (IsText : List ℕ → List Step → Type 0) →
@@ -191,11 +160,7 @@ module _ (rule : Rule) (trace : Bool) (steps : Input → Proof)
       → StepsVerify IsText (IsVerifiedBy rule) formula.left proof.left (tells_failure proof_new)
       checked.status old new
   into_steps IsText is_read =
-      let P : Option (List ℕ) → Type 0 = λ x. StepsVerify IsText (IsVerifiedBy rule) formula.left
-      proof.left (tells_failure proof_new) checked.status x now.held in
-      let Q : Option (List ℕ) → Type 0 = λ y. StepsVerify IsText (IsVerifiedBy rule) formula.left
-      proof.left (tells_failure proof_new) checked.status old y in
-      subst Q after (subst P before (shows_steps rule trace steps formula formula_new proof
+      rw (← after) (rw (← before) (shows_steps rule trace steps formula formula_new proof
       proof_new was.held now.held checked.status _ runs.report (λ i j x. x.0) IsText is_read))
 
 -- the text of steps is read as those
@@ -225,16 +190,14 @@ answered_model i j old new status o answer =
 -- a clause with a listed literal is satisfied where these are true
 met_true : (v : Assignment) (listed : List Literal) → list_all (holds v) (reverse listed) ≡ true →
     (c : Clause) → meets listed c ≡ true → satisfies v c ≡ true
-met_true v listed trues c h =
-    let w = any_some (has listed) c h in
+met_true v listed trues c h = let w = any_some (has listed) c h in
     any_from (holds v) c w.0 w.1
     (all_each (holds v) (reverse listed) w.0 trues (has_reverse listed w.0 ∙ w.2))
 
 satisfied_by : (bytes output_bytes : List ℕ) →
     Satisfies (claim_of (input_of output_bytes)) (formula_of (input_of bytes)).clauses
     → (formula_of (input_of bytes)).fault ≡ None → IsSatisfied bytes output_bytes
-satisfied_by bytes output_bytes s whole =
-    let text = formula_text bytes whole in
+satisfied_by bytes output_bytes s whole = let text = formula_text bytes whole in
     let claim = claim_text output_bytes s.listed s.claimed in
     record {
       header = text.0;
@@ -264,11 +227,9 @@ module _ (formula formula_new output output_new : Reader) (old new : Option (Lis
   shows_satisfied bytes output_bytes holds also_holds answer =
       let some_i = seen_is_some formula formula_new both.first in
       let some_j = seen_is_some output output_new both.second in
-      let seen =
-      seen_whole formula formula_new both.first bytes holds
+      let seen = seen_whole formula formula_new both.first bytes holds
       (λ i seen. formula_ends i (confirms answer i some_j.0 seen some_j.1).1) in
-      let also = seen_whole output output_new both.second output_bytes also_holds
-      (λ j also. let s =
+      let also = seen_whole output output_new both.second output_bytes also_holds (λ j also. let s =
       (confirms answer some_i.0 j some_i.1 also).0 in claim_ends j s.listed s.claimed) in
       let said = confirms answer (input_of bytes) (input_of output_bytes) seen also in
       satisfied_by bytes output_bytes said.0 said.1
@@ -281,9 +242,5 @@ pub lines_satisfied : (formula formula_new output output_new : Reader)
     ShowsSatisfied formula.left output.left status first last
 lines_satisfied formula formula_new output output_new Told status old new first last before after
     both =
-    let P : Option (List ℕ) → Type 0 =
-    λ x. ShowsSatisfied formula.left output.left status x new in
-    let Q : Option (List ℕ) → Type 0 =
-    λ y. ShowsSatisfied formula.left output.left status first y in
-    subst Q after (subst P before (shows_satisfied formula formula_new output output_new old new
+    rw (← after) (rw (← before) (shows_satisfied formula formula_new output output_new old new
     status _ both (λ i j x. x.0)))

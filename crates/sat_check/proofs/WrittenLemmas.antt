@@ -1,33 +1,31 @@
 -- A line that was written is one of the report's.
-use Rattle.theory.specs.Verdicts.{system_of, Ending, verified, refused, no_empty_clause}
-use Rattle.theory.specs.{Rules.Rule, declared.accepted.Accepted.Accepted}
-use Rattle.theory.specs.declared.{refusal.Refusal.Refusal}
-use Rattle.theory.specs.declared.refusal.Refusal.TheVariants as refusal
-use Rattle.std.proofs.Common.{◌≡◌, ℕ, zero, suc, ◌+◌, ◌-◌, ◌/◌, ◌%◌, ◌^◌, ◌==◌, ◌&&◌, ◌||◌, min}
-use Rattle.std.proofs.Common.{if◌then◌else◌, Bool, true, false, not, Option, None, Some, List}
-use Rattle.std.proofs.Common.{[], ◌∷◌, ◌++◌, length, codes, refl, sym, ap, ◌∙◌, subst, append_assoc}
-use Rattle.std.proofs.Common.{arith, rules}
-use Rattle.std.proofs.lemmas.Bool.{and_parts, Decides.nat_tests}
-use Rattle.std.proofs.lemmas.List.{append_cancel_left, Folds.list_all-append, Folds.list_any-append}
-use Rattle.std.specs.Prelude.{decimal, Result, Ok, Err}
-use Rattle.std.specs.{Fmt.digits, Fmt.digits_onto, Fmt.digit_glyph, List.list_all, List.list_any}
-use Rattle.std.specs.{Str.bytes_eq, Io.KnownBytes.Appends}
 use Rattle.cnf_base.proofs.TextLemmas.{append_nil}
-use Rattle.cnf_base.specs.{Literals.Literal, Literals.Clause, Stream.Input, Text.lines_of}
-use Rattle.cnf_base.specs.declared.fault.{Fault.Fault, TextFault.TextFault, BinaryFault.BinaryFault}
-use Rattle.cnf_base.specs.declared.fault.Fault.TheVariants as fault
+use Rattle.cnf_base.specs.{Literals.Clause, Literals.Literal, Stream.Input, Text.lines_of}
+use Rattle.cnf_base.specs.declared.fault.{BinaryFault.BinaryFault, Fault.Fault, TextFault.TextFault}
 use Rattle.dimacs.specs.{Formula.Formula, Formula.formula_of, declared.header.Header.Header}
 use Rattle.proofs.specs.Reading.{Proof}
-use Rattle.report.specs.Lines.{Certificate, a_proof, a_model, unmet_line, shown}
-use Rattle.report.specs.Lines.{formula_line, kind_text, binary_text, fault_line, fault_status}
-use Rattle.report.specs.Lines.{word_text, trace_line, sign_text, with_cause, refusal_line}
-use Rattle.report.specs.Lines.{steps_line, sentence}
+use Rattle.report.specs.Lines.{Certificate, a_model, a_proof, binary_text, fault_line}
+use Rattle.report.specs.Lines.{fault_status, formula_line, kind_text, refusal_line, sentence, shown}
+use Rattle.report.specs.Lines.{sign_text, steps_line, trace_line, unmet_line, with_cause, word_text}
 use Rattle.report.specs.declared.status.Status.{Status}
-use Rattle.report.specs.declared.status.Status.TheVariants.{Verified, NotVerified}
-use Rattle.sat_check.specs.ModelReport.{first_unmet, met_report, clauses_report, claim_report}
-use Rattle.sat_check.specs.Report.{Report, Outcome, text_of, concluded, with_lines, trace_lines}
-use Rattle.sat_check.specs.Report.{verdict_report, proof_report, ReportsFormula, HasWritten}
+use Rattle.report.specs.declared.status.Status.TheVariants.{NotVerified, Verified}
 use Rattle.sat_check.proofs.OutcomeLemmas.{text_of-append}
+use Rattle.sat_check.specs.ModelReport.{claim_report, clauses_report, first_unmet, met_report}
+use Rattle.sat_check.specs.Report.{HasWritten, Outcome, Report, ReportsFormula, concluded}
+use Rattle.sat_check.specs.Report.{proof_report, text_of, trace_lines, verdict_report, with_lines}
+use Rattle.std.proofs.Common.{Bool, List, None, Option, Some, [], ap, append_assoc, arith, codes}
+use Rattle.std.proofs.Common.{false, if◌then◌else◌, length, min, not, refl, rules, subst, suc, sym}
+use Rattle.std.proofs.Common.{true, zero, ℕ, ◌%◌, ◌&&◌, ◌++◌, ◌+◌, ◌-◌, ◌/◌, ◌==◌, ◌^◌, ◌||◌, ◌∙◌}
+use Rattle.std.proofs.{Common.◌∷◌, Common.◌≡◌, lemmas.Bool.Decides.nat_tests, lemmas.Bool.and_parts}
+use Rattle.std.proofs.lemmas.List.{Folds.list_all-append, Folds.list_any-append, append_cancel_left}
+use Rattle.std.specs.Fmt.{digit_glyph, digits, digits_onto}
+use Rattle.std.specs.{Io.KnownBytes.Appends, List.list_all, List.list_any}
+use Rattle.std.specs.{Prelude.Err, Prelude.Ok, Prelude.Result, Prelude.decimal, Str.bytes_eq}
+use Rattle.theory.specs.Rules.{Rule}
+use Rattle.theory.specs.Verdicts.{Ending, no_empty_clause, refused, system_of, verified}
+use Rattle.theory.specs.declared.{accepted.Accepted.Accepted, refusal.Refusal.Refusal}
+use Rattle.theory.specs.declared.refusal.Refusal.TheVariants as refusal
+use Rattle.cnf_base.specs.declared.fault.Fault.TheVariants as fault
 
 -- ---- Texts without a line feed
 
@@ -89,12 +87,10 @@ data Cut (line text part rest : List ℕ) : Type 0 where
 
 cut_at : (line text part rest : List ℕ) → line ++ 10 ∷ text ≡ part ++ rest → Cut line text part rest
 cut_at line text [] rest e = within line refl
-cut_at [] text (b ∷ bs) rest e =
-    let first : b ≡ 10 = cc in
+cut_at [] text (b ∷ bs) rest e = let first : b ≡ 10 = cc in
     let others : text ≡ bs ++ rest = cc in
     past bs (ap (λ x. x ∷ bs) first) others
-cut_at (l ∷ ls) text (b ∷ bs) rest e =
-    let first : l ≡ b = cc in
+cut_at (l ∷ ls) text (b ∷ bs) rest e = let first : l ≡ b = cc in
     let others : ls ++ 10 ∷ text ≡ bs ++ rest = cc in
     elim (cut_at ls text bs rest others) [
       | within x is ↦ within x (ap (λ y. l ∷ y) is ∙ ap (λ y. y ∷ bs ++ x) first)
@@ -284,6 +280,5 @@ written_verified rule trace i p r status old new reports o w =
 
 pub written_model : (claim : Result (List Literal) Fault) (f : Formula) (status : Status) (old new : Option (List ℕ))
     → Outcome status old new (claim_report claim f) → HasWritten (codes "s MODEL VERIFIED") old new → (claim_report claim f).status ≡ Verified
-written_model claim f status old new o w =
-    let t = claim_tells claim f in
+written_model claim f status old new o w = let t = claim_tells claim f in
     sentence_written 115 (codes " MODEL VERIFIED") (claim_report claim f) status old new t.plain t.told o w

@@ -1,19 +1,17 @@
 -- The formula was loaded, or it has a fault.
-use Rattle.std.proofs.Common.{◌≡◌, ◌∙◌, Option, [], sym, subst}
-use Rattle.cnf_base.specs.declared.fault.Fault.{Fault}
-use Rattle.cnf_base.proofs.StreamLemmas.{Along-map, Along-none}
-use Rattle.cnf_base.proofs.SeenLemmas.{seen_is_some}
+use Rattle.cnf_base.proofs.{SeenLemmas.seen_is_some, StreamLemmas.Along-map}
+use Rattle.cnf_base.{proofs.StreamLemmas.Along-none, specs.declared.fault.Fault.Fault}
 use Rattle.dimacs.specs.Formula.{formula_of}
-use Rattle.theory.specs.Rules.{rule_of}
-use Rattle.sat_check.specs.Code.Checking.{LeavesProof}
-use Rattle.sat_check.proofs.ReachLemmas.{no_verdict, LeavesProof-fault}
-use Rattle.sat_check.proofs.ReportLemmas.{reports_checked, err_report}
-use Rattle.sat_check.proofs.check.check.Goals as goal
 use Rattle.report.specs.declared.status.Status.TheVariants.{Malformed, OutOfMemory as NoMemory}
+use Rattle.sat_check.proofs.ReachLemmas.{LeavesProof-fault, no_verdict}
+use Rattle.sat_check.proofs.ReportLemmas.{err_report, reports_checked}
+use Rattle.sat_check.specs.Code.Checking.{LeavesProof}
+use Rattle.std.proofs.Common.{Option, [], subst, sym, ◌∙◌, ◌≡◌}
+use Rattle.theory.specs.Rules.{rule_of}
+use Rattle.sat_check.proofs.check.check.Goals as goal
 
 pub check_loaded-requires-clause-loaded : goal.check_loaded-requires-clause-loaded
-check_loaded-requires-clause-loaded g c =
-    let loads = c.in-Ok.ensures.loads in
+check_loaded-requires-clause-loaded g c = let loads = c.in-Ok.ensures.loads in
     let some = seen_is_some _ _ loads.seen in
     (rule_of (g.S.ProofSession.shown c.args.session.now).state, (formula_of some.0).clauses, (loads.fact some.0 some.1).0.2)
 
@@ -42,8 +40,7 @@ returns-in-Err-clause-report g c =
             (λ is. (
               rw c.by_fault.ensures.status (no_verdict c.break_off-status.result c.args.lines.now.held c.break_off-status.new.lines.held [] (c.break_off-status.ensures.memory is (record { lines = []; status = Malformed }))),
               λ m. let bad : NoMemory ≡ Malformed = sym (c.break_off-status.ensures.gave_up is) ∙ (sym c.by_fault.ensures.status ∙ m) in cc,
-            ))
-            (λ m. c.by_fault.ensures.malformed (sym c.by_fault.ensures.status ∙ m))
+            )) (λ m. c.by_fault.ensures.malformed (sym c.by_fault.ensures.status ∙ m))
             (λ not. c.by_fault.ensures.only (λ m. not (c.by_fault.ensures.status ∙ m))),
         (c.in-Err.ensures.loads.fact i s).1,
       )),

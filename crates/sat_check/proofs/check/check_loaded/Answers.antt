@@ -1,15 +1,13 @@
 -- The formula's line broke off, a clause is empty, or the proof is checked.
-use Rattle.std.proofs.Common.{◌≡◌, None, [], ap, sym, ◌∙◌, rules}
 use Rattle.cnf_base.proofs.StreamLemmas.{Along-map, Along-none}
-use Rattle.sat_check.specs.declared.checked.Checked.{Checked}
 use Rattle.report.specs.Lines.{formula_line, steps_line}
 use Rattle.report.specs.declared.status.Status.TheVariants.{Malformed, Verified}
 use Rattle.sat_check.proofs.OutcomeLemmas.{Outcome-line}
-use Rattle.sat_check.proofs.ReachLemmas.{no_verdict, LeavesProof-broken, LeavesProof-empty}
-use Rattle.sat_check.proofs.ReachLemmas.{LeavesProof-checked, TellsFault-none, concluded_not}
-use Rattle.sat_check.proofs.ReachLemmas.{cut_short_not}
-use Rattle.sat_check.proofs.ReportLemmas.{loaded_finite, loaded_least, checks_some, checks_rest}
-use Rattle.sat_check.proofs.ReportLemmas.{verified_report}
+use Rattle.sat_check.proofs.ReachLemmas.{LeavesProof-broken, LeavesProof-checked, LeavesProof-empty}
+use Rattle.sat_check.proofs.ReachLemmas.{TellsFault-none, concluded_not, cut_short_not, no_verdict}
+use Rattle.sat_check.proofs.ReportLemmas.{checks_rest, checks_some, loaded_finite, loaded_least}
+use Rattle.sat_check.{proofs.ReportLemmas.verified_report, specs.declared.checked.Checked.Checked}
+use Rattle.std.proofs.Common.{None, [], ap, rules, sym, ◌∙◌, ◌≡◌}
 use Rattle.sat_check.proofs.check.check_loaded.Goals as goal
 
 pub returns-in-Err-clause-report : goal.returns-in-Err-clause-report
@@ -40,13 +38,7 @@ returns-then-verified-clause-report g c =
     ))
 
 pub check_proof-requires-clause-open : goal.check_proof-requires-clause-open
-check_proof-requires-clause-open g c =
-    let loaded = c.requires.loaded in
-    record {
-      sound = search rules;
-      finite = loaded_finite loaded.0 (g.S.ProofSession.shown c.args.session.now) loaded.1 loaded.2;
-      least = loaded_least loaded.0 (g.S.ProofSession.shown c.args.session.now) loaded.1 loaded.2;
-    }
+check_proof-requires-clause-open g c = search (rules, loaded_finite, loaded_least)
 
 pub returns-clause-report : goal.returns-clause-report
 returns-clause-report g c =

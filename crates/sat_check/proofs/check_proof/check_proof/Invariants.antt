@@ -7,12 +7,10 @@ abbrev pub invariant-loop-number : goal.invariant-loop-number
 invariant-loop-number g l = Checking l.trace (record {
   stream = g.R.StepReader.stream l.fn.reader;
   to_come = g.R.StepReader.to_come l.fn.reader;
-})
-    (record {
-      stream = g.R.StepReader.stream l.reader;
-      to_come = g.R.StepReader.to_come l.reader;
-    })
-    (g.S.ProofSession.shown l.fn.session) (g.S.ProofSession.shown l.session)
+}) (record {
+  stream = g.R.StepReader.stream l.reader;
+  to_come = g.R.StepReader.to_come l.reader;
+}) (g.S.ProofSession.shown l.fn.session) (g.S.ProofSession.shown l.session)
     l.accepted l.fn.lines l.lines
 
 abbrev pub decreases-loop-number : goal.decreases-loop-number

@@ -1,13 +1,12 @@
 -- Want of memory, or the check in the form that was asked for.
-use Rattle.std.proofs.Common.{refl, sym, ap, rules}
-use Rattle.proofs.specs.{Binary.binary_steps, Code.Binary.binary_to_come, Code.Drat.drat_to_come}
-use Rattle.proofs.specs.Drat.{drat_steps}
+use Rattle.proofs.specs.Binary.{binary_steps}
+use Rattle.proofs.specs.{Code.Binary.binary_to_come, Code.Drat.drat_to_come, Drat.drat_steps}
+use Rattle.sat_check.proofs.CheckLemmas.{reports_as, reports_run, runs_nothing}
+use Rattle.sat_check.{proofs.LoadLemmas.unused, specs.Report.drat_proof, specs.Report.rules_of}
+use Rattle.std.proofs.Common.{ap, refl, rules, sym}
 use Rattle.steps.specs.Session.{view_of}
-use Rattle.sat_check.specs.Report.{drat_proof, rules_of}
-use Rattle.sat_check.proofs.LoadLemmas.{unused}
-use Rattle.sat_check.proofs.CheckLemmas.{runs_nothing, reports_run, reports_as}
-use Rattle.sat_check.proofs.drat.check_with.Goals as goal
 use Rattle.theory.specs.Rules.{drat, rule_of}
+use Rattle.sat_check.proofs.drat.check_with.Goals as goal
 
 pub returns-in_default : goal.returns-in_default
 returns-in_default g c =
@@ -21,25 +20,23 @@ pub check-checked-requires-else-options-clause-unused : goal.check-checked-requi
 check-checked-requires-else-options-clause-unused g c = unused (drat (rules_of c.args.options)) c.args.session.now c.requires.fresh
 
 pub returns-then-options : goal.returns-then-options
-returns-then-options g c =
-    record {
-      report = reports_as (rule_of (view_of c.args.session.now).state) (drat (rules_of c.args.options)) c.args.options.trace binary_steps (drat_proof c.args.options.binary) _ _ _ _ c.check-checked.result c.args.lines.now c.check-checked.new.lines (ap (λ s. rule_of (view_of s).state) c.requires.fresh)
-          (λ j. ap (λ b. drat_proof b j) (sym c.if-options.true))
-          (reports_run (rule_of (view_of c.args.session.now).state) c.args.options.trace binary_to_come binary_steps _ _ _ _ c.over.result _ _ c.check-checked.result c.args.lines.now c.check-checked.new.lines c.over.ensures (search rules) (λ j. refl)
-          c.new-reader.result c.new-reader.ensures c.check-checked.ensures.report.0 c.check-checked.ensures.report.1);
-      read_failed = search rules;
-      write_failed = c.check-checked.ensures.write_failed;
-      writer = c.check-checked.ensures.writer;
-    }
+returns-then-options g c = record {
+  report = reports_as (rule_of (view_of c.args.session.now).state) (drat (rules_of c.args.options)) c.args.options.trace binary_steps (drat_proof c.args.options.binary) _ _ _ _ c.check-checked.result c.args.lines.now c.check-checked.new.lines (ap (λ s. rule_of (view_of s).state) c.requires.fresh)
+      (λ j. ap (λ b. drat_proof b j) (sym c.if-options.true))
+      (reports_run (rule_of (view_of c.args.session.now).state) c.args.options.trace binary_to_come binary_steps _ _ _ _ c.over.result _ _ c.check-checked.result c.args.lines.now c.check-checked.new.lines c.over.ensures (search rules) (λ j. refl)
+      c.new-reader.result c.new-reader.ensures c.check-checked.ensures.report.0 c.check-checked.ensures.report.1);
+  read_failed = search rules;
+  write_failed = c.check-checked.ensures.write_failed;
+  writer = c.check-checked.ensures.writer;
+}
 
 pub returns-else-options : goal.returns-else-options
-returns-else-options g c =
-    record {
-      report = reports_as (rule_of (view_of c.args.session.now).state) (drat (rules_of c.args.options)) c.args.options.trace drat_steps (drat_proof c.args.options.binary) _ _ _ _ c.check-checked-else-options.result c.args.lines.now c.check-checked-else-options.new.lines (ap (λ s. rule_of (view_of s).state) c.requires.fresh)
-          (λ j. ap (λ b. drat_proof b j) (sym c.if-options.false))
-          (reports_run (rule_of (view_of c.args.session.now).state) c.args.options.trace drat_to_come drat_steps _ _ _ _ c.over-else-options.result _ _ c.check-checked-else-options.result c.args.lines.now c.check-checked-else-options.new.lines c.over-else-options.ensures (search rules) (λ j. refl)
-          c.new-reader-else-options.result c.new-reader-else-options.ensures c.check-checked-else-options.ensures.report.0 c.check-checked-else-options.ensures.report.1);
-      read_failed = search rules;
-      write_failed = c.check-checked-else-options.ensures.write_failed;
-      writer = c.check-checked-else-options.ensures.writer;
-    }
+returns-else-options g c = record {
+  report = reports_as (rule_of (view_of c.args.session.now).state) (drat (rules_of c.args.options)) c.args.options.trace drat_steps (drat_proof c.args.options.binary) _ _ _ _ c.check-checked-else-options.result c.args.lines.now c.check-checked-else-options.new.lines (ap (λ s. rule_of (view_of s).state) c.requires.fresh)
+      (λ j. ap (λ b. drat_proof b j) (sym c.if-options.false))
+      (reports_run (rule_of (view_of c.args.session.now).state) c.args.options.trace drat_to_come drat_steps _ _ _ _ c.over-else-options.result _ _ c.check-checked-else-options.result c.args.lines.now c.check-checked-else-options.new.lines c.over-else-options.ensures (search rules) (λ j. refl)
+      c.new-reader-else-options.result c.new-reader-else-options.ensures c.check-checked-else-options.ensures.report.0 c.check-checked-else-options.ensures.report.1);
+  read_failed = search rules;
+  write_failed = c.check-checked-else-options.ensures.write_failed;
+  writer = c.check-checked-else-options.ensures.writer;
+}

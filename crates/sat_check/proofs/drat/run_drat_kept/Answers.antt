@@ -8,8 +8,7 @@ use Rattle.sat_check.proofs.drat.run_drat_kept.Goals as goal
 use Rattle.theory.specs.Rules.{drat}
 
 pub returns : goal.returns
-returns g c =
-    let rule = drat (rules_of c.args.options.now) in
+returns g c = let rule = drat (rules_of c.args.options.now) in
     let trace = c.args.options.now.trace in
     let steps = drat_proof c.args.options.now.binary in
     drat_placed (rules_of c.args.options.now) trace steps _ _ _ _ _ _ _ _ _ _ (

@@ -17,14 +17,12 @@ pub returns-clause-reports : goal.returns-clause-reports
 returns-clause-reports g c = weakened _ _ _ _ _ _ _ _ _ _ (returns-clause-runs g c) (λ i j x. x.0.reports)
 
 pub returns-clause-unsatisfiable : goal.returns-clause-unsatisfiable
-returns-clause-unsatisfiable g c =
-    let options = c.args.options.now in
+returns-clause-unsatisfiable g c = let options = c.args.options.now in
     into_unsatisfiable (drat (rules_of options)) options.trace (drat_proof options.binary)
     _ _ _ _ _ _ _ _ _ (search rules) (search rules) c.check_with-checked.ensures
 
 pub returns-clause-steps_verify : goal.returns-clause-steps_verify
-returns-clause-steps_verify g c =
-    let options = c.args.options.now in
+returns-clause-steps_verify g c = let options = c.args.options.now in
     into_steps (drat (rules_of options)) options.trace (drat_proof options.binary)
     _ _ _ _ _ _ _ _ _ (search rules) (search rules)
     c.check_with-checked.ensures (IsDratProof options.binary) (drat_read options.binary)

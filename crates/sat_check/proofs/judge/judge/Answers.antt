@@ -11,6 +11,5 @@ returns-in-Ok-clause-judges g c =
     judges_body c.args.model.now _ _ _ c.over.ensures _ _ (search rules) c.in-Ok.reader c.judge_clauses-judged.result c.in-Ok.ensures.opened c.judge_clauses-judged.ensures.judges
 
 pub returns-in-Err-clause-judges : goal.returns-in-Err-clause-judges
-returns-in-Err-clause-judges g c =
-    let last = c.in-Err.ensures.refused in
+returns-in-Err-clause-judges g c = let last = c.in-Err.ensures.refused in
     judges_fault c.args.model.now _ _ _ c.over.ensures last.0 _ (search rules) c.in-Err.refused.0 last.2

@@ -1,10 +1,9 @@
 -- A clause is met, it is the first that isn't, none is left, or there is a fault.
-use Rattle.std.proofs.Common.{◌≡◌, true, false, rules}
-use Rattle.std.specs.Prelude.{Ok}
+use Rattle.sat_check.proofs.JudgeLemmas.{Judging-clause, Judging-done, Judging-fault, Judging-start}
+use Rattle.sat_check.proofs.{JudgeLemmas.Judging-unmet, ReadLemmas.clause_told}
 use Rattle.sat_check.specs.ModelReport.{meets}
-use Rattle.sat_check.proofs.JudgeLemmas.{Judging-start, Judging-clause, Judging-unmet, Judging-done}
-use Rattle.sat_check.proofs.JudgeLemmas.{Judging-fault}
-use Rattle.sat_check.proofs.ReadLemmas.{clause_told}
+use Rattle.std.proofs.Common.{false, rules, true, ◌≡◌}
+use Rattle.std.specs.Prelude.{Ok}
 use Rattle.sat_check.proofs.judge.judge_clauses.Goals as goal
 
 pub loop-clause-init : goal.loop-clause-init
@@ -17,8 +16,7 @@ returns-then-not-meets-clause-judges g c =
 
 pub loop-clause-preserved : goal.loop-clause-preserved
 loop-clause-preserved g c =
-    let met : meets c.args.model.now c.next.new.clause ≡ true = search rules in
-    Judging-clause _ _ _ c.next.new.self _ c.loop-clause.invariant c.next.new.clause (clause_told c.loop-clause.reader c.next.new.self _ (Ok true) _ c.next.ensures.clause (search rules)) met (search rules) (search rules)
+    Judging-clause _ _ _ c.next.new.self _ c.loop-clause.invariant c.next.new.clause (clause_told c.loop-clause.reader c.next.new.self _ (Ok true) _ c.next.ensures.clause (search rules)) (search rules) (search rules) (search rules)
 
 pub returns-clause-judges : goal.returns-clause-judges
 returns-clause-judges g c = Judging-done _ _ _ c.next.new.self _ c.loop-clause.invariant c.next.new.clause (clause_told c.loop-clause.reader c.next.new.self _ (Ok false) _ c.next.ensures.clause (search rules))

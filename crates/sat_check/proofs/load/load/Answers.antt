@@ -17,6 +17,5 @@ returns-in_err-loaded-in-Ok-clause-loads g c =
     loads_body_fault (rule_of (g.S.ProofSession.shown c.args.session.now).state) (g.S.ProofSession.shown c.load_clauses-loaded.new.session) _ _ _ c.over.ensures c.in-Ok.reader c.load_clauses-loaded.new.reader.stream _ (search rules) c.in-Ok.ensures.opened c.in_err-loaded-in-Ok.field-0.0 c.from_residual-in_err-loaded-in-Ok.result (search rules) c.in_err-loaded-in-Ok.ensures.loads
 
 pub returns-in-Err-clause-loads : goal.returns-in-Err-clause-loads
-returns-in-Err-clause-loads g c =
-    let last = c.in-Err.ensures.refused in
+returns-in-Err-clause-loads g c = let last = c.in-Err.ensures.refused in
     loads_fault (rule_of (g.S.ProofSession.shown c.args.session.now).state) (g.S.ProofSession.shown c.args.session.now) _ _ _ c.over.ensures c.in-Err.refused.0 last.0 _ (search rules) last.2

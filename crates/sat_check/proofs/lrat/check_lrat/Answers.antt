@@ -16,8 +16,7 @@ pub check-checked-requires-clause-unused : goal.check-checked-requires-clause-un
 check-checked-requires-clause-unused g c = unused lrat c.args.session.now c.requires.fresh
 
 pub returns : goal.returns
-returns g c =
-    let rule = rule_of (view_of c.args.session.now).state in
+returns g c = let rule = rule_of (view_of c.args.session.now).state in
     record {
       report = reports_as rule lrat c.args.trace lrat_steps lrat_steps _ _ _ _ c.check-checked.result c.args.lines.now c.check-checked.new.lines (ap (λ s. rule_of (view_of s).state) c.requires.fresh) (λ j. refl)
           (reports_run rule c.args.trace lrat_to_come lrat_steps _ _ _ _ c.over.result _ _ c.check-checked.result c.args.lines.now c.check-checked.new.lines c.over.ensures (search rules) (λ j. refl)

@@ -7,8 +7,7 @@ use Rattle.sat_check.proofs.lrat.run_lrat_kept.Goals.{in-Some, in-None}
 use Rattle.sat_check.proofs.lrat.run_lrat_kept.Goals as goal
 
 pub returns : goal.returns
-returns g c =
-    let trace = c.args.options.now.trace in
+returns g c = let trace = c.args.options.now.trace in
     runs_placed lrat trace lrat_steps _ _ _ _ c.match-session.checked c.new-lines.result c.match-session.lines _ _ _ _ _
     (search rules) (search rules) (search rules) (search rules) (search rules)
     (elim c.match-session.branch [

@@ -1,16 +1,14 @@
 -- The formula was judged, or it has a fault.
-use Rattle.std.proofs.Common.{◌≡◌, ◌∙◌, None, ap, rules, subst, sym}
-use Rattle.sat_check.specs.{Report.Report, Report.Outcome, declared.checked.Checked.Checked}
-use Rattle.sat_check.proofs.ModelLemmas.{judged_as, judged_unmet, fault_unmet, formula_fault}
-use Rattle.sat_check.proofs.ModelLemmas.{formula_tells}
-use Rattle.sat_check.proofs.ReachLemmas.{TellsFault-none}
-use Rattle.sat_check.proofs.model.check_formula.Goals as goal
 use Rattle.dimacs.specs.Formula.{formula_of}
 use Rattle.report.specs.declared.status.Status.TheVariants.{Malformed, OutOfMemory as NoMemory}
+use Rattle.sat_check.proofs.ModelLemmas.{fault_unmet, formula_fault, formula_tells, judged_as}
+use Rattle.sat_check.proofs.{ModelLemmas.judged_unmet, ReachLemmas.TellsFault-none}
+use Rattle.sat_check.specs.{Report.Outcome, Report.Report, declared.checked.Checked.Checked}
+use Rattle.std.proofs.Common.{None, ap, rules, subst, sym, ◌∙◌, ◌≡◌}
+use Rattle.sat_check.proofs.model.check_formula.Goals as goal
 
 pub returns-in-Ok-clause-report : goal.returns-in-Ok-clause-report
-returns-in-Ok-clause-report g c =
-    let judges = c.in-Ok.ensures.judges in
+returns-in-Ok-clause-report g c = let judges = c.in-Ok.ensures.judges in
     let P : Report → Type 0 = Outcome c.conclude_judgement-status.result c.args.lines.now.held c.conclude_judgement-status.new.lines.held in
     record {
       seen = judges.seen;
@@ -25,8 +23,7 @@ returns-in-Ok-clause-report g c =
     }
 
 pub returns-in-Err-clause-report : goal.returns-in-Err-clause-report
-returns-in-Err-clause-report g c =
-    let judges = c.in-Err.ensures.judges in
+returns-in-Err-clause-report g c = let judges = c.in-Err.ensures.judges in
     let status = c.by_fault.ensures.status in
     record {
       seen = judges.seen;

@@ -9,8 +9,7 @@ use Rattle.sat_check.proofs.ModelLemmas.{claimed_tells, output_tells}
 use Rattle.sat_check.proofs.model.check_model.Goals as goal
 
 pub returns-in-Ok-clause-report : goal.returns-in-Ok-clause-report
-returns-in-Ok-clause-report g c =
-    let checked = c.check_formula.ensures.report in
+returns-in-Ok-clause-report g c = let checked = c.check_formula.ensures.report in
     let claims = c.in-Ok.ensures.claims in
     let P : Report → Type 0 = Outcome c.check_formula.result.status c.args.lines.now.held c.check_formula.new.lines.held in
     record {
@@ -25,8 +24,7 @@ returns-in-Ok-clause-report g c =
     }
 
 pub returns-in-Err-clause-report : goal.returns-in-Err-clause-report
-returns-in-Err-clause-report g c =
-    let claims = c.in-Err.ensures.claims in
+returns-in-Err-clause-report g c = let claims = c.in-Err.ensures.claims in
     let status = c.by_fault.ensures.status in
     record {
       first = Seen-nothing _;

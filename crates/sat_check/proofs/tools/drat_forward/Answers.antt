@@ -9,19 +9,15 @@ pub returns-clause-runs : goal.returns-clause-runs
 returns-clause-runs g c = rw c.of-options.ensures at c.run_drat_kept-session.ensures
 
 pub returns-clause-unsatisfiable : goal.returns-clause-unsatisfiable
-returns-clause-unsatisfiable g c =
-    let options = c.of-options.result in
+returns-clause-unsatisfiable g c = let options = c.of-options.result in
     shows_unsatisfiable (drat (rules_of options)) options.trace (drat_proof options.binary)
-    _ _ _ _ _ _ _ _ c.run_drat_kept-session.ensures.checks
-    (λ i j x.
+    _ _ _ _ _ _ _ _ c.run_drat_kept-session.ensures.checks (λ i j x.
     drat_reported (rules_of options) options.trace i (drat_proof options.binary j) _ _ _ x.0.reports)
 
 pub returns-clause-steps_verify : goal.returns-clause-steps_verify
-returns-clause-steps_verify g c =
-    let options = c.of-options.result in
+returns-clause-steps_verify g c = let options = c.of-options.result in
     rw c.of-options.ensures at
     (shows_steps (drat (rules_of options)) options.trace (drat_proof options.binary)
-    _ _ _ _ _ _ _ _ c.run_drat_kept-session.ensures.checks
-    (λ i j x.
+    _ _ _ _ _ _ _ _ c.run_drat_kept-session.ensures.checks (λ i j x.
     drat_reported (rules_of options) options.trace i (drat_proof options.binary j) _ _ _ x.0.reports)
     (IsDratProof options.binary) (drat_read options.binary))
