@@ -1,13 +1,17 @@
 -- One value at the keys of literals and of their complements, written one after the other.
-use Rattle.std.proofs.Common.{◌≡◌, ℕ, ◌+◌, ◌<◌, Bool, false, ◌||◌, cond, eqb, eq-eqb, List, Some}
-use Rattle.std.proofs.Common.{set, slice_get, take, get_or, length, sym, ap, ◌∙◌, inl, inr, arith}
-use Rattle.std.proofs.lemmas.Bool.{cases_eq, cases_lt, ne_eqb}
+use Rattle.std.proofs.Common.{◌≡◌, ℕ, ◌+◌, ◌<◌, Bool, true, false, is_some, None, Option, ◌||◌, cond, eqb, eq-eqb, List, Some}
+use Rattle.std.proofs.Common.{set, slice_get, take, get_or, length, refl, sym, ap, ◌∙◌, inl, inr, arith}
+use Rattle.std.specs.BTreeMap as tree
+use Rattle.std.specs.Option.{option_or}
+use Rattle.std.specs.Ordering.{nat_cmp}
+use Rattle.std.proofs.lemmas.Bool.{cases_eq, cases_lt, ne_eqb, true≢false}
 use Rattle.std.proofs.lemmas.List.{get_or-set_same, get_or-set_other, length-set}
 use Rattle.std.proofs.lemmas.Option.{slice_get-get_or, slice_get_past}
 use Rattle.cnf_base.specs.Literals.{complement, has}
-use Rattle.tables.specs.Filled.{is_of}
+use Rattle.tables.specs.Filled.{at}
+use Rattle.tables.specs.declared.filled.Filled.{Filled}
 use Rattle.cnf_base.proofs.LiteralLemmas.{complement-complement}
-use Rattle.cnf_base.proofs.WalkLemmas.{has_more, has_take}
+use Rattle.cnf_base.proofs.WalkLemmas.{has_more}
 
 or_nothing : (b : Bool) → (b || false) ≡ b
 or_nothing b = grind arith
@@ -43,9 +47,20 @@ module _ {T : Type 0} (value : T) (c : List ℕ) (i : ℕ) (inside : i < length 
       more : (l : ℕ) → has (take (i + 1) c) l ≡ (has (take i c) l || eqb x l)
       more = has_more c i inside x is
 
--- the first of them, and then all
-pub written_again : {T : Type 0} (value : T) (c : List ℕ) (n : ℕ) (was before after : ℕ → T) →
-    ((k : ℕ) → before k ≡ cond (is_of (take n c) k) value (was k)) →
-    ((k : ℕ) → after k ≡ cond (is_of c k) value (before k)) →
-    (k : ℕ) → after k ≡ cond (is_of c k) value (was k)
-written_again value c n was before after first all k = grind (arith, has_take)
+-- ---- Where no key is far
+
+or_none : {T : Type 0} (o : Option T) → option_or o None ≡ o
+or_none (Some x) = refl
+or_none None = refl
+
+module _ {T : Type 0} (f : Filled T) (none : (k : ℕ) → tree.get nat_cmp f.far k ≡ None) where
+  pub near_at : (k : ℕ) → at f k ≡ slice_get f.near.items k
+  unfolding at
+  near_at k = ap (option_or (slice_get f.near.items k)) (none k) ∙ or_none (slice_get f.near.items k)
+
+  -- a key that has a value
+  pub near_key : (k : ℕ) → is_some (at f k) ≡ true → k < length f.near.items
+  near_key k some = elim (cases_lt k (length f.near.items)) [
+    | inl within ↦ within
+    | inr past ↦ absurd (true≢false (sym some ∙ ap is_some (near_at k ∙ slice_get_past f.near.items k past)))
+  ]

@@ -6,6 +6,7 @@
 
 ghost use Rattle.std.specs.Prelude.{◌≡◌, ℕ, ◌==◌, ◌<◌, ◌≤◌, if◌then◌else◌, unwrap_or, vec_len};
 ghost use Rattle.std.specs.Prelude.{IsSome, OnOk, OnErr, Some, None, ◌≢◌, length, slice_get, take};
+ghost use Rattle.std.specs.Prelude.{IfSome, true};
 ghost use Rattle.std.specs.Ordering.{nat_cmp};
 ghost use Rattle.std.specs.BTreeMap as tree;
 ghost use Rattle.tables.specs.Filled.{HaveRoom, is_of};
@@ -25,6 +26,19 @@ use std::collections::BTreeMap;
 pub struct Filled<T> {
     near: Vec<T>,
     far: BTreeMap<u32, T>,
+}
+
+/// Writes the values at two places of an array: at the same place the second one.
+#[inline(always)]
+fn write_both<T: Copy + Drop>(near: &mut [T], first: usize, value: T, second: usize, other: T)
+    requires first { first < length near.old }
+    requires second { second < length near.old }
+    ensures values { (k : ℕ) → slice_get near.new k ≡ (if k == second then Some other
+        else if k == first then Some value else slice_get near.old k) }
+    ensures len { length near.new ≡ length near.old }
+{
+    near[first] = value;
+    near[second] = other;
 }
 
 #[tactic(auto, unfolding(crate::specs::Filled::at))]
@@ -63,6 +77,14 @@ impl<T: Copy + Drop> Filled<T> {
         }
     }
 
+    /// Whether all keys that have a value are near.
+    #[inline(always)]
+    fn none_far(&self) -> bool
+        ensures { result ≡ true → (k : ℕ) → tree.get nat_cmp self.now.far k ≡ None }
+    {
+        self.far.is_empty()
+    }
+
     #[cold]
     #[inline(never)]
     fn get_far(&self, key: u32) -> Option<T>
@@ -86,6 +108,18 @@ impl<T: Copy + Drop> Filled<T> {
         ensures { (k : ℕ) → k < length result.now → slice_get result.now k ≡ at self.now k }
     {
         self.near.as_slice()
+    }
+
+    /// The values of all keys that have one, by key, where none of them lies far.
+    #[inline(always)]
+    pub fn all_near(&self) -> Option<&[T]>
+        ensures { IfSome result (λ values. (k : ℕ) → slice_get values.now k ≡ at self.now k) }
+    {
+        if self.none_far() {
+            Some(self.near.as_slice())
+        } else {
+            None
+        }
     }
 
     /// Writes the value at the key, for which there is room.
@@ -119,16 +153,15 @@ impl<T: Copy + Drop> Filled<T> {
         ensures { (k : ℕ) → at self.new k ≡ (if k == other then Some other_value
             else if k == key then Some value else at self.old k) }
     {
-        let near = self.near.as_mut_slice();
-        if (key as usize) < near.len() && (other as usize) < near.len() {
-            near[key as usize] = value;
-            near[other as usize] = other_value;
+        if self.none_far() {
+            let near = self.near.as_mut_slice();
+            write_both(near, key as usize, value, other as usize, other_value);
         } else {
             self.set_both_far(key, value, other, other_value);
         }
     }
 
-    /// The same where one of them is far.
+    /// The same, wherever the keys lie.
     #[cold]
     #[inline(never)]
     fn set_both_far(&mut self, key: u32, value: T, other: u32, other_value: T)
@@ -148,32 +181,27 @@ impl<T: Copy + Drop> Filled<T> {
         ensures { (k : ℕ) → at self.new k ≡ (if is_of lits.now k then Some value
             else at self.old k) }
     {
-        if self.set_near(lits, value) < lits.len() {
+        if self.none_far() {
+            self.set_near(lits, value);
+        } else {
             self.set_each(lits, value);
         }
     }
 
-    /// The same up to the first literal of which a key is far. It tells how many stand before it.
+    /// The same where none is far.
     ///
-    /// The loop holds the array: else it would read its place and its length for each literal.
+    /// The loop holds the array: else it would read its place for each literal.
     #[inline(always)]
-    fn set_near(&mut self, lits: &[Lit], value: T) -> usize
-        ensures within { result ≤ length lits.now }
-        ensures written { (k : ℕ) → at self.new k ≡ (if is_of (take result lits.now) k
-            then Some value else at self.old k) }
+    fn set_near(&mut self, lits: &[Lit], value: T)
+        requires none_far { (k : ℕ) → tree.get nat_cmp self.old.far k ≡ None }
+        requires room { HaveRoom (at self.old) lits.now }
+        ensures { (k : ℕ) → at self.new k ≡ (if is_of lits.now k then Some value
+            else at self.old k) }
     {
         let near = self.near.as_mut_slice();
-        let mut done = 0;
         for l in lits {
-            let (first, second) = (l.index(), l.neg().index());
-            if first >= near.len() || second >= near.len() {
-                return done;
-            }
-            near[first] = value;
-            near[second] = value;
-            done += 1;
+            write_both(near, l.index(), value, l.neg().index(), value);
         }
-        done
     }
 
     /// The same as `set_all`, wherever the keys lie.
@@ -205,7 +233,7 @@ impl<T: Copy + Drop> Filled<T> {
         ensures filled { IsFilled first self.old self.new }
         ensures long { OnOk result (len ≤ vec_len self.new.near) }
     {
-        if self.far.is_empty() && self.near.len() <= len {
+        if self.none_far() && self.near.len() <= len {
             return self.widen_near(len, first);
         }
         for key in self.near.len()..len {

@@ -1,7 +1,6 @@
 pub mod Left
 pub mod Longer
 pub mod MakesFalse
-pub mod Near
 pub mod Reserved
 pub mod Truth
 pub mod Values

@@ -1,6 +1,6 @@
 -- Trails: the literals that are true, in the order in which they were set.
 use Rattle.std.specs.Prelude.{◌≡◌, ℕ, ◌++◌, Bool, IsFalse, ◌&&◌, nat_le, Some, List, map, nat_eq}
-use Rattle.std.specs.Prelude.{IsTrue, if◌then◌else◌, slice_get}
+use Rattle.std.specs.Prelude.{IsTrue, if◌then◌else◌}
 use Rattle.std.specs.Bool.{OnFalse}
 use Rattle.std.specs.List.{IsDistinct}
 use Rattle.cnf_base.specs.Literals.{Literal, variable, complement, complements, Clause, has}
@@ -42,8 +42,3 @@ HasRoom reserved c = (l : Literal) → IsTrue (has c l) → IsTrue (has reserved
 -- there is room for the variable of each of these literals
 pub record HasRoomForAll (reserved : List ℕ) (live : Live) : Type 0 where
   pub each : (k : ℕ) (c : Clause) → live k ≡ Some c → HasRoom reserved c
-
--- values by literal that say what the trail says, which has no variable twice
-pub record AreNear (lits : List Literal) (near : List Value) : Type 0 where
-  pub different : HasNoVariableTwice lits
-  pub says : (l : Literal) (v : Value) → slice_get near l ≡ Some v → v ≡ value_under lits l

@@ -2,9 +2,6 @@
 //!
 //! They are of different variables that were all reserved, so there is room for each.
 //!
-//! Of a hint's clause mostly one literal is left. At which place can't be foretold, and a branch
-//! for each literal would cost more than the look-ups. So `unit_left` counts what is left, and
-//! calls `left`, which stops at the second literal, only where more than one is.
 
 mod values;
 
@@ -15,13 +12,14 @@ ghost use Rattle.std.specs.List.{remove};
 ghost use Rattle.cnf_base.specs.Literals.{complement, has, variable};
 ghost use Rattle.theory.specs.Propagation.{open_literals};
 ghost use Rattle.trail.specs.Left.{AreFalseFrom, IsNonFalseAt, how_many};
-ghost use Rattle.trail.specs.Code.Left.{IsCount};
 ghost use Rattle.trail.specs.Trail.{value_under, is_variable, HasNoVariableTwice, HasRoom};
-ghost use Rattle.trail.specs.Trail.{AreNear, MakesFalse};
+ghost use Rattle.trail.specs.Trail.{MakesFalse};
 ghost use Rattle.theory.specs.Sets.{SameSet, conflicts};
 ghost use Rattle.trail.specs.declared.value.Value.TheVariants.{Open};
 
 use self::values::{open_all, reserve_both, set_both};
+use crate::assignment::Assignment;
+use crate::dense::Dense;
 use crate::left::Left;
 use crate::part::Part;
 use crate::truths::{Truths, left_of};
@@ -102,6 +100,16 @@ impl Truths for Trail {
 
     fn falsifies(&self, l: Lit) -> bool {
         self.is_false(l)
+    }
+}
+
+impl Assignment for Trail {
+    ghost trail_of = { λ t. t };
+
+    #[cold]
+    #[inline(never)]
+    fn value_of(&self, l: Lit) -> Value {
+        self.value(l)
     }
 }
 
@@ -337,92 +345,17 @@ impl Trail {
         false
     }
 
-    /// The values that lie near, by literal. A loop asks for them once: else it would have their
-    /// place read again for each literal.
+    /// The trail with its values in one array, where none of them lies far.
     #[inline(always)]
-    pub fn near(&self) -> &[Value]
-        ensures { AreNear self.now.lits result.now }
+    pub fn dense(&self) -> Option<Dense<'_>>
+        ensures { IfSome result (λ d. d ≡ self.now) }
     {
-        self.values.near()
+        let values = self.values.all_near()?;
+        Some(Dense::new(self, values))
     }
 
-    /// What the trail says of a literal, which one of these near values may say. It takes no
-    /// memory.
-    #[inline(always)]
-    pub fn value_near(&self, near: &[Value], l: Lit) -> Value
-        requires { AreNear self.now.lits near.now }
-        ensures value { result ≡ value_under self.now.lits l }
-        ensures different { HasNoVariableTwice self.now.lits }
-    {
-        match near.get(l.index()) {
-            Some(value) => *value,
-            None => self.value_far(l),
-        }
-    }
-
-    #[cold]
-    #[inline(never)]
-    fn value_far(&self, l: Lit) -> Value
-        ensures value { result ≡ value_under self.now.lits l }
-        ensures different { HasNoVariableTwice self.now.lits }
-    {
-        self.value(l)
-    }
-
-    /// Whether the literal is true, which one of these near values may say.
-    #[inline(always)]
-    pub fn is_true_near(&self, near: &[Value], l: Lit) -> bool
-        requires { AreNear self.now.lits near.now }
-        ensures { result ≡ has self.now.lits l }
-    {
-        match near.get(l.index()) {
-            Some(value) => matches!(value, Value::True),
-            None => self.is_true_far(l),
-        }
-    }
-
-    #[cold]
-    #[inline(never)]
-    fn is_true_far(&self, l: Lit) -> bool
-        ensures { result ≡ has self.now.lits l }
-    {
-        self.is_true(l)
-    }
-
-    /// Whether the literal is false, where its value is one of these near ones.
-    #[inline(always)]
-    fn is_false_near(&self, near: &[Value], l: Lit) -> Option<bool>
-        requires { AreNear self.now.lits near.now }
-        ensures { IfSome result (λ r. r ≡ has self.now.lits (complement l)) }
-    {
-        let value = near.get(l.index())?;
-        Some(matches!(value, Value::False))
-    }
-
-    /// How many literals of a clause are not false, where each counts as often as it is repeated,
-    /// and the last of them, where the values of all literals lie near.
-    #[inline(always)]
-    fn open_near(&self, clause: &[Lit]) -> Option<(usize, Lit)>
-        ensures { IfSome result (λ r.
-            IsCount (open_literals self.now.lits clause.now) r.0 r.1) }
-    {
-        let near = self.near();
-        let mut count = 0;
-        let mut last = Lit::default();
-        for l in clause {
-            let is_false = self.is_false_near(near, *l)?;
-            if !is_false {
-                count += 1;
-                last = *l;
-            }
-        }
-        Some((count, last))
-    }
-
-    /// The same as `first_non_false`, wherever the values lie.
-    #[cold]
-    #[inline(never)]
-    fn first_non_false_far(&self, clause: &[Lit], from: usize) -> Option<usize>
+    /// The first place of a clause from this one on whose literal is not false. It takes no memory.
+    pub fn first_non_false(&self, clause: &[Lit], from: usize) -> Option<usize>
         ensures found { IfSome result (IsNonFalseAt self.now.lits clause.now from) }
         ensures none { IfNone result (AreFalseFrom self.now.lits clause.now from) }
     {
@@ -432,53 +365,6 @@ impl Trail {
             }
         }
         None
-    }
-
-    /// The first place of a clause from this one on whose literal is not false. It takes no memory.
-    #[inline(always)]
-    pub fn first_non_false(&self, clause: &[Lit], from: usize) -> Option<usize>
-        ensures found { IfSome result (IsNonFalseAt self.now.lits clause.now from) }
-        ensures none { IfNone result (AreFalseFrom self.now.lits clause.now from) }
-    {
-        self.first_non_false_in(self.near(), clause, from)
-    }
-
-    /// The same as [`Trail::first_non_false`], where these near values may say which literals are false.
-    ///
-    /// It counts the places beside the slice, which takes fewer instructions than a look by each
-    /// place.
-    #[inline(always)]
-    pub fn first_non_false_in(&self, near: &[Value], clause: &[Lit], from: usize) -> Option<usize>
-        requires { AreNear self.now.lits near.now }
-        ensures found { IfSome result (IsNonFalseAt self.now.lits clause.now from) }
-        ensures none { IfNone result (AreFalseFrom self.now.lits clause.now from) }
-    {
-        if from >= clause.len() {
-            return None;
-        }
-        let mut place = from;
-        for l in &clause[from..] {
-            match self.is_false_near(near, *l) {
-                Some(true) => place += 1,
-                Some(false) => return Some(place),
-                None => return self.first_non_false_far(clause, place),
-            }
-        }
-        None
-    }
-
-    /// What is left of a clause, as [`Trail::left`] says it. It takes no memory.
-    ///
-    /// It is made for clauses of which at most one literal is left: it looks at all literals, with
-    /// no branch for each.
-    pub fn unit_left(&self, clause: &[Lit]) -> Left
-        ensures { result ≡ how_many (open_literals self.now.lits clause.now) }
-    {
-        match self.open_near(clause) {
-            Some((0, _)) => Left::Nothing,
-            Some((1, last)) => Left::One(last),
-            _ => self.left(clause),
-        }
     }
 
     /// What is left of a clause. It takes no memory.

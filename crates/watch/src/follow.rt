@@ -4,7 +4,7 @@
 //! be found again. Where memory for the list is refused, the clause watches the same two literals
 //! as before, perhaps in the other order.
 //!
-//! The near values are asked for once for all visits up to the next literal that becomes true.
+//! The values are asked for once for all visits up to the next literal that becomes true.
 
 ghost use Rattle.std.specs.Prelude.{◌≡◌, ◌≢◌, ℕ, ◌+◌, ◌≤◌, length, take, slice_get, Option, Some};
 ghost use Rattle.std.specs.Prelude.{IsTrue, IsFalse, IfOk, IfSome, IfNone, OnOk};
@@ -15,11 +15,11 @@ ghost use Rattle.std.specs.Ordering.{nat_cmp};
 ghost use Rattle.cnf_base.specs.Literals.{Clause, Literal, complement, has};
 ghost use Rattle.theory.specs.Sets.{conflicts};
 ghost use Rattle.propagation.specs.Assumptions.{AssumptionsState};
-ghost use Rattle.trail.specs.Trail.{AreNear};
 ghost use Rattle.root_literals.specs.Order.{each_in_order};
 ghost use Rattle.root_literals.specs.Watched.{IsMet, IsWatched};
 ghost use Rattle.root_literals.specs.Roots.{IsFalseAt};
-ghost use Rattle.watch.specs.Code.Visits.{AreMet, CanFollow, CanVisit, Followed, IsExchangeAt};
+ghost use Rattle.watch.specs.Code.Visits.{AreMet, CanFollow, CanLook, CanVisit, Followed};
+ghost use Rattle.watch.specs.Code.Visits.{HasRoomForBlocking, IsExchangeAt, IsFoundAfter};
 ghost use Rattle.watch.specs.Code.Visits.{IsFoundNext, IsInHand, IsNextSlot, Visited, VisitsUnder};
 ghost use Rattle.watch.specs.Code.Visits.{entries_left};
 ghost use Rattle.tables.specs.Filled.{at};
@@ -30,7 +30,7 @@ use cnf_base::{Lit, OutOfMemory};
 use propagation::Assumptions;
 use root_literals::set_by;
 use tables::Filled;
-use trail::{Trail, Value};
+use trail::{Assignment, Trail, is_true_under};
 use watch_lists::{Cursor, WatchLists, Watcher};
 
 /// Lets the clause of the next entry watch another literal instead of `l`, whose list is in hand
@@ -94,32 +94,29 @@ pub(crate) struct FoundAt {
 /// Visits the clause of the next entry in the list of a literal that became false. Where something
 /// is found of it, nothing is written, and the entry is still the next one.
 #[inline(always)]
-fn visit(
+fn visit<A: Assignment>(
     store: &mut Store,
     lists: &mut WatchLists,
-    trail: &Trail,
-    near: &[Value],
+    assignment: &A,
     cursor: &mut Cursor,
     entry: Watcher,
     l: Lit,
 ) -> Result<Option<Found>, OutOfMemory>
-    requires near { AreNear trail.now.lits near.now }
     requires next { slice_get cursor.old.entries cursor.old.visited ≡ Some entry }
-    requires hand { IsInHand store.old.live lists.old cursor.old.entries l }
-    requires is_false { IsTrue (has trail.now.lits (complement l)) }
-    requires met { AreMet store.old.live cursor.old l trail.now.lits }
-    ensures visited { VisitsUnder trail.now store.old.live store.new.live lists.old lists.new
-        cursor.old.entries cursor.new.entries l }
-    ensures met { OnOk result (AreMet store.new.live cursor.new l trail.now.lits) }
+    requires can { CanLook store.old.live lists.old cursor.old (A.trail_of assignment.now) l }
+    ensures visited { VisitsUnder (A.trail_of assignment.now) store.old.live store.new.live
+        lists.old lists.new cursor.old.entries cursor.new.entries l }
+    ensures met { OnOk result
+        (AreMet store.new.live cursor.new l (A.trail_of assignment.now).lits) }
     ensures found { IfOk result (λ found. IfSome found
-        (IsFoundNext store.new.live cursor.new trail.now.lits entry)) }
+        (IsFoundNext store.new.live cursor.new (A.trail_of assignment.now).lits entry)) }
     ensures fewer { IfOk result (λ found. IfNone found
         (entries_left cursor.new + 1 ≡ entries_left cursor.old)) }
     ensures as_many { IfOk result (λ found. IfSome found (λ _.
         entries_left cursor.new ≡ entries_left cursor.old)) }
     ensures slots { store.new.slots ≡ store.old.slots }
 {
-    match look_at(store, trail, near, entry, l) {
+    match look_at(store, assignment, entry, l) {
         Visit::Stays(blocking) => {
             cursor.keep(entry.with_blocking(blocking));
             Ok(None)
@@ -136,17 +133,18 @@ fn visit(
 /// Keeps the next entries whose blocking literal is true, up to one of which it isn't: that one.
 /// Most visits end here, and a loop of its own has most of its numbers in registers.
 #[inline(always)]
-fn next_unblocked(trail: &Trail, near: &[Value], cursor: &mut Cursor) -> Option<Watcher>
-    requires near { AreNear trail.now.lits near.now }
+fn next_unblocked<A: Assignment>(assignment: &A, cursor: &mut Cursor) -> Option<Watcher>
+    requires { HasRoomForBlocking (A.trail_of assignment.now).reserved cursor.old.entries }
     ensures entries { cursor.new.entries ≡ cursor.old.entries }
     ensures next { result ≡ slice_get cursor.new.entries cursor.new.visited }
     ensures met { (live : FinMap nat_cmp Clause) (lists : WatchLists) (l : Literal) →
-        IsInHand live lists cursor.old.entries l → AreMet live cursor.old l trail.now.lits →
-        AreMet live cursor.new l trail.now.lits }
+        IsInHand live lists cursor.old.entries l →
+        AreMet live cursor.old l (A.trail_of assignment.now).lits →
+        AreMet live cursor.new l (A.trail_of assignment.now).lits }
     ensures no_more { entries_left cursor.new ≤ entries_left cursor.old }
 {
     while let Some(entry) = cursor.next() {
-        if !trail.is_true_near(near, entry.blocking()) {
+        if !is_true_under(assignment, entry.blocking()) {
             return Some(entry);
         }
         cursor.keep(entry);
@@ -156,6 +154,33 @@ fn next_unblocked(trail: &Trail, near: &[Value], cursor: &mut Cursor) -> Option<
 
 /// Visits the clauses of the next entries, up to one of which something is found.
 #[inline(always)]
+fn next_found_by<A: Assignment>(
+    store: &mut Store,
+    lists: &mut WatchLists,
+    assignment: &A,
+    cursor: &mut Cursor,
+    l: Lit,
+) -> Result<Option<FoundAt>, OutOfMemory>
+    requires { CanLook store.old.live lists.old cursor.old (A.trail_of assignment.now) l }
+    ensures visited { VisitsUnder (A.trail_of assignment.now) store.old.live store.new.live
+        lists.old lists.new cursor.old.entries cursor.new.entries l }
+    ensures met { OnOk result
+        (AreMet store.new.live cursor.new l (A.trail_of assignment.now).lits) }
+    ensures found { IfOk result
+        (IsFoundAfter store.new.live cursor.new (A.trail_of assignment.now).lits) }
+    ensures no_more { OnOk result (entries_left cursor.new ≤ entries_left cursor.old) }
+    ensures slots { store.new.slots ≡ store.old.slots }
+{
+    while let Some(entry) = next_unblocked(assignment, cursor) {
+        if let Some(found) = visit(store, lists, assignment, cursor, entry, l)? {
+            return Ok(Some(FoundAt { entry, found }));
+        }
+    }
+    Ok(None)
+}
+
+/// The same by the trail, of which mostly all values stand in one array.
+#[inline(always)]
 fn next_found(
     store: &mut Store,
     lists: &mut WatchLists,
@@ -163,26 +188,18 @@ fn next_found(
     cursor: &mut Cursor,
     l: Lit,
 ) -> Result<Option<FoundAt>, OutOfMemory>
-    requires hand { IsInHand store.old.live lists.old cursor.old.entries l }
-    requires is_false { IsTrue (has trail.now.lits (complement l)) }
-    requires met { AreMet store.old.live cursor.old l trail.now.lits }
+    requires { CanLook store.old.live lists.old cursor.old trail.now l }
     ensures visited { VisitsUnder trail.now store.old.live store.new.live lists.old lists.new
         cursor.old.entries cursor.new.entries l }
     ensures met { OnOk result (AreMet store.new.live cursor.new l trail.now.lits) }
-    ensures found { IfOk result (λ found. IfSome found (λ f.
-        IsFoundNext store.new.live cursor.new trail.now.lits f.entry f.found)) }
-    ensures end { IfOk result (λ found. IfNone found
-        (length cursor.new.entries ≤ cursor.new.visited)) }
+    ensures found { IfOk result (IsFoundAfter store.new.live cursor.new trail.now.lits) }
     ensures no_more { OnOk result (entries_left cursor.new ≤ entries_left cursor.old) }
     ensures slots { store.new.slots ≡ store.old.slots }
 {
-    let near = trail.near();
-    while let Some(entry) = next_unblocked(trail, near, cursor) {
-        if let Some(found) = visit(store, lists, trail, near, cursor, entry, l)? {
-            return Ok(Some(FoundAt { entry, found }));
-        }
+    match trail.dense() {
+        Some(dense) => next_found_by(store, lists, &dense, cursor, l),
+        None => next_found_by(store, lists, trail, cursor, l),
     }
-    Ok(None)
 }
 
 /// Visits the clauses in the list of a literal that became false, up to one that is false: its

@@ -3,13 +3,14 @@
 ghost use Rattle.std.specs.Prelude.{◌≡◌, ℕ, ◌-◌, ◌<◌, ◌≤◌, length, slice_index, Some, IsTrue};
 ghost use Rattle.std.specs.FinMap as maps;
 ghost use Rattle.cnf_base.specs.Literals.{Clause, complement, has, size};
-ghost use Rattle.trail.specs.Trail.{AreNear, HasNoVariableTwice};
+ghost use Rattle.trail.specs.Trail.{HasNoVariableTwice, HasRoom, HasRoomForAll};
+ghost use Rattle.root_literals.specs.Order.{each_in_order};
 ghost use Rattle.watch_lists.specs.Watched.{watches};
 ghost use Rattle.watch.specs.Code.Visits.{IsEntryOf, IsVisit};
 
 use clause_db::{Slot, Store};
 use cnf_base::Lit;
-use trail::{Trail, Value};
+use trail::{Assignment, Value, first_non_false_under};
 use watch_lists::Watcher;
 
 /// What a clause watches in place of a literal that became false.
@@ -51,26 +52,26 @@ fn other_watched(clause: &[Lit], l: Lit) -> Lit
 }
 
 /// What is to be done with a clause that watches this literal, which is false.
-fn look(trail: &Trail, near: &[Value], clause: &[Lit], l: Lit) -> Visit
-    requires near { AreNear trail.now.lits near.now }
+fn look<A: Assignment>(assignment: &A, clause: &[Lit], l: Lit) -> Visit
+    requires room { HasRoom (A.trail_of assignment.now).reserved clause.now }
     requires watched { IsTrue (watches clause.now l) }
-    requires is_false { IsTrue (has trail.now.lits (complement l)) }
+    requires is_false { IsTrue (has (A.trail_of assignment.now).lits (complement l)) }
     requires different { size clause.now ≡ length clause.now }
-    ensures visit { IsVisit trail.now.lits clause.now l result }
-    ensures different { HasNoVariableTwice trail.now.lits }
+    ensures visit { IsVisit (A.trail_of assignment.now).lits clause.now l result }
+    ensures different { HasNoVariableTwice (A.trail_of assignment.now).lits }
 {
     let other = other_watched(clause, l);
-    if matches!(trail.value_near(near, other), Value::True) {
+    if matches!(assignment.value_of(other), Value::True) {
         return Visit::Stays(other);
     }
-    match trail.first_non_false_in(near, clause, 2) {
+    match first_non_false_under(assignment, clause, 2) {
         Some(to) => Visit::Moves(Exchange {
             to,
             next: clause[to],
             other,
         }),
         // Asked again, since it would be carried through the search for an open literal.
-        None => match trail.value_near(near, other) {
+        None => match assignment.value_of(other) {
             Value::False => Visit::Clash,
             _ => Visit::Unit(other),
         },
@@ -80,27 +81,23 @@ fn look(trail: &Trail, near: &[Value], clause: &[Lit], l: Lit) -> Visit
 /// What is to be done with the clause of an entry in the list of this literal, which is false. A
 /// binary clause isn't looked at: the blocking literal is its other one.
 #[inline(always)]
-pub(crate) fn look_at(store: &Store, trail: &Trail, near: &[Value], entry: Watcher, l: Lit) -> Visit
-    requires near { AreNear trail.now.lits near.now }
+pub(crate) fn look_at<A: Assignment>(store: &Store, assignment: &A, entry: Watcher, l: Lit) -> Visit
+    requires room { HasRoomForAll (A.trail_of assignment.now).reserved
+        (maps.get (each_in_order store.now.live)) }
     requires entry { IsEntryOf store.now.live entry l }
-    requires is_false { IsTrue (has trail.now.lits (complement l)) }
+    requires is_false { IsTrue (has (A.trail_of assignment.now).lits (complement l)) }
     ensures visit { (c : Clause) → maps.get store.now.live entry.slot ≡ Some c →
-        IsVisit trail.now.lits c l result }
+        IsVisit (A.trail_of assignment.now).lits c l result }
     ensures unrepeated { (c : Clause) → maps.get store.now.live entry.slot ≡ Some c →
         size c ≡ length c }
-    ensures different { HasNoVariableTwice trail.now.lits }
+    ensures different { HasNoVariableTwice (A.trail_of assignment.now).lits }
 {
     store.recall_invariant();
     if !entry.is_binary() {
-        return look(
-            trail,
-            near,
-            store.clause(Slot::at(entry.slot() as usize)),
-            l,
-        );
+        return look(assignment, store.clause(Slot::at(entry.slot() as usize)), l);
     }
     let other = entry.blocking();
-    match trail.value_near(near, other) {
+    match assignment.value_of(other) {
         Value::False => Visit::Clash,
         _ => Visit::Unit(other),
     }

@@ -6,7 +6,9 @@ ghost use Rattle.std.specs.Option.{option_copied};
 ghost use Rattle.std.specs.FinMap as maps;
 ghost use Rattle.theory.specs.Lrat.{chain, units_of};
 ghost use Rattle.theory.specs.Sets.{conflicts, SameSet};
-ghost use Rattle.trail.specs.Trail.{HasRoomForAll};
+ghost use Rattle.theory.specs.Propagation.{open_literals};
+ghost use Rattle.trail.specs.Left.{how_many};
+ghost use Rattle.trail.specs.Trail.{HasRoom, HasRoomForAll};
 ghost use Rattle.steps.specs.Code.Walk.{IsEnd, refusal_at};
 
 use cnf_base::Lit;
@@ -47,6 +49,18 @@ fn named_at<'a>(live: &'a LiveClauses, hints: &[i64], place: usize) -> Option<&'
     }
 }
 
+/// What is left of the clause of a hint.
+#[inline(always)]
+fn left_of_hint(trues: &Trail, clause: &[Lit]) -> Left
+    requires { HasRoom trues.now.reserved clause.now }
+    ensures { result ≡ how_many (open_literals trues.now.lits clause.now) }
+{
+    match trues.dense() {
+        Some(dense) => dense.unit_left(clause),
+        None => trues.left(clause),
+    }
+}
+
 /// Walks over the hints before the first negative one, from literals without a conflict, and makes
 /// true what each of their clauses gives. It takes no memory: the room was made before.
 ///
@@ -74,7 +88,7 @@ pub(crate) fn walk(live: &LiveClauses, trues: &mut Trail, hints: &[i64]) -> Walk
         };
         next = after;
         after = named_at(live, hints, i + 2);
-        match trues.unit_left(clause) {
+        match left_of_hint(trues, clause) {
             Left::Nothing => return WalkEnd::Conflict,
             Left::One(l) => {
                 trues.make_true(l);

@@ -1,8 +1,8 @@
 -- How the code holds a trail: a value by literal.
 use Rattle.std.specs.Prelude.{ℕ, zero, suc, Option, unwrap_or, ◌≡◌, ◌≤◌, List, [], ◌∷◌, map, length}
-use Rattle.std.specs.Prelude.{is_some, IsTrue, IsSome, ◌||◌, if◌then◌else◌}
+use Rattle.std.specs.Prelude.{is_some, IsTrue, IsSome, Some, ◌||◌, ◌<◌, if◌then◌else◌, slice_get}
 use Rattle.cnf_base.specs.Literals.{Literal, complement, variable, has}
-use Rattle.trail.specs.Trail.{value_under, HasNoVariableTwice}
+use Rattle.trail.specs.Trail.{value_under, HasNoVariableTwice, TrailState}
 use Rattle.trail.specs.declared.value.Value.TheVariants.{Open}
 use Rattle.trail.specs.declared.value.Value.{Value}
 
@@ -36,3 +36,11 @@ pub record IsTrail {T : Type 0} (lits : List Literal) (reserved : List ℕ) (cap
   pub noted : (v : ℕ) → is_some (seen v) ≡ has reserved v
   pub known : (l : Literal) → IsTrue (has reserved (variable l)) → IsSome (value_of l)
   pub values : (l : Literal) → known_value (value_of l) ≡ value_under lits l
+
+-- values by literal of which none is missing: they say what the trail says of each literal for whose
+-- variable it has room, and it has no variable twice
+pub record HasAll (trail : TrailState) (values : List Value) : Type 0 where
+  pub different : HasNoVariableTwice trail.lits
+  pub within : (l : Literal) → IsTrue (has trail.reserved (variable l)) → l < length values
+  pub says : (l : Literal) (v : Value) → slice_get values l ≡ Some v →
+      v ≡ value_under trail.lits l

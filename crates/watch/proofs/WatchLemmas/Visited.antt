@@ -1,16 +1,17 @@
 -- Visits, one after the other.
 use Rattle.std.proofs.Common.{◌≡◌, ℕ, ◌/◌, ◌<◌, ◌≤◌, true, Option, Some, is_some, List, refl, sym}
-use Rattle.std.proofs.Common.{ap, ◌∙◌, subst, length, get_or, map, slice_get, IfSome}
+use Rattle.std.proofs.Common.{arith, ap, ◌∙◌, subst, length, get_or, map, slice_get}
 use Rattle.std.specs.Ordering.{nat_cmp}
 use Rattle.std.specs.FinMap as maps
 use Rattle.std.specs.FinMap.{FinMap}
+use Rattle.std.proofs.lemmas.Bool.{and_parts}
 use Rattle.std.proofs.lemmas.Grind.{get_or_default_zero}
 use Rattle.cnf_base.specs.Literals.{Literal, Clause, complement, has, variable}
 use Rattle.cnf_base.proofs.LiteralLemmas.{complement-complement}
 use Rattle.cnf_base.proofs.MemberLemmas.{has_place}
 use Rattle.propagation.specs.Assumptions.{AssumptionsState}
 use Rattle.watch.specs.Code.Visits.{CanFollow, CanVisit, Followed, IsEntryOf, IsInHand, IsFound}
-use Rattle.watch.specs.Code.Visits.{IsFoundNext, Visited}
+use Rattle.watch.specs.Code.Visits.{CanLook, HasRoomForBlocking, IsFoundAfter, IsFoundNext, Visited}
 use Rattle.root_literals.specs.Code.Propagated.{PropagatesTo}
 use Rattle.watch.specs.declared.follow.Found.{Found}
 use Rattle.watch.specs.declared.follow.Found.TheVariants.{Unit}
@@ -19,7 +20,9 @@ use Rattle.watch_lists.specs.Cursor.{CursorState}
 use Rattle.watch_lists.specs.Lists.{list_at}
 use Rattle.watch_lists.specs.declared.lists.WatchLists.{WatchLists}
 use Rattle.watch_lists.specs.declared.watcher.Watcher.{Watcher}
-use Rattle.trail.specs.Trail.{HasNoVariableTwice, TrailState}
+use Rattle.trail.specs.Trail.{HasNoVariableTwice, HasRoom, HasRoomForAll, TrailState}
+use Rattle.root_literals.specs.Order.{each_in_order}
+use Rattle.root_literals.proofs.RootLemmas.Order.{has-in_order, seen_there}
 use Rattle.trail.proofs.TrailLemmas.Longer.{has_begun}
 use Rattle.trail.proofs.TrailLemmas.Values.{fits_within}
 use Rattle.watch_lists.proofs.WatchListsLemmas.Lists.{entry_at}
@@ -102,10 +105,10 @@ pub visited_from : {a b : FinMap nat_cmp Clause} {lists lists_b : WatchLists} {l
 visited_from {a} {b} {lists} {lists_b} {list} {list_a} {list_b} {x} {y} {r} {s} {l} = subst (λ xs. Visited a b lists lists_b xs list_b x y r s l)
 
 -- what was found of the clause of the next entry
-pub found_next : {live : FinMap nat_cmp Clause} {cursor : CursorState} {seen trues : List Literal} {o : Option FoundAt} → IfSome o (λ f. IsFoundNext live cursor seen f.entry f.found) →
+pub found_next : {live : FinMap nat_cmp Clause} {cursor : CursorState} {seen trues : List Literal} {o : Option FoundAt} → IsFoundAfter live cursor seen o →
     {f : FoundAt} {found : Found} → o ≡ Some f → f.found ≡ found → seen ≡ trues → IsFoundNext live cursor trues f.entry found
 found_next {live} {cursor} {seen} {trues} found_in {f} {found} is found_is same =
-    let here = subst (λ p. IfSome p (λ f. IsFoundNext live cursor seen f.entry f.found)) is found_in in
+    let here = subst (IsFoundAfter live cursor seen) is found_in in
     subst (λ ls. IsFoundNext live cursor ls f.entry found) same (subst (IsFoundNext live cursor seen f.entry) found_is here)
 
 -- there is room for a literal that is found to follow after visits
@@ -113,3 +116,15 @@ pub room_found : {a b d : FinMap nat_cmp Clause} {lists lists_b lists_d : WatchL
     Visited a b lists lists_b list list_b x y r s l → Visited b d lists_b lists_d list_b list_d y z s t l → {cursor : CursorState} {trues : List Literal} {entry : Watcher} {m : Literal} → IsFoundNext d cursor trues entry (Unit m) →
     (has z.trail.reserved (m / 2) ≡ true) × (is_some (t m) ≡ true)
 room_found can first second {m = m} f = room_for (can_visit_on (can_visit_on can first) second).can_set _ f.clause f.at m f.holds.0
+
+-- ---- Looks at clauses
+
+-- there is room for the literals of a clause
+pub room_in : (live : FinMap nat_cmp Clause) {reserved : List ℕ} → HasRoomForAll reserved (maps.get (each_in_order live)) → (slot : ℕ) (c : Clause) → maps.get live slot ≡ Some c → HasRoom reserved c
+room_in live room slot c here m member = let shown = seen_there live slot c here in grind (arith, has-in_order)
+
+-- so there is for those that stand in entries
+pub room_for_blocking : {live : FinMap nat_cmp Clause} {lists : WatchLists} {cursor : CursorState} {trail : TrailState} {l : Literal} → CanLook live lists cursor trail l → HasRoomForBlocking trail.reserved cursor.entries
+room_for_blocking {live} {cursor = cursor} can k e is =
+    let w = next_entry (record { entries = cursor.entries; visited = k }) e is can.hand in
+    room_in live can.room e.slot w.clause w.at e.blocking (and_parts (has w.clause e.blocking) _ w.fitting).0

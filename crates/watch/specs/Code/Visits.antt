@@ -3,14 +3,15 @@ use Rattle.std.specs.FinMap as maps
 use Rattle.std.specs.FinMap.{FinMap}
 use Rattle.std.specs.Ordering.{nat_cmp}
 use Rattle.std.specs.Prelude.{List, IsTrue, ◌≡◌, ◌<◌, ◌≤◌, ◌+◌, ◌-◌, length, slice_index, take}
-use Rattle.std.specs.Prelude.{IsFalse, ℕ, Option, Some, [], ◌==◌, if◌then◌else◌, slice_get}
-use Rattle.cnf_base.specs.Literals.{Literal, has, complement, Clause, size}
-use Rattle.trail.specs.Trail.{TrailState}
+use Rattle.std.specs.Prelude.{IsFalse, ℕ, Option, Some, None, [], ◌==◌, if◌then◌else◌, slice_get}
+use Rattle.cnf_base.specs.Literals.{Literal, has, complement, variable, Clause, size}
+use Rattle.trail.specs.Trail.{HasRoomForAll, TrailState}
 use Rattle.propagation.specs.Assumptions.{AssumptionsState}
 use Rattle.watch_lists.specs.Cursor.{CursorState}
 use Rattle.watch_lists.specs.Lists.{entries_in, entries_of, fits, has_list_at, list_at, slot_at}
 use Rattle.clause_db.specs.Store.{is_tautology}
 use Rattle.watch_lists.specs.Watched.{IsListed, watches}
+use Rattle.root_literals.specs.Order.{each_in_order}
 use Rattle.root_literals.specs.Watched.{IsMet}
 use Rattle.root_literals.specs.Code.Propagated.{AreFalse, CanSet, IsUnit, PropagatesTo}
 use Rattle.watch_lists.specs.declared.lists.WatchLists.{WatchLists}
@@ -19,6 +20,7 @@ use Rattle.watch.specs.declared.visit.Visit.TheVariants.{Stays, Moves, Unit, Cla
 use Rattle.watch.specs.declared.visit.Visit.{Visit}
 use Rattle.watch.specs.declared.follow.Found.{Found}
 use Rattle.watch.specs.declared.follow.Found.TheVariants as found
+use Rattle.watch.specs.declared.follow.FoundAt.{FoundAt}
 use Rattle.watch_lists.specs.declared.watcher.Watcher.{Watcher}
 
 -- the clause can watch the literal `next` in place of `l`
@@ -138,6 +140,11 @@ pub record IsFoundNext (live : FinMap nat_cmp Clause) (cursor : CursorState) (tr
   pub at : maps.get live entry.slot ≡ Some clause
   pub holds : IsFound trues clause found
 
+-- of the clause of the next entry, or of none, and then there is no next entry
+abbrev pub IsFoundAfter : FinMap nat_cmp Clause → CursorState → List Literal → Option FoundAt → Type 0
+IsFoundAfter live cursor trues (Some f) = IsFoundNext live cursor trues f.entry f.found
+IsFoundAfter live cursor trues None = length cursor.entries ≤ cursor.visited
+
 -- how many entries are yet to be visited
 abbrev pub entries_left : CursorState → ℕ
 entries_left cursor = length cursor.entries - cursor.visited
@@ -147,3 +154,19 @@ abbrev pub AreMet : FinMap nat_cmp Clause → CursorState → Literal → List L
 AreMet live cursor l trues =
     (s : ℕ) → 0 < entries_of s (take cursor.visited cursor.entries) →
     (c : Clause) → maps.get live s ≡ Some c → IsMet c l trues
+
+-- there is room for the blocking literal of each entry
+abbrev pub HasRoomForBlocking : List ℕ → List Watcher → Type 0
+HasRoomForBlocking reserved entries =
+    (k : ℕ) (e : Watcher) → slice_get entries k ≡ Some e →
+    IsTrue (has reserved (variable e.blocking))
+
+-- the clauses of the list in hand can be looked at
+pub record CanLook (live : FinMap nat_cmp Clause) (lists : WatchLists) (cursor : CursorState)
+    (trail : TrailState) (l : Literal) : Type 0 where
+  -- there is room for all literals of the clauses
+  pub room : HasRoomForAll trail.reserved (maps.get (each_in_order live))
+  pub hand : IsInHand live lists cursor.entries l
+  -- the literal became false
+  pub is_false : IsTrue (has trail.lits (complement l))
+  pub met : AreMet live cursor l trail.lits

@@ -4,7 +4,7 @@ use crate::tests::asserts::{expect_equal, expect_equal_at, expect_true};
 use crate::tests::literals::literal;
 use cnf_base::{Lit, OutOfMemory};
 use std::test::Fail;
-use trail::{Except, Left, Part, Trail, Value, Whole, left_of};
+use trail::{Except, Left, Part, Trail, Value, Whole, first_non_false_under, left_of};
 
 /// Makes room for the literal's variable, and sets it where it is open.
 fn set_open(trail: &mut Trail, l: Lit) -> Result<(), OutOfMemory> {
@@ -98,40 +98,70 @@ fn stays_where_memory_runs_out(rt: HostRuntime) -> Result<(), Fail> {
     Ok(())
 }
 
+/// What is left of a clause, by the array of values, where there is one.
+fn unit_left(trail: &mut Trail, clause: &[Lit]) -> Result<Option<Left>, OutOfMemory> {
+    trail.reserve_all(clause)?;
+    match trail.dense() {
+        Some(dense) => Ok(Some(dense.unit_left(clause))),
+        None => Ok(None),
+    }
+}
+
 #[test]
 fn counts_what_is_left(rt: HostRuntime) -> Result<(), Fail> {
-    let [one, two, far] = [literal(1)?, literal(2)?, literal(268435455)?];
+    let [one, two, other] = [literal(1)?, literal(2)?, literal(70)?];
     let mut trail = Trail::new(rt.alloc())?;
-    expect_equal(&rt, trail.unit_left(&[]), Left::Nothing);
-    expect_equal(&rt, trail.unit_left(&[one, far]), Left::More);
-    expect_equal(&rt, trail.unit_left(&[far, far]), Left::One(far));
+    expect_equal(&rt, unit_left(&mut trail, &[])?, Some(Left::Nothing));
+    expect_equal(&rt, unit_left(&mut trail, &[one, other])?, Some(Left::More));
+    let left = unit_left(&mut trail, &[other, other])?;
+    expect_equal(&rt, left, Some(Left::One(other)));
     expect_true(&rt, !make_false(&mut trail, &[one, two.neg()], &Whole)?);
-    expect_equal(&rt, trail.unit_left(&[one, far, two.neg()]), Left::One(far));
-    expect_equal(&rt, trail.unit_left(&[one, two]), Left::One(two));
-    expect_equal(&rt, trail.unit_left(&[two.neg(), one]), Left::Nothing);
-    expect_equal(&rt, trail.unit_left(&[two, one, two, far]), Left::More);
+    let left = unit_left(&mut trail, &[one, other, two.neg()])?;
+    expect_equal(&rt, left, Some(Left::One(other)));
+    expect_equal(
+        &rt,
+        unit_left(&mut trail, &[one, two])?,
+        Some(Left::One(two)),
+    );
+    expect_equal(
+        &rt,
+        unit_left(&mut trail, &[two.neg(), one])?,
+        Some(Left::Nothing),
+    );
+    let left = unit_left(&mut trail, &[two, one, two, other])?;
+    expect_equal(&rt, left, Some(Left::More));
+    let far = literal(268435455)?;
+    expect_equal(&rt, unit_left(&mut trail, &[far])?, None);
     Ok(())
+}
+
+/// The first place whose literal isn't false, by the array of values, or by the trail.
+fn first_non_false(
+    trail: &mut Trail,
+    clause: &[Lit],
+    from: usize,
+) -> Result<Option<usize>, OutOfMemory> {
+    trail.reserve_all(clause)?;
+    match trail.dense() {
+        Some(dense) => Ok(first_non_false_under(&dense, clause, from)),
+        None => Ok(first_non_false_under(trail, clause, from)),
+    }
 }
 
 #[test]
 fn finds_what_is_open(rt: HostRuntime) -> Result<(), Fail> {
-    let [one, two, far] = [literal(1)?, literal(2)?, literal(268435455)?];
-    let mut trail = Trail::new(rt.alloc())?;
-    let clause = [one, two, far, one];
-    expect_equal(&rt, trail.first_non_false(&clause, 0), Some(0));
-    expect_true(&rt, !make_false(&mut trail, &[one, two.neg()], &Whole)?);
-    expect_equal(&rt, trail.first_non_false(&clause, 0), Some(1));
-    expect_equal(&rt, trail.first_non_false(&clause, 2), Some(2));
-    expect_equal(&rt, trail.first_non_false(&clause, 3), None);
-    expect_equal(&rt, trail.first_non_false(&clause, 4), None);
-    expect_equal(
-        &rt,
-        trail.first_non_false_in(trail.near(), &clause, 2),
-        Some(2),
-    );
-    expect_true(&rt, !make_false(&mut trail, &[far], &Whole)?);
-    expect_equal(&rt, trail.first_non_false(&clause, 2), None);
-    expect_equal(&rt, trail.value_near(trail.near(), two), Value::True);
-    expect_equal(&rt, trail.value_near(trail.near(), far), Value::False);
+    let [one, two] = [literal(1)?, literal(2)?];
+    for last in [literal(3)?, literal(268435455)?] {
+        let mut trail = Trail::new(rt.alloc())?;
+        let clause = [one, two, last, one];
+        expect_equal(&rt, trail.first_non_false(&clause, 0), Some(0));
+        expect_true(&rt, !make_false(&mut trail, &[one, two.neg()], &Whole)?);
+        for (from, place) in [(0, Some(1)), (2, Some(2)), (3, None), (4, None)] {
+            expect_equal(&rt, trail.first_non_false(&clause, from), place);
+            expect_equal(&rt, first_non_false(&mut trail, &clause, from)?, place);
+        }
+        expect_true(&rt, !make_false(&mut trail, &[last], &Whole)?);
+        expect_equal(&rt, first_non_false(&mut trail, &clause, 2)?, None);
+    }
     Ok(())
 }

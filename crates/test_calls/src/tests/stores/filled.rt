@@ -1,6 +1,6 @@
 //! The filled table by number.
 
-use crate::tests::asserts::expect_equal;
+use crate::tests::asserts::{expect_equal, expect_true};
 use std::process::Abort;
 use std::test::Fail;
 use tables::Filled;
@@ -37,6 +37,19 @@ fn keeps_values(rt: HostRuntime) -> Result<(), Fail> {
     }
     expect_equal(&rt, values.get_or(0, 0), 0);
     expect_equal(&rt, values.near().get(1).copied(), Some(0));
+    expect_true(&rt, values.all_near().is_none());
+    Ok(())
+}
+
+#[test]
+fn hands_out_all_that_is_near(rt: HostRuntime) -> Result<(), Fail> {
+    let mut values: Filled<u32> = Filled::new(rt.alloc());
+    values.reserve(1, 8)?;
+    values.set(1, 9);
+    match values.all_near() {
+        Some(all) => expect_equal(&rt, all.get(1).copied(), Some(9)),
+        None => expect_true(&rt, false),
+    }
     Ok(())
 }
 

@@ -9,15 +9,15 @@ use Rattle.watch_lists.proofs.WatchListsLemmas.Lists.{entry_at}
 use Rattle.watch.proofs.follow.next_unblocked.Goals as goal
 
 pub loop-entry-preserved : goal.loop-entry-preserved
-loop-entry-preserved c =
+loop-entry-preserved g c =
     let cursor = c.loop-entry.cursor in
     let e = c.in-Some.entry in
     let next = sym c.next.ensures ∙ c.in-Some.is in
     let r = entry_at cursor.entries cursor.visited e next in
     let kept = c.keep in
     let so_far = c.loop-entry.invariant in
-    let trues = c.args.trail.now.lits in
-    let satisfied = ap (has trues) (sym c.blocking.ensures) ∙ sym c.is_true_near.ensures ∙ c.if-not-is_true_near.false in record {
+    let trues = (g.A.Assignment.trail_of c.args.assignment.now).lits in
+    let satisfied = ap (has trues) (sym c.blocking.ensures) ∙ sym c.is_true_under.ensures ∙ c.if-not-is_true_under.false in record {
       entries = kept.ensures.entries ∙ put_same cursor.entries cursor.visited e r.1 ∙ so_far.entries;
       met = λ live lists l hand met.
           let w = next_entry cursor e next (subst (λ xs. IsInHand live lists xs l) (sym so_far.entries) hand) in

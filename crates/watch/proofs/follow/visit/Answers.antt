@@ -1,6 +1,5 @@
 use Rattle.std.proofs.Common.{set, length, refl, sym, ap, ◌∙◌, ◌+◌, subst, ◌≡◌, false}
 use Rattle.std.specs.FinMap as maps
-use Rattle.std.proofs.lemmas.Bool.{and_parts}
 use Rattle.std.proofs.lemmas.List.{length-set}
 use Rattle.std.proofs.lemmas.Option.{same_Some}
 use Rattle.cnf_base.specs.Literals.{complement, has}
@@ -9,7 +8,7 @@ use Rattle.watch.specs.Code.Visits.{IsInHand}
 use Rattle.watch_lists.specs.declared.watcher.Watcher.{Watcher}
 use Rattle.watch_lists.proofs.WatchListsLemmas.Watched.{watched_apart}
 use Rattle.watch.proofs.WatchLemmas.Entries.{kept_fits}
-use Rattle.watch.proofs.WatchLemmas.Cursor.{kept_fewer, kept_met, put_same, taken_fewer, taken_met}
+use Rattle.watch.proofs.WatchLemmas.Cursor.{kept_fewer, kept_met, taken_fewer, taken_met}
 use Rattle.watch.proofs.WatchLemmas.Follow.{front_apart}
 use Rattle.root_literals.proofs.RootLemmas.Propagated.{propagates_none}
 use Rattle.watch_lists.proofs.WatchListsLemmas.Lists.{entry_at, slot_is}
@@ -17,64 +16,67 @@ use Rattle.watch.proofs.WatchLemmas.Moves.{listed_written}
 use Rattle.watch.proofs.WatchLemmas.Visited.{found_at, next_entry, visited_none}
 use Rattle.watch.proofs.follow.visit.Goals as goal
 
+pub look_at-requires-clause-room : goal.look_at-requires-clause-room
+look_at-requires-clause-room g c = c.requires.can.room
+
 pub look_at-requires-clause-entry : goal.look_at-requires-clause-entry
-look_at-requires-clause-entry c = next_entry c.args.cursor.now c.args.entry c.requires.next c.requires.hand
+look_at-requires-clause-entry g c = next_entry c.args.cursor.now c.args.entry c.requires.next c.requires.can.hand
 
 pub move_watch-requires-clause-next : goal.move_watch-requires-clause-next
-move_watch-requires-clause-next c =
+move_watch-requires-clause-next g c =
     let cursor = c.args.cursor.now in
     let e = entry_at cursor.entries cursor.visited c.args.entry c.requires.next in
     (e.0, slot_is cursor.entries cursor.visited c.args.entry e.0 ∙ ap (λ x. x.slot) (sym e.1) ∙ sym c.slot.ensures.value)
 
 pub move_watch-requires-clause-exchange : goal.move_watch-requires-clause-exchange
-move_watch-requires-clause-exchange c =
-    let w = next_entry c.args.cursor.now c.args.entry c.requires.next c.requires.hand in
+move_watch-requires-clause-exchange g c =
+    let w = next_entry c.args.cursor.now c.args.entry c.requires.next c.requires.can.hand in
     record { clause = w.clause; at = ap (maps.get c.args.store.now.live) c.slot.ensures.value ∙ w.at; different = c.in-Moves.ensures.unrepeated w.clause w.at; apart = watched_apart w.clause c.args.l w.watched; exchange = (c.in-Moves.ensures.visit w.clause w.at).0 }
 
 pub returns-in_ok-move_watch-in-Moves-clause-visited : goal.returns-in_ok-move_watch-in-Moves-clause-visited
-returns-in_ok-move_watch-in-Moves-clause-visited c held reason_of same =
-    let w = next_entry c.args.cursor.now c.args.entry c.requires.next c.requires.hand in
+returns-in_ok-move_watch-in-Moves-clause-visited g c held reason_of same =
+    let w = next_entry c.args.cursor.now c.args.entry c.requires.next c.requires.can.hand in
     c.move_watch.ensures.visited held reason_of (subst (λ t. has t.lits (complement c.in-Moves.exchange.next) ≡ false) (sym same) (c.in-Moves.ensures.visit w.clause w.at).1)
 
 pub returns-in_err-move_watch-in-Moves-clause-visited : goal.returns-in_err-move_watch-in-Moves-clause-visited
-returns-in_err-move_watch-in-Moves-clause-visited c held reason_of same =
-    let w = next_entry c.args.cursor.now c.args.entry c.requires.next c.requires.hand in
+returns-in_err-move_watch-in-Moves-clause-visited g c held reason_of same =
+    let w = next_entry c.args.cursor.now c.args.entry c.requires.next c.requires.can.hand in
     c.move_watch.ensures.visited held reason_of (subst (λ t. has t.lits (complement c.in-Moves.exchange.next) ≡ false) (sym same) (c.in-Moves.ensures.visit w.clause w.at).1)
 
 pub returns-in_ok-move_watch-in-Moves-clause-met : goal.returns-in_ok-move_watch-in-Moves-clause-met
-returns-in_ok-move_watch-in-Moves-clause-met c =
+returns-in_ok-move_watch-in-Moves-clause-met g c =
     let cursor = c.args.cursor.now in
     let live = c.args.store.now.live in
     let e = entry_at cursor.entries cursor.visited c.args.entry c.requires.next in
-    let trues = c.args.trail.now.lits in
-    taken_met live c.move_watch.new.store.live c.args.l trues trues (λ l h. h) cursor c.move_watch.new.cursor c.slot.result e.0 c.requires.met c.move_watch.ensures.others
+    let trues = (g.A.Assignment.trail_of c.args.assignment.now).lits in
+    taken_met live c.move_watch.new.store.live c.args.l trues trues (λ l h. h) cursor c.move_watch.new.cursor c.slot.result e.0 c.requires.can.met c.move_watch.ensures.others
     c.in_ok-move_watch-in-Moves.ensures.taken
-    (λ s there same. front_apart (maps.get live) (list_at c.args.lists.now) c.args.l cursor.entries c.requires.hand.listed cursor.visited s c.args.entry e.0 there (same ∙ c.slot.ensures.value ∙ ap (λ x. x.slot) e.1))
+    (λ s there same. front_apart (maps.get live) (list_at c.args.lists.now) c.args.l cursor.entries c.requires.can.hand.listed cursor.visited s c.args.entry e.0 there (same ∙ c.slot.ensures.value ∙ ap (λ x. x.slot) e.1))
 
 pub returns-in_ok-move_watch-in-Moves-clause-fewer : goal.returns-in_ok-move_watch-in-Moves-clause-fewer
-returns-in_ok-move_watch-in-Moves-clause-fewer c =
+returns-in_ok-move_watch-in-Moves-clause-fewer g c =
     let cursor = c.args.cursor.now in
     let e = entry_at cursor.entries cursor.visited c.args.entry c.requires.next in
     taken_fewer cursor c.move_watch.new.cursor e.0 c.in_ok-move_watch-in-Moves.ensures.taken
 
 pub keep-requires : goal.keep-requires
-keep-requires c = let cursor = c.args.cursor.now in (entry_at cursor.entries cursor.visited c.args.entry c.requires.next).0
+keep-requires g c = let cursor = c.args.cursor.now in (entry_at cursor.entries cursor.visited c.args.entry c.requires.next).0
 
 pub returns-in-Stays : goal.returns-in-Stays
-returns-in-Stays c =
+returns-in-Stays g c =
     let live = maps.get c.args.store.now.live in
     let cursor = c.args.cursor.now in
     let list = cursor.entries in
     let e = c.args.entry in
     let r = entry_at list cursor.visited e c.requires.next in
-    let w = next_entry cursor e c.requires.next c.requires.hand in
+    let w = next_entry cursor e c.requires.next c.requires.can.hand in
     let other = c.in-Stays.blocking in
     let entry : Watcher = record { slot = e.slot; blocking = other; is_binary = e.is_binary } in
     let entries = c.keep.ensures.entries ∙ ap (set list cursor.visited) c.with_blocking.ensures in
-    let trues = c.args.trail.now.lits in
+    let trues = (g.A.Assignment.trail_of c.args.assignment.now).lits in
     let stays = c.in-Stays.ensures.visit w.clause w.at in
-    let fitting = kept_fits trues c.in-Stays.ensures.different w.clause c.args.l e.blocking other e.is_binary w.fitting c.requires.is_false stays.0 stays.1 in
-    let hand = c.requires.hand in record {
+    let fitting = kept_fits trues c.in-Stays.ensures.different w.clause c.args.l e.blocking other e.is_binary w.fitting c.requires.can.is_false stays.0 stays.1 in
+    let hand = c.requires.can.hand in record {
       visited = λ held reason_of _. record {
         hand = subst (λ xs. IsInHand c.args.store.now.live c.args.lists.now xs c.args.l) (sym entries) (record {
           known = hand.known;
@@ -85,7 +87,7 @@ returns-in-Stays c =
         entries = ap (λ xs. entries_in c.args.lists.now + length xs) entries ∙ ap (λ n. entries_in c.args.lists.now + n) (length-set list cursor.visited entry);
         propagates = propagates_none c.args.store.now.live held reason_of;
       };
-      met = kept_met c.args.store.now.live c.args.store.now.live c.args.l trues trues (λ l h. h) cursor c.keep.new.self e.slot r.0 c.requires.met (λ s ne. refl)
+      met = kept_met c.args.store.now.live c.args.store.now.live c.args.l trues trues (λ l h. h) cursor c.keep.new.self e.slot r.0 c.requires.can.met (λ s ne. refl)
           entry refl entries c.keep.ensures.visited
           (λ x there _. (other, ap (λ y. has y other) (same_Some x w.clause (sym there ∙ w.at)) ∙ stays.0, stays.1));
       found = tt;
@@ -95,13 +97,13 @@ returns-in-Stays c =
     }
 
 pub returns-in-Unit-clause-visited : goal.returns-in-Unit-clause-visited
-returns-in-Unit-clause-visited c held reason_of _ = visited_none held reason_of c.requires.hand
+returns-in-Unit-clause-visited g c held reason_of _ = visited_none held reason_of c.requires.can.hand
 
 pub returns-in-Clash-clause-visited : goal.returns-in-Clash-clause-visited
-returns-in-Clash-clause-visited c held reason_of _ = visited_none held reason_of c.requires.hand
+returns-in-Clash-clause-visited g c held reason_of _ = visited_none held reason_of c.requires.can.hand
 
 pub returns-in-Unit-clause-found : goal.returns-in-Unit-clause-found
-returns-in-Unit-clause-found c = found_at c.requires.next c.requires.hand c.in-Unit.ensures.visit
+returns-in-Unit-clause-found g c = found_at c.requires.next c.requires.can.hand c.in-Unit.ensures.visit
 
 pub returns-in-Clash-clause-found : goal.returns-in-Clash-clause-found
-returns-in-Clash-clause-found c = found_at c.requires.next c.requires.hand c.in-Clash.ensures.visit
+returns-in-Clash-clause-found g c = found_at c.requires.next c.requires.can.hand c.in-Clash.ensures.visit

@@ -1,13 +1,13 @@
-use Rattle.std.proofs.Common.{◌≤◌, ◌&&◌, cond, eqb, Some, IfNone, length, refl, sym, ap, ◌∙◌, ◌+◌}
+use Rattle.std.proofs.Common.{◌&&◌, cond, eqb, Some, length, refl, sym, ap, ◌∙◌, ◌+◌}
 use Rattle.std.proofs.Common.{subst, arith}
 use Rattle.std.specs.FinMap as maps
 use Rattle.std.proofs.lemmas.Option.{same_Some}
 use Rattle.tables.specs.Filled.{at}
-use Rattle.cnf_base.specs.Literals.{complement, has}
+use Rattle.cnf_base.specs.Literals.{has}
 use Rattle.watch_lists.specs.Lists.{entries_in, list_at}
 use Rattle.root_literals.specs.Order.{each_in_order}
 use Rattle.root_literals.specs.Roots.{IsFalseAt}
-use Rattle.watch.specs.Code.Visits.{AreMet, IsInHand}
+use Rattle.watch.specs.Code.Visits.{AreMet, CanLook, IsFoundAfter, IsInHand}
 use Rattle.watch.proofs.WatchLemmas.Cursor.{kept_fewer, kept_met, put_same}
 use Rattle.watch.proofs.WatchLemmas.Follow.{all_met, none_before}
 use Rattle.root_literals.proofs.RootLemmas.Propagated.{clashes, propagates_unit}
@@ -25,15 +25,12 @@ loop-at-init c = record {
   slots = refl;
 }
 
-pub next_found-requires-clause-hand : goal.next_found-requires-clause-hand
-next_found-requires-clause-hand c = c.loop-at.invariant.visited.hand
-
-pub next_found-requires-clause-is_false : goal.next_found-requires-clause-is_false
-next_found-requires-clause-is_false c =
-    ap (λ t. has t.lits (complement c.args.l)) c.trail.ensures ∙ (can_visit_on c.requires.can c.loop-at.invariant.visited).is_false
-
-pub next_found-requires-clause-met : goal.next_found-requires-clause-met
-next_found-requires-clause-met c = subst (λ t. AreMet c.loop-at.store.live c.loop-at.cursor c.args.l t.lits) (sym c.trail.ensures) c.loop-at.invariant.met
+pub next_found-requires : goal.next_found-requires
+next_found-requires c =
+    let visited = c.loop-at.invariant.visited in
+    let can = can_visit_on c.requires.can visited in
+    subst (λ t. CanLook c.loop-at.store.live c.loop-at.lists c.loop-at.cursor t c.args.l) (sym c.trail.ensures)
+    (record { room = can.can_set.room; hand = visited.hand; is_false = can.is_false; met = c.loop-at.invariant.met })
 
 pub returns-in_err-at-clause-visited : goal.returns-in_err-at-clause-visited
 returns-in_err-at-clause-visited c = visited_on c.loop-at.invariant.visited (c.next_found.ensures.visited c.loop-at.assumptions (at c.loop-at.reasons) (sym c.trail.ensures))
@@ -112,6 +109,6 @@ returns-clause-met c =
     let now = c.next_found.new in
     let trues = before.assumptions.trail.lits in
     let visited = c.next_found.ensures.visited before.assumptions (at before.reasons) (sym c.trail.ensures) in
-    let end = subst (λ o. IfNone o (length now.cursor.entries ≤ now.cursor.visited)) c.in_default.is c.in_ok-at.ensures.end in
+    let end = subst (IsFoundAfter now.store.live now.cursor c.trail.result.now.lits) c.in_default.is c.in_ok-at.ensures.found in
     let met = subst (λ t. AreMet now.store.live now.cursor c.args.l t.lits) c.trail.ensures c.in_ok-at.ensures.met in
     all_met (maps.get now.store.live) (list_at now.lists) c.args.l now.cursor.entries visited.hand.listed trues now.cursor.visited end met

@@ -1,33 +1,30 @@
--- One more literal.
-use Rattle.std.proofs.Common.{◌≡◌, ℕ, ◌<◌, length, Some, cond, eqb, set, slice_get, ap, ◌∙◌, arith}
-use Rattle.std.proofs.lemmas.List.{length-set}
+use Rattle.std.proofs.Common.{Some, slice_get, ◌∙◌, arith}
 use Rattle.cnf_base.specs.Literals.{complement}
-use Rattle.tables.proofs.FilledLemmas.{set_get, written_more}
+use Rattle.cnf_base.proofs.WalkLemmas.{is_in}
+use Rattle.tables.proofs.FilledLemmas.{near_key, written_more}
 use Rattle.tables.proofs.filled.Filled.set_near.Goals as goal
+
+pub write_both-requires-clause-first : goal.write_both-requires-clause-first
+write_both-requires-clause-first g c =
+    let x = c.l-item.result in
+    let room = c.requires.room x (is_in c.args.lits.now c.loop-l.l-index c.loop-l-test.true x c.l-item.is) in
+    let inside = near_key c.args.self.now c.requires.none_far x room.0 in
+    omega (arith, inside, c.index.ensures.value, c.loop-l.invariant.long)
+
+pub write_both-requires-clause-second : goal.write_both-requires-clause-second
+write_both-requires-clause-second g c =
+    let x = c.l-item.result in
+    let room = c.requires.room x (is_in c.args.lits.now c.loop-l.l-index c.loop-l-test.true x c.l-item.is) in
+    let inside = near_key c.args.self.now c.requires.none_far (complement x) room.1 in
+    omega (arith, inside, c.index-in-loop-l.ensures.value ∙ c.neg.ensures, c.loop-l.invariant.long)
 
 pub loop-l-preserved : goal.loop-l-preserved
 loop-l-preserved g c =
-    let x = c.l-item.result in
-    let value = c.args.value in
-    let near = c.loop-l.near in
-    let i = c.index-first.result in
-    let j = c.index-second.result in
-    let first = set near i value in
-    let was = slice_get c.args.self.now.near.items in
-    let inside : j < length first =
-    omega (arith, length-set near i value, c.if-second-near.false) in
-    let step : (k : ℕ) → slice_get (set first j value) k
-    ≡ cond (eqb k (complement x)) (Some value)
-    (cond (eqb k x) (Some value) (slice_get near k)) = λ k. set_get first j value inside k
-    ∙ ap (λ n. cond (eqb k n) (Some value) (slice_get first k))
-    (c.index-second.ensures.value ∙ c.neg.ensures)
-    ∙ ap (λ o. cond (eqb k (complement x)) (Some value) o)
-    (set_get near i value c.if-first-near.false k
-    ∙ ap (λ n. cond (eqb k n) (Some value) (slice_get near k)) c.index-first.ensures.value) in
+    let step = rw (c.index.ensures.value, c.index-in-loop-l.ensures.value, c.neg.ensures) at c.write_both.ensures.values in
     record {
-      done = omega (arith, c.loop-l.invariant.done);
-      long = length-set first j value ∙ length-set near i value ∙ c.loop-l.invariant.long;
-      written = written_more (Some value)
-          c.args.lits.now c.loop-l.l-index c.loop-l-test.true x c.l-item.is was (slice_get near)
-          (slice_get (set first j value)) c.loop-l.invariant.written step;
+      long = c.write_both.ensures.len ∙ c.loop-l.invariant.long;
+      written = written_more (Some c.args.value)
+          c.args.lits.now c.loop-l.l-index c.loop-l-test.true c.l-item.result c.l-item.is
+          (slice_get c.args.self.now.near.items) (slice_get c.loop-l.near)
+          (slice_get c.write_both.new.near) c.loop-l.invariant.written step;
     }

@@ -1,7 +1,7 @@
 use Rattle.std.proofs.Common.{◌≤◌, take}
 use Rattle.theory.specs.Propagation.{open_literals}
 use Rattle.trail.specs.Code.Left.{IsCount}
-use Rattle.trail.proofs.trail.Trail.open_near.Given as goal
+use Rattle.trail.proofs.dense.Dense.count_open.Given as goal
 
 abbrev pub invariant-loop-l : goal.invariant-loop-l
 invariant-loop-l l = record {
