@@ -34,8 +34,7 @@ static std::FILE *open_to_write(const char *name) {
 static u64 mix(u64 literal) {
     u64 x = literal * 11400714819323198485u;
     u64 y = (x ^ (x >> 30)) * 13787848793156543929u;
-    u64 z = (y ^ (y >> 27)) * 10723151780598845931u;
-    return z ^ (z >> 31);
+    return (y ^ (y >> 27)) * 10723151780598845931u;
 }
 
 // A sum, and the two entries of the lists below that it is of.

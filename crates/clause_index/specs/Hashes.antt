@@ -3,14 +3,13 @@ use Rattle.std.specs.Prelude.{ℕ, ◌+◌, ◌*◌, ◌/◌, ◌%◌, ◌^◌, 
 use Rattle.cnf_base.specs.Literals.{Literal, Clause, has}
 
 -- a literal spread over the words, by a seed that is added to its product with an odd word, modulo
--- 2^64: then in turn an exclusive or with its own high bits and a product, so that sums of few
--- literals differ
+-- 2^64: then twice an exclusive or with its own high bits and a product, so that sums of few literals
+-- differ in their upper halves
 unfoldable pub mix : ℕ → Literal → ℕ
 mix seed l =
     let x = ((l * 11400714819323198485) % 2 ^ 64 + seed) % 2 ^ 64 in
     let y = (bit_xor x (x / 2 ^ 30) * 13787848793156543929) % 2 ^ 64 in
-    let z = (bit_xor y (y / 2 ^ 27) * 10723151780598845931) % 2 ^ 64 in
-    bit_xor z (z / 2 ^ 31)
+    (bit_xor y (y / 2 ^ 27) * 10723151780598845931) % 2 ^ 64
 
 -- the sum of the mixed literals that are different
 abbrev pub sum_mixed : ℕ → Clause → ℕ

@@ -24,8 +24,7 @@ pub fn mixed(seed: u64, l: Lit) -> u64
         .wrapping_mul(11400714819323198485)
         .wrapping_add(seed);
     let y = (x ^ (x / 1073741824)).wrapping_mul(13787848793156543929);
-    let z = (y ^ (y / 134217728)).wrapping_mul(10723151780598845931);
-    z ^ (z / 2147483648)
+    (y ^ (y / 134217728)).wrapping_mul(10723151780598845931)
 }
 
 /// The upper half of a sum of mixed literals, which is the hash of the clause that they are of.

@@ -38,13 +38,14 @@ fn word(number: usize) -> Lit
     }
 }
 
-/// The number that a word is.
+/// The number that a word is. It is taken in 32 bits, so that the compiler doesn't carry the
+/// subtraction into the loops over a clause.
 #[inline(always)]
 fn number(word: Lit) -> usize
     ensures value { result ≡ word - 2 }
     ensures range { result ≤ 536870909 }
 {
-    word.index() - 2
+    (word.index() as u32).wrapping_sub(2) as usize
 }
 
 /// How many cells a block for so many literals has.

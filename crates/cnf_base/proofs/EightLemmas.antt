@@ -189,64 +189,72 @@ count_is bs are word is = cc (by_eight P at bs are.size are.each)
         let bs : List ℕ = a ∷ b ∷ c ∷ d ∷ e ∷ f ∷ g ∷ h ∷ [] in
         cc (marks_at a b c d e f g h each, marks_right bs each, lowest bs)
 
+-- the words of value_of
+abbrev pub pairs_of : ℕ → ℕ
+pairs_of word = bit_and ((word * 2561) % 2 ^ 64 / 2 ^ 8) 71777214294589695
+
+abbrev pub fours_of : ℕ → ℕ
+fours_of pairs = bit_and ((pairs * 6553601) % 2 ^ 64 / 2 ^ 16) 281470681808895
+
+abbrev pub joined : ℕ → ℕ
+joined fours = (fours * 42949672960001) % 2 ^ 64 / 2 ^ 32
+
+-- of two halves of 32 bits the lower 16 of each
+halved : (x y z : ℕ) → x < 65536 → y < 65536 → z < 65536
+    → bit_and (x + 65536 * y + 4294967296 * z) 281470681808895 ≡ x + 4294967296 * z
+halved x y z low_x low_y low_z =
+    let both : bit_and (z * 2 ^ 32 + (x + 65536 * y)) (65535 * 2 ^ 32 + 65535)
+    ≡ bit_and z 65535 * 2 ^ 32 + bit_and (x + 65536 * y) 65535
+    = and_block 32 z 65535 (x + 65536 * y) 65535 (omega (arith, low_x, low_y)) (omega arith) in
+    let upper : bit_and z 65535 ≡ z % 65536 = and_mask z 16 in
+    let lower : bit_and (x + 65536 * y) 65535 ≡ (x + 65536 * y) % 65536 = and_mask (x + 65536 * y) 16
+    in grind arith
+
 -- eight digits from the number that has them
 module _ (a b c d e f g h : ℕ) (low : AreBelow 10 (a ∷ b ∷ c ∷ d ∷ e ∷ f ∷ g ∷ h ∷ [])) (word : ℕ)
     (is : word ≡ packed (a ∷ b ∷ c ∷ d ∷ e ∷ f ∷ g ∷ h ∷ [])) where
   -- each digit with the one after it
   paired : List ℕ
-  paired = (10 * a + b) ∷ (10 * b + c) ∷ (10 * c + d) ∷ (10 * d + e) ∷ (10 * e + f) ∷ (10 * f + g) ∷ (10 * g + h) ∷ 10 * h ∷ []
+  paired = (10 * a + b) ∷ (10 * b + c) ∷ (10 * c + d) ∷ (10 * d + e) ∷ (10 * e + f) ∷ (10 * f + g) ∷ (10 * g + h) ∷ 0 ∷ []
 
-  pairs_is : ((word * 10) % 2 ^ 64 + word / 2 ^ 8) % 2 ^ 64 ≡ packed paired
+  paired_is : (word * 2561) % 2 ^ 64 / 2 ^ 8 ≡ packed paired
   unfolding paired
-  pairs_is = grind arith
+  paired_is = grind arith
 
   paired_low : AreBelow 256 paired
   unfolding paired
   paired_low = omega arith
 
--- of eight bytes the first and the fifth
-module _ (a b c d e f g h : ℕ) where
-  picked : AreBelow 256 (a ∷ b ∷ c ∷ d ∷ e ∷ f ∷ g ∷ h ∷ [])
-      → bit_and (packed (a ∷ b ∷ c ∷ d ∷ e ∷ f ∷ g ∷ h ∷ [])) 1095216660735 ≡ a + 4294967296 * e
-  picked low =
-      let bs : List ℕ = a ∷ b ∷ c ∷ d ∷ e ∷ f ∷ g ∷ h ∷ [] in
-      let mask : List ℕ = 255 ∷ 0 ∷ 0 ∷ 0 ∷ 255 ∷ 0 ∷ 0 ∷ 0 ∷ [] in
-      let low_mask : AreBelow 256 (255 ∷ 0 ∷ 0 ∷ 0 ∷ 255 ∷ 0 ∷ 0 ∷ 0 ∷ []) = omega arith in
-      let each : bit_and (packed bs) (packed mask) ≡ packed (zip2 bit_and bs mask) =
-      bytewise bit_and bytewise_and bs mask refl low low_mask in
-      let first : bit_and a 255 ≡ a % 256 = and_mask a 8 in
-      let fifth : bit_and e 255 ≡ e % 256 = and_mask e 8 in grind (arith, and_le_r)
-
--- the words of value_of
-abbrev pub pairs_of : ℕ → ℕ
-pairs_of word = ((word * 10) % 2 ^ 64 + word / 2 ^ 8) % 2 ^ 64
-
-abbrev pub joined : ℕ → ℕ
-joined pairs =
-    ((bit_and pairs 1095216660735 * 4294967296000100) % 2 ^ 64 + (bit_and (pairs / 2 ^ 16)
-    1095216660735 * 42949672960001) % 2 ^ 64) % 2 ^ 64 / 2 ^ 32
-
-module _ (a b c d e f g h : ℕ) (low : AreBelow 10 (a ∷ b ∷ c ∷ d ∷ e ∷ f ∷ g ∷ h ∷ [])) (word : ℕ)
-    (is : word ≡ packed (a ∷ b ∷ c ∷ d ∷ e ∷ f ∷ g ∷ h ∷ [])) where
-  outer_is : bit_and (pairs_of word) 1095216660735 ≡ 10 * a + b + 4294967296 * (10 * e + f)
+  pairs_is : pairs_of word ≡ 10 * a + b + 65536 * (10 * c + d) + 4294967296 * (10 * e + f) + 281474976710656 * (10 * g + h)
   unfolding paired
-  outer_is = cc (pairs_is a b c d e f g h low word is, picked _ _ _ _ _ _ _ _ (paired_low a b c d e f g h low word is))
+  pairs_is =
+      let mask : List ℕ = 255 ∷ 0 ∷ 255 ∷ 0 ∷ 255 ∷ 0 ∷ 255 ∷ 0 ∷ [] in
+      let low_mask : AreBelow 256 (255 ∷ 0 ∷ 255 ∷ 0 ∷ 255 ∷ 0 ∷ 255 ∷ 0 ∷ []) = omega arith in
+      let each : bit_and (packed paired) (packed mask) ≡ packed (zip2 bit_and paired mask) =
+      bytewise bit_and bytewise_and paired mask refl paired_low low_mask in
+      let first : bit_and (10 * a + b) 255 ≡ (10 * a + b) % 256 = and_mask (10 * a + b) 8 in
+      let third : bit_and (10 * c + d) 255 ≡ (10 * c + d) % 256 = and_mask (10 * c + d) 8 in
+      let fifth : bit_and (10 * e + f) 255 ≡ (10 * e + f) % 256 = and_mask (10 * e + f) 8 in
+      let seventh : bit_and (10 * g + h) 255 ≡ (10 * g + h) % 256 = and_mask (10 * g + h) 8 in
+      grind (arith, and_le_r, paired_is)
 
-  inner_is : bit_and (pairs_of word / 2 ^ 16) 1095216660735 ≡ 10 * c + d + 4294967296 * (10 * g + h)
-  unfolding paired
-  inner_is =
-      let low' = paired_low a b c d e f g h low word is in
-      grind (arith, picked (10 * c + d) (10 * d + e) (10 * e + f) (10 * f + g) (10 * g + h) (10 * h) 0 0 (low'.1.1.0, (low'.1.1.1.0, (low'.1.1.1.1.0, (low'.1.1.1.1.1.0, (low'.1.1.1.1.1.1.0, (low'.1.1.1.1.1.1.1.0, (omega arith, (omega arith, tt)))))))))
+  fours_is : fours_of (pairs_of word) ≡ 1000 * a + 100 * b + 10 * c + d + 4294967296 * (1000 * e + 100 * f + 10 * g + h)
+  fours_is =
+      let shifted : (pairs_of word * 6553601) % 2 ^ 64 / 2 ^ 16
+      ≡ 1000 * a + 100 * b + 10 * c + d + 65536 * (1000 * c + 100 * d + 10 * e + f)
+      + 4294967296 * (1000 * e + 100 * f + 10 * g + h)
+      = grind (arith, pairs_is) in
+      cc (shifted, halved (1000 * a + 100 * b + 10 * c + d) (1000 * c + 100 * d + 10 * e + f) (1000 * e + 100 * f + 10 * g + h) (omega (arith, low)) (omega (arith, low)) (omega (arith, low)))
 
-  value_at : joined (pairs_of word) ≡ decimal (a ∷ b ∷ c ∷ d ∷ e ∷ f ∷ g ∷ h ∷ [])
-  value_at = grind (arith, outer_is, inner_is)
+  value_at : joined (fours_of (pairs_of word)) ≡ decimal (a ∷ b ∷ c ∷ d ∷ e ∷ f ∷ g ∷ h ∷ [])
+  value_at = grind (arith, fours_is)
 
 pub value_is : (ds : List ℕ) → AreEight 10 ds → (word : ℕ) → word ≡ packed ds
-    → joined (pairs_of word) ≡ decimal ds
+    → joined (fours_of (pairs_of word)) ≡ decimal ds
 value_is ds are word is = by_eight P at ds are.size are.each is
   where
     P : List ℕ → Type 0
-    P xs = AreBelow 10 xs → word ≡ packed xs → joined (pairs_of word) ≡ decimal xs
+    P xs = AreBelow 10 xs → word ≡ packed xs → joined (fours_of (pairs_of word)) ≡ decimal xs
 
     at : (a b c d e f g h : ℕ) → P (a ∷ b ∷ c ∷ d ∷ e ∷ f ∷ g ∷ h ∷ [])
     at a b c d e f g h low is = value_at a b c d e f g h low word is

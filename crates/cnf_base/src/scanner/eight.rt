@@ -49,8 +49,7 @@ fn digit_count(word: u64) -> usize
 fn value_of(digits: u64) -> u64
     ensures { (ds : List ℕ) → AreEight 10 ds → digits ≡ packed ds → result ≡ decimal ds }
 {
-    let pairs = digits.wrapping_mul(10).wrapping_add(digits >> 8);
-    let outer = (pairs & 0x0000_00ff_0000_00ff).wrapping_mul(0x000f_4240_0000_0064);
-    let inner = ((pairs >> 16) & 0x0000_00ff_0000_00ff).wrapping_mul(0x0000_2710_0000_0001);
-    outer.wrapping_add(inner) >> 32
+    let pairs = (digits.wrapping_mul(2561) >> 8) & 0x00ff_00ff_00ff_00ff;
+    let fours = (pairs.wrapping_mul(6_553_601) >> 16) & 0x0000_ffff_0000_ffff;
+    fours.wrapping_mul(42_949_672_960_001) >> 32
 }
