@@ -1,7 +1,6 @@
-//! Tests of the calls below the engines: readers, propagation, sessions, and what clauses and their
-//! identifiers are kept in.
+//! Tests of propagation and sessions, call by call.
 //!
-//! They are a crate of their own, so that the gate proves two crates of tests side by side. One of
+//! The tests below the engines are three crates, so that the gate proves them side by side. One of
 //! all tests would be its last task and the longest.
 #![tactic(auto)]
 

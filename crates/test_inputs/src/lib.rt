@@ -1,9 +1,11 @@
-//! What tests read from and write to: readers and a writer in memory, and long inputs.
+//! What tests read from and write to: readers and a writer in memory,
+//! long inputs, and literals.
 #![tactic(auto)]
 
 mod characters;
 mod cut;
 mod long;
+mod numbers;
 mod pieces;
 mod stop;
 mod writer;
@@ -11,6 +13,7 @@ mod writer;
 pub use characters::text;
 pub use cut::Cut;
 pub use long::{MANY, repeated};
+pub use numbers::{literal, literals};
 pub use pieces::{Bytes, Pieces, SIZES, open};
 pub use stop::Stop;
 pub use writer::Writer;

@@ -5,13 +5,13 @@ ghost use Rattle.propagation.specs.Assumptions.{LastIsAnswered};
 ghost use Rattle.propagation.specs.declared.answer.Answer.TheVariants.{Quiet};
 
 use crate::tests::asserts::{expect_equal, expect_true};
-use crate::tests::literals::literals;
 use crate::tests::propagate::fresh::Fresh;
 use cnf_base::{Lit, OutOfMemory};
 use propagation::{Answer, Propagate, Scan, Value};
 use std::alloc::Global;
 use std::process::Abort;
 use std::test::Fail;
+use test_inputs::literals;
 use trail::LiteralSet;
 use watch::Watch;
 

@@ -1,7 +1,6 @@
 //! Tests of what both propagations look up: the same of each.
 
 use crate::tests::asserts::{expect_equal, expect_true};
-use crate::tests::literals::literals;
 use crate::tests::propagate::calls::{UNIT_AND_BOTH, fill};
 use crate::tests::propagate::fresh::Fresh;
 use clause_db::Slot;
@@ -10,6 +9,7 @@ use propagation::{Answer, Propagate, Scan, Value};
 use std::alloc::Global;
 use std::process::Abort;
 use std::test::Fail;
+use test_inputs::literals;
 use watch::Watch;
 
 /// How many clauses the literals touch, and whether the first of them is this row; where the row is

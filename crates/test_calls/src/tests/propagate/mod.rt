@@ -1,8 +1,7 @@
-//! Propagation, call by call: the same of both, and the trail below them.
+//! Propagation, call by call: the same of both.
 
 mod calls;
 mod fresh;
 mod lookups;
 mod roots;
 mod sequences;
-mod trails;

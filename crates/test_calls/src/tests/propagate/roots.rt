@@ -3,11 +3,11 @@
 ghost use Rattle.std.specs.Prelude.{◌≡◌, [], OnOk};
 
 use crate::tests::asserts::{expect_equal, expect_true};
-use crate::tests::literals::literals;
 use crate::tests::propagate::calls::fill;
 use crate::tests::propagate::fresh::{Known, Watching};
 use std::alloc::Global;
 use std::test::Fail;
+use test_inputs::literals;
 use watch::Watch;
 
 /// Takes the clause out, if it is there, where nothing is assumed.

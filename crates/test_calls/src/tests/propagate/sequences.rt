@@ -6,13 +6,13 @@ ghost use Rattle.propagation.specs.Assumptions.{LastIsAnswered};
 ghost use Rattle.propagation.specs.declared.answer.Answer.TheVariants.{Quiet};
 
 use crate::tests::asserts::{expect_equal, expect_true};
-use crate::tests::literals::literals;
 use crate::tests::propagate::calls::fill;
 use crate::tests::propagate::fresh::{Fresh, Watching};
 use cnf_base::Lit;
 use propagation::{Answer, Propagate, Scan, Value};
 use std::alloc::Global;
 use std::test::Fail;
+use test_inputs::literals;
 use watch::Watch;
 
 /// Numbers that look as if thrown.

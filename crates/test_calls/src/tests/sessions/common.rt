@@ -3,12 +3,12 @@
 ghost use Rattle.std.specs.Prelude.{◌≡◌, ◌≤◌, false};
 
 use crate::tests::asserts::{expect_equal, expect_true};
-use crate::tests::literals::literals;
 use proofs::{StepBuf, StepReader};
 use std::alloc::Global;
 use std::process::Abort;
 use std::test::Fail;
 use steps::{Accepted, ProofSession, Refusal};
+use test_inputs::literals;
 
 // What a session answers to a step, and after it the greatest sum of sizes, how many literals are
 // kept, and whether it has verified.

@@ -1,6 +1,6 @@
 //! The reader of binary DRAT.
 
-use crate::tests::readers::forms::{Form, Step, add, delete, expect_proof};
+use crate::tests::forms::{Form, Step, add, delete, expect_proof};
 use cnf_base::{BinaryFault, Fault};
 use std::alloc::{AllocError, Global};
 use std::process::Abort;

@@ -1,8 +1,10 @@
-//! What clauses and their identifiers are kept in, call by call.
+//! The tests, and what they share.
 
+mod asserts;
 mod clauses;
 mod filled;
 mod identifiers;
 mod lists;
 mod memories;
 mod table;
+mod trails;

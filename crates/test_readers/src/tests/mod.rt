@@ -1,5 +1,6 @@
-//! The calls that read, and the literals and lines that they and the tools are made of.
+//! The tests, and what they share.
 
+mod asserts;
 mod below;
 mod bytes_and_lines;
 mod claims;

@@ -1,6 +1,6 @@
 //! The reader of DRAT as text.
 
-use crate::tests::readers::forms::{Form, Step, add, delete, expect_proof};
+use crate::tests::forms::{Form, Step, add, delete, expect_proof};
 use cnf_base::{Fault, Place, TextFault};
 use std::alloc::Global;
 use std::process::Abort;

@@ -1,6 +1,6 @@
 //! The reader of LRAT as text.
 
-use crate::tests::readers::forms::{Form, Step, expect_proof};
+use crate::tests::forms::{Form, Step, expect_proof};
 use cnf_base::{Fault, Place, TextFault};
 use proofs::StepKind;
 use std::test::Fail;

@@ -1,7 +1,7 @@
 //! The reader of formulas, clause by clause.
 
 use crate::tests::asserts::{expect_equal, expect_true, fail_at};
-use crate::tests::readers::forms::numbers;
+use crate::tests::forms::numbers;
 use cnf_base::{Fault, FromRead, OutOfMemory, Place, TextFault};
 use dimacs::{ClauseBuf, FormulaReader, Header};
 use std::alloc::Global;

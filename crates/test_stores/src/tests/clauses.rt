@@ -1,12 +1,12 @@
 //! The store of clauses, and its slots.
 
 use crate::tests::asserts::{expect_equal, expect_true, expect_true_at};
-use crate::tests::literals::{literal, literals};
 use clause_db::{Blocks, Memory, NoIndex, Slot, Slots, Store};
 use cnf_base::{Lit, OutOfMemory};
 use std::alloc::Global;
 use std::process::Abort;
 use std::test::Fail;
+use test_inputs::{literal, literals};
 
 /// A call, and what it has to answer.
 #[derive(Clone, Copy, Debug, PartialEq, Eq)]

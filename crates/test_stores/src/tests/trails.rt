@@ -1,9 +1,9 @@
 //! Tests of the trail.
 
 use crate::tests::asserts::{expect_equal, expect_equal_at, expect_true};
-use crate::tests::literals::literal;
 use cnf_base::{Lit, OutOfMemory};
 use std::test::Fail;
+use test_inputs::literal;
 use trail::{Except, Left, Part, Trail, Value, Whole, first_non_false_under, left_of};
 
 /// Makes room for the literal's variable, and sets it where it is open.

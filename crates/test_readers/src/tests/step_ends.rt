@@ -1,6 +1,6 @@
 //! Where each step ends that a reader gives.
 
-use crate::tests::readers::forms::{Form, expect_step_ends};
+use crate::tests::forms::{Form, expect_step_ends};
 use cnf_base::Place;
 use proofs::StepEnd;
 use std::test::Fail;

@@ -1,11 +1,11 @@
 //! The memories of clauses.
 
 use crate::tests::asserts::{expect_equal, expect_true};
-use crate::tests::literals::literal;
 use clause_db::{Blocks, Memory, Slots};
 use cnf_base::Lit;
 use std::process::Abort;
 use std::test::Fail;
+use test_inputs::literal;
 
 /// Takes the clause out of the slot, if there is one, and tells how long it was.
 fn take_out<M: Memory>(memory: &mut M, slot: usize) -> Option<usize> {
