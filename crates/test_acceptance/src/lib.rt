@@ -7,8 +7,6 @@
 #![tactic(auto)]
 
 #[cfg(test)]
-mod command_lines;
-#[cfg(test)]
 mod drat;
 #[cfg(test)]
 mod formula;
@@ -16,9 +14,5 @@ mod formula;
 mod lrat;
 #[cfg(test)]
 mod model;
-#[cfg(test)]
-mod programs;
-#[cfg(test)]
-mod refused_steps;
 #[cfg(test)]
 mod support;

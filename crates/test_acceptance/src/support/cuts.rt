@@ -2,11 +2,11 @@
 
 use crate::support::asserts::expect_true_at;
 use crate::support::reports::expect;
-use crate::support::rows::Row;
 use std::alloc::Global;
 use std::process::Abort;
 use std::test::Fail;
 use test_inputs::Cut;
+use test_rows::Row;
 
 // A run, of which one input is cut.
 #[derive(Clone, Copy)]

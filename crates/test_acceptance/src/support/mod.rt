@@ -2,29 +2,22 @@
 
 mod asserts;
 mod cuts;
-mod engines;
-mod examples;
 mod reading;
 mod reports;
 mod room;
-mod rows;
 
 pub use asserts::{expect_equal, expect_true, expect_true_at};
 pub use cuts::{
     Cuts, Cutting, E_SHOWN, Expected, HEADER, UNREAD_AFTER_ONE, UNREAD_FORMULA, UNREAD_PROOF,
     expect_cuts,
 };
-pub use engines::Engine;
-pub use examples::{
-    E, E_BINARY, E_BY_BINARY, E_BY_BINARY_TRACED, E_BY_DRAT, E_BY_DRAT_TRACED, E_BY_LRAT,
-    E_BY_LRAT_TRACED, E_DRAT, E_LINE, E_PROOF, EMPTY_CLAUSE, G, MODELS, MODELS_MET, MODELS_OUTPUT,
-    OUT_OF_RANGE,
-};
 pub use reading::expect_one_piece_further;
 pub use reports::{expect, expect_after, expect_all, expect_read, expect_unread};
 pub use room::{expect_any_room, expect_ten_bytes};
-pub use rows::{
-    BY_BINARY_DRAT, BY_DRAT, BY_OTHER_RULES, DRAT, DRAT_KEEP_UNITS_PR, DRAT_STRICT, DRAT_TRACED,
-    LRAT, LRAT_TRACED, MODEL, Request, Row,
-};
 pub use test_inputs::{Cut, MANY, Pieces, SIZES, Stop, Writer, repeated};
+pub use test_rows::{
+    BY_DRAT, BY_OTHER_RULES, DRAT, DRAT_KEEP_UNITS_PR, DRAT_STRICT, DRAT_TRACED, E, E_BINARY,
+    E_BY_BINARY, E_BY_BINARY_TRACED, E_BY_DRAT, E_BY_DRAT_TRACED, E_BY_LRAT, E_BY_LRAT_TRACED,
+    E_DRAT, E_LINE, E_PROOF, EMPTY_CLAUSE, Engine, G, LRAT, LRAT_TRACED, MODEL, MODELS, MODELS_MET,
+    MODELS_OUTPUT, OUT_OF_RANGE, Request, Row,
+};

@@ -1,11 +1,11 @@
 //! How much is read of a second input.
 
 use crate::support::asserts::{expect_equal, expect_true_at};
-use crate::support::rows::Row;
 use std::alloc::Global;
 use std::process::Abort;
 use std::test::Fail;
 use test_inputs::{MANY, Pieces, Stop, Writer, repeated};
+use test_rows::Row;
 
 // After the second input come 400000 bytes more, which makes so many. They are handed out in pieces
 // as large as one likes. No more than one piece is read past the step that decides: at least so

@@ -1,13 +1,12 @@
 //! Rows are run, and what comes out is compared.
 
 use crate::support::asserts::expect_equal_at;
-use crate::support::engines::Engine;
-use crate::support::rows::Row;
 use std::alloc::{AllocError, Global};
 use std::fmt::Debug;
 use std::process::Abort;
 use std::test::Fail;
 use test_inputs::{Pieces, SIZES, Stop, Writer, text};
+use test_rows::{Engine, Row};
 
 // What was written, and the status. The first value tells where a failure is.
 pub fn expect_outcome<N: Copy + Debug>(

@@ -1,13 +1,12 @@
 //! Rows are run with writers that have room for a beginning of the report.
 
 use crate::support::asserts::expect_equal;
-use crate::support::engines::Engine;
 use crate::support::reports::expect_outcome;
-use crate::support::rows::Row;
 use std::alloc::{AllocError, Global};
 use std::process::Abort;
 use std::test::Fail;
 use test_inputs::{Pieces, Stop, Writer};
+use test_rows::{Engine, Row};
 
 fn run(alloc: Global, engine: Engine, row: &Row<'_>, writer: Writer) -> (u8, Vec<u8>) {
     let mut formula = Pieces::new(row.formula, 4096, row.formula_cut);

@@ -1,6 +1,6 @@
 //! Command lines: what each one asks for, or that it is refused.
 
-use crate::support::{expect_equal, expect_true, expect_true_at};
+use crate::asserts::{expect_equal, expect_true, expect_true_at};
 use sat_check::{Args, ArgsFault, Tool, read_args};
 use std::alloc::Global;
 use std::process::Abort;

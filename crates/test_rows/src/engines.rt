@@ -1,6 +1,6 @@
 //! What carries out a row.
 
-use crate::support::rows::Request;
+use crate::rows::Request;
 use cnf_base::{FromRead, In};
 use propagation::Scan;
 use sat_check::{DratOptions, LratOptions, Status, run_drat, run_drat_with, run_lrat, run_model};
@@ -9,7 +9,7 @@ use test_inputs::{Pieces, Writer};
 use watch::Watch;
 use writers::{Out, ToWrite};
 
-// How a check of DRAT propagates.
+/// How a check of DRAT propagates.
 #[derive(Clone, Copy, Debug, PartialEq, Eq)]
 pub enum Propagation {
     // The one that the program picks.
@@ -21,7 +21,7 @@ pub enum Propagation {
 // Each row of DRAT is run with each of these.
 const PROPAGATIONS: [Propagation; 3] = [Propagation::Picked, Propagation::Scan, Propagation::Watch];
 
-// What a run is asked and, for DRAT, how it propagates.
+/// What a run is asked and, for DRAT, how it propagates.
 #[derive(Clone, Copy, Debug, PartialEq, Eq)]
 pub enum Engine {
     Lrat(LratOptions),
@@ -30,7 +30,7 @@ pub enum Engine {
 }
 
 impl Request {
-    // What carries this out: for DRAT, one engine for each propagation.
+    /// What carries this out: for DRAT, one engine for each propagation.
     pub fn engines(self, alloc: Global) -> Result<Vec<Engine>, AllocError> {
         let mut all = Vec::new(alloc);
         match self {
@@ -68,7 +68,7 @@ fn check_drat<F: In, P: In, O: Out>(
 }
 
 impl Engine {
-    // The status, and what was written.
+    /// The status, and what was written.
     pub fn run(
         self,
         alloc: Global,

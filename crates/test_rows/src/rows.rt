@@ -4,7 +4,7 @@ use sat_check::{DratOptions, LratOptions};
 use std::alloc::{AllocError, Global};
 use test_inputs::Cut;
 
-// What is asked of a run: by which tool, and with which options.
+/// What is asked of a run: by which tool, and with which options.
 #[derive(Clone, Copy, Debug, PartialEq, Eq)]
 pub enum Request {
     Lrat(LratOptions),
@@ -18,11 +18,11 @@ pub struct Row<'a> {
     pub request: Request,
     pub formula: &'a str,
     pub formula_cut: Cut,
-    // A proof, or a solver's output.
+    /// A proof, or a solver's output.
     pub second: &'a [u8],
     pub second_cut: Cut,
-    // The report but for its last line, which the status decides. The last line feed is left out
-    // too.
+    /// The report but for its last line, which the status decides. The last line feed is left out
+    /// too.
     pub lines: &'a str,
     pub status: u8,
 }
@@ -38,7 +38,7 @@ impl Row<'_> {
         }
     }
 
-    // What has to be written.
+    /// What has to be written.
     pub fn report(&self, alloc: Global) -> Result<String, AllocError> {
         let lines = self.lines;
         let verdict = self.verdict();
@@ -46,7 +46,7 @@ impl Row<'_> {
     }
 }
 
-// The tables fill these in. No run has their status.
+/// The tables fill these in. No run has their status.
 pub const LRAT: Row<'static> = Row {
     name: "",
     request: Request::Lrat(LratOptions { trace: false }),
@@ -93,8 +93,8 @@ macro_rules! drat_row {
 
 pub const BY_DRAT: Request = drat!();
 
-// What a proof is answered that lists no set and deletes no clause which a literal follows by, as
-// without these rules.
+/// What a proof is answered that lists no set and deletes no clause which a literal follows by, as
+/// without these rules.
 pub const BY_OTHER_RULES: Request = drat!(pr, keep_units);
 
 pub const BY_BINARY_DRAT: Request = drat!(binary);

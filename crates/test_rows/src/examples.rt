@@ -1,34 +1,32 @@
 //! Formulas and what is said of them that many rows begin with.
 
-use crate::support::rows::{
-    BINARY_TRACED, BY_BINARY, DRAT, DRAT_TRACED, LRAT, LRAT_TRACED, MODEL, Row,
-};
+use crate::rows::{BINARY_TRACED, BY_BINARY, DRAT, DRAT_TRACED, LRAT, LRAT_TRACED, MODEL, Row};
 
-// All four clauses of two variables, which have no model.
+/// All four clauses of two variables, which have no model.
 pub const E: &str = "p cnf 2 4\n1 2 0\n-1 2 0\n1 -2 0\n-1 -2 0\n";
 
-// What is written of it.
+/// What is written of it.
 pub const E_LINE: &str = "c formula 2 variables 4 clauses";
 
-// A proof of that in LRAT.
+/// A proof of that in LRAT.
 pub const E_PROOF: &[u8] = b"5 2 0 1 2 0\n6 0 5 3 4 0\n";
 
-// One in DRAT.
+/// One in DRAT.
 pub const E_DRAT: &[u8] = b"2 0\n0\n";
 
-// The same in the binary form.
+/// The same in the binary form.
 pub const E_BINARY: &[u8] = b"a\x04\x00a\x00";
 
-// One clause, which has models.
+/// One clause, which has models.
 pub const G: &str = "p cnf 2 1\n1 2 0\n";
 
-// Two clauses, with the two models that make 2 true and 1 as one likes.
+/// Two clauses, with the two models that make 2 true and 1 as one likes.
 pub const MODELS: &str = "p cnf 2 2\n1 -2 0\n2 0\n";
 
-// One of them.
+/// One of them.
 pub const MODELS_OUTPUT: &[u8] = b"s SATISFIABLE\nv 1 2 0\n";
 
-// Runs on `E`.
+/// Runs on `E`.
 pub const E_BY_LRAT: Row<'static> = Row {
     name: "e_lrat",
     formula: E,
@@ -83,7 +81,7 @@ pub const E_BY_BINARY_TRACED: Row<'static> = Row {
     ..BINARY_TRACED
 };
 
-// The empty clause in a formula, of which no proof is read.
+/// The empty clause in a formula, of which no proof is read.
 pub const EMPTY_CLAUSE: Row<'static> = Row {
     name: "empty_clause_in_formula",
     formula: "p cnf 0 1\n0\n",
@@ -92,7 +90,7 @@ pub const EMPTY_CLAUSE: Row<'static> = Row {
     ..LRAT
 };
 
-// A fault of the formula.
+/// A fault of the formula.
 pub const OUT_OF_RANGE: Row<'static> = Row {
     name: "a literal out of range",
     formula: "p cnf 2 1\n1 3 0\n",
@@ -101,7 +99,7 @@ pub const OUT_OF_RANGE: Row<'static> = Row {
     ..LRAT
 };
 
-// The run of the output.
+/// The run of the output.
 pub const MODELS_MET: Row<'static> = Row {
     name: "models",
     formula: MODELS,

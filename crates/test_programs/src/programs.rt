@@ -2,7 +2,7 @@
 
 ghost use Rattle.std.specs.Prelude.{Some, false};
 
-use crate::support::{E, E_DRAT, E_PROOF, MODELS, MODELS_OUTPUT, expect_equal};
+use crate::asserts::expect_equal;
 use cnf_base::{Fault, Place, TextFault};
 use filter_io::{Hint, Progress, System, Told, Tool, run_tool};
 use proofs::StepEnd;
@@ -12,6 +12,7 @@ use std::io;
 use std::process::Abort;
 use std::test::Fail;
 use test_inputs::{Stop, Writer};
+use test_rows::{E, E_DRAT, E_PROOF, MODELS, MODELS_OUTPUT};
 use writers::ToWrite;
 
 /// A system with one file, which has any name.

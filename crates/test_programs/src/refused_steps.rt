@@ -1,15 +1,16 @@
 //! Where a refused step ends.
 
-use crate::support::{
-    BY_BINARY_DRAT, Cut, DRAT, DRAT_STRICT, E, E_BINARY, E_DRAT, E_PROOF, G, LRAT, Pieces, Request,
-    SIZES, Stop, Writer, expect_equal,
-};
+use crate::asserts::expect_equal;
 use cnf_base::{FromRead, In, Place};
 use proofs::StepEnd;
 use sat_check::{Args, Checked, DratOptions, Status, drat_forward, lrat_check};
 use std::alloc::Global;
 use std::process::Abort;
 use std::test::Fail;
+use test_inputs::{Cut, Pieces, SIZES, Stop, Writer};
+use test_rows::{
+    BY_BINARY_DRAT, DRAT, DRAT_STRICT, E, E_BINARY, E_DRAT, E_PROOF, G, LRAT, Request,
+};
 use writers::{Out, ToWrite};
 
 // A request, a formula, a proof, and where the refused step ends.
