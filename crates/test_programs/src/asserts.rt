@@ -7,20 +7,11 @@ pub fn expect_equal<T: Copy + Debug + PartialEq>(rt: &impl Abort, found: T, expe
     assert_eq!(rt; found, expected);
 }
 
-// The first value tells where a failure is.
-pub fn expect_equal_at<N: Copy + Debug, T: Copy + Debug + PartialEq>(
-    rt: &impl Abort,
-    at: N,
-    found: T,
-    expected: T,
-) {
-    assert_eq!(rt; found, expected, "{at:?}");
-}
-
 pub fn expect_true(rt: &impl Abort, holds: bool) {
     assert!(rt; holds);
 }
 
+// The value tells where a failure is.
 pub fn expect_true_at<N: Copy + Debug>(rt: &impl Abort, at: N, holds: bool) {
     assert!(rt; holds, "{at:?}");
 }

@@ -17,10 +17,6 @@ pub fn expect_equal_at<N: Copy + Debug, T: Copy + Debug + PartialEq>(
     assert_eq!(rt; found, expected, "{at:?}");
 }
 
-pub fn expect_true(rt: &impl Abort, holds: bool) {
-    assert!(rt; holds);
-}
-
 pub fn expect_true_at<N: Copy + Debug>(rt: &impl Abort, at: N, holds: bool) {
     assert!(rt; holds, "{at:?}");
 }

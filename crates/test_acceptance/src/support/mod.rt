@@ -6,7 +6,7 @@ mod reading;
 mod reports;
 mod room;
 
-pub use asserts::{expect_equal, expect_true, expect_true_at};
+pub use asserts::{expect_equal, expect_true_at};
 pub use cuts::{
     Cuts, Cutting, E_SHOWN, Expected, HEADER, UNREAD_AFTER_ONE, UNREAD_FORMULA, UNREAD_PROOF,
     expect_cuts,
