@@ -23,7 +23,11 @@ abbrev pub IsNonFalseAt : List Literal → Clause → ℕ → ℕ → Type 0
 IsNonFalseAt ls c from place =
     (from ≤ place) × (place < length c) × IsFalse (has ls (complement (slice_index c place)))
 
+-- the literals from one place to another are false
+abbrev pub AreFalseBetween : List Literal → Clause → ℕ → ℕ → Type 0
+AreFalseBetween ls c from to =
+    (k : ℕ) → from ≤ k → k < to → IsTrue (has ls (complement (slice_index c k)))
+
 -- the literals from this place on are false
 abbrev pub AreFalseFrom : List Literal → Clause → ℕ → Type 0
-AreFalseFrom ls c from =
-    (k : ℕ) → from ≤ k → k < length c → IsTrue (has ls (complement (slice_index c k)))
+AreFalseFrom ls c from = AreFalseBetween ls c from (length c)

@@ -3,7 +3,7 @@
 //! Variables come densely numbered, so mostly all values stand in one array. There no look-up need
 //! ask whether its literal has a place: such a loop is made for this array, and again for any trail.
 
-ghost use Rattle.std.specs.Prelude.{◌≡◌, IfSome, IfNone, IsTrue};
+ghost use Rattle.std.specs.Prelude.{◌≡◌, ◌+◌, IfSome, IfNone, IsTrue};
 ghost use Rattle.cnf_base.specs.Literals.{complement, has, variable};
 ghost use Rattle.trail.specs.Left.{AreFalseFrom, IsNonFalseAt};
 ghost use Rattle.trail.specs.Trail.{HasNoVariableTwice, HasRoom, TrailState, value_under};
@@ -41,9 +41,12 @@ pub fn is_false_under<A: Assignment>(assignment: &A, l: Lit) -> bool
     matches!(assignment.value_of(l), Value::False)
 }
 
-/// The first place of a clause from this one on whose literal is not false. It takes no memory.
+/// The last place of a clause from this one on whose literal is not false. It takes no memory.
+///
+/// It looks at the last literal first: a search that ends at a place which is known needs no other
+/// number for its end.
 #[inline(always)]
-pub fn first_non_false_under<A: Assignment>(
+pub fn last_non_false_under<A: Assignment>(
     assignment: &A,
     clause: &[Lit],
     from: usize,
@@ -51,10 +54,14 @@ pub fn first_non_false_under<A: Assignment>(
     requires { HasRoom (A.trail_of assignment.now).reserved clause.now }
     ensures found { IfSome result
         (IsNonFalseAt (A.trail_of assignment.now).lits clause.now from) }
+    ensures last { IfSome result (λ place.
+        AreFalseFrom (A.trail_of assignment.now).lits clause.now (place + 1)) }
     ensures none { IfNone result
         (AreFalseFrom (A.trail_of assignment.now).lits clause.now from) }
 {
-    for place in from..clause.len() {
+    let mut place = clause.len();
+    while place > from {
+        place -= 1;
         if !is_false_under(assignment, clause[place]) {
             return Some(place);
         }

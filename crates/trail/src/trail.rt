@@ -11,7 +11,7 @@ ghost use Rattle.std.specs.Prelude.{true, IsFalse, ◌↔◌, IfSome, IfNone, If
 ghost use Rattle.std.specs.List.{remove};
 ghost use Rattle.cnf_base.specs.Literals.{complement, has, variable};
 ghost use Rattle.theory.specs.Propagation.{open_literals};
-ghost use Rattle.trail.specs.Left.{AreFalseFrom, IsNonFalseAt, how_many};
+ghost use Rattle.trail.specs.Left.{AreFalseBetween, AreFalseFrom, IsNonFalseAt, how_many};
 ghost use Rattle.trail.specs.Trail.{value_under, is_variable, HasNoVariableTwice, HasRoom};
 ghost use Rattle.trail.specs.Trail.{MakesFalse};
 ghost use Rattle.theory.specs.Sets.{SameSet, conflicts};
@@ -357,6 +357,8 @@ impl Trail {
     /// The first place of a clause from this one on whose literal is not false. It takes no memory.
     pub fn first_non_false(&self, clause: &[Lit], from: usize) -> Option<usize>
         ensures found { IfSome result (IsNonFalseAt self.now.lits clause.now from) }
+        ensures first { IfSome result (λ place.
+            AreFalseBetween self.now.lits clause.now from place) }
         ensures none { IfNone result (AreFalseFrom self.now.lits clause.now from) }
     {
         for place in from..clause.len() {

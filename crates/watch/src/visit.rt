@@ -10,7 +10,7 @@ ghost use Rattle.watch.specs.Code.Visits.{IsEntryOf, IsVisit};
 
 use clause_db::{Slot, Store};
 use cnf_base::Lit;
-use trail::{Assignment, Value, first_non_false_under};
+use trail::{Assignment, Value, last_non_false_under};
 use watch_lists::Watcher;
 
 /// What a clause watches in place of a literal that became false.
@@ -64,7 +64,7 @@ fn look<A: Assignment>(assignment: &A, clause: &[Lit], l: Lit) -> Visit
     if matches!(assignment.value_of(other), Value::True) {
         return Visit::Stays(other);
     }
-    match first_non_false_under(assignment, clause, 2) {
+    match last_non_false_under(assignment, clause, 2) {
         Some(to) => Visit::Moves(Exchange {
             to,
             next: clause[to],

@@ -43,8 +43,8 @@ fn digit_count(word: u64) -> usize
     others.trailing_zeros() as usize / 8
 }
 
-// The number that eight digits write, the lowest byte first: they are joined to pairs, and these
-// at once.
+// The number that eight digits write, the lowest byte first: they are joined to pairs, these to
+// fours, and these to all eight.
 #[inline(always)]
 fn value_of(digits: u64) -> u64
     ensures { (ds : List ℕ) → AreEight 10 ds → digits ≡ packed ds → result ≡ decimal ds }

@@ -4,7 +4,8 @@ use crate::tests::asserts::{expect_equal, expect_equal_at, expect_true};
 use cnf_base::{Lit, OutOfMemory};
 use std::test::Fail;
 use test_inputs::literal;
-use trail::{Except, Left, Part, Trail, Value, Whole, first_non_false_under, left_of};
+use trail::{Except, Left, Part, Trail, Value, Whole};
+use trail::{is_false_under, is_true_under, last_non_false_under, left_of};
 
 /// Makes room for the literal's variable, and sets it where it is open.
 fn set_open(trail: &mut Trail, l: Lit) -> Result<(), OutOfMemory> {
@@ -135,16 +136,16 @@ fn counts_what_is_left(rt: HostRuntime) -> Result<(), Fail> {
     Ok(())
 }
 
-/// The first place whose literal isn't false, by the array of values, or by the trail.
-fn first_non_false(
+/// The last place whose literal isn't false, by the array of values, or by the trail.
+fn last_non_false(
     trail: &mut Trail,
     clause: &[Lit],
     from: usize,
 ) -> Result<Option<usize>, OutOfMemory> {
     trail.reserve_all(clause)?;
     match trail.dense() {
-        Some(dense) => Ok(first_non_false_under(&dense, clause, from)),
-        None => Ok(first_non_false_under(trail, clause, from)),
+        Some(dense) => Ok(last_non_false_under(&dense, clause, from)),
+        None => Ok(last_non_false_under(trail, clause, from)),
     }
 }
 
@@ -156,12 +157,40 @@ fn finds_what_is_open(rt: HostRuntime) -> Result<(), Fail> {
         let clause = [one, two, last, one];
         expect_equal(&rt, trail.first_non_false(&clause, 0), Some(0));
         expect_true(&rt, !make_false(&mut trail, &[one, two.neg()], &Whole)?);
-        for (from, place) in [(0, Some(1)), (2, Some(2)), (3, None), (4, None)] {
-            expect_equal(&rt, trail.first_non_false(&clause, from), place);
-            expect_equal(&rt, first_non_false(&mut trail, &clause, from)?, place);
+        let places = [
+            (0, Some(1), Some(2)),
+            (2, Some(2), Some(2)),
+            (3, None, None),
+            (4, None, None),
+        ];
+        for (from, first_place, last_place) in places {
+            expect_equal(&rt, trail.first_non_false(&clause, from), first_place);
+            expect_equal(&rt, last_non_false(&mut trail, &clause, from)?, last_place);
         }
         expect_true(&rt, !make_false(&mut trail, &[last], &Whole)?);
-        expect_equal(&rt, first_non_false(&mut trail, &clause, 2)?, None);
+        expect_equal(&rt, last_non_false(&mut trail, &clause, 0)?, Some(1));
+        expect_equal(&rt, last_non_false(&mut trail, &clause, 2)?, None);
+    }
+    Ok(())
+}
+
+/// Whether the literal is true, and whether it is false, by the array of values, or by the trail.
+fn truth(trail: &mut Trail, l: Lit) -> Result<(bool, bool), OutOfMemory> {
+    trail.reserve_all(&[l])?;
+    match trail.dense() {
+        Some(dense) => Ok((is_true_under(&dense, l), is_false_under(&dense, l))),
+        None => Ok((is_true_under(trail, l), is_false_under(trail, l))),
+    }
+}
+
+#[test]
+fn answers_for_near_and_far_literals(rt: HostRuntime) -> Result<(), Fail> {
+    let mut trail = Trail::new(rt.alloc())?;
+    for l in [literal(1)?, literal(-2)?, literal(268435455)?] {
+        expect_equal(&rt, truth(&mut trail, l)?, (false, false));
+        set_open(&mut trail, l)?;
+        expect_equal(&rt, truth(&mut trail, l)?, (true, false));
+        expect_equal(&rt, truth(&mut trail, l.neg())?, (false, true));
     }
     Ok(())
 }

@@ -1,4 +1,4 @@
--- Digits are joined to pairs, and the pairs to one number.
+-- Digits are joined to pairs, these to fours, and these to all eight.
 use Rattle.cnf_base.proofs.EightLemmas.{value_is}
 use Rattle.cnf_base.proofs.scanner.eight.value_of.Goals as goal
 
