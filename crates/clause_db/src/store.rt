@@ -12,9 +12,10 @@ mod kept;
 mod mark;
 mod marks;
 mod search;
+mod taken;
 
-ghost use Rattle.std.specs.Prelude.{◌≡◌, ◌≢◌, ℕ, ◌+◌, ◌*◌, ◌<◌, ◌≤◌, ◌==◌, ◌++◌, [], ◌∷◌, ◌^◌, min};
-ghost use Rattle.std.specs.Prelude.{true, false, Some, None, is_some, option_map, length};
+ghost use Rattle.std.specs.Prelude.{◌≡◌, ◌≢◌, ℕ, ◌+◌, ◌<◌, ◌≤◌, [], ◌∷◌, ◌^◌, min};
+ghost use Rattle.std.specs.Prelude.{Some, None, option_map, length};
 ghost use Rattle.std.specs.Prelude.{IsTrue, IsSome, IfSome, IfNone, IfOk, OnOk, OnErr};
 ghost use Rattle.std.specs.List.{swap};
 ghost use Rattle.std.specs.List.Sorted.{IsStrictlyIncreasing};
@@ -24,22 +25,18 @@ ghost use Rattle.std.specs.FinMap.{FinMap};
 ghost use Rattle.cnf_base.specs.Literals.{Clause, has, same_clause, size};
 ghost use Rattle.clause_memory.specs.Blocks.{CanRewatch, IsRewatched};
 ghost use Rattle.clause_db.specs.Store.{literals_in, copies_with, is_tautology, no_clauses};
-ghost use Rattle.clause_db.specs.Store.{slots_for};
-ghost use Rattle.clause_db.specs.Store.{IsTouchedAt};
+ghost use Rattle.clause_db.specs.Store.{IsTouchedAt, slots_for};
 ghost use Rattle.clause_db.specs.Code.Counts.{AreCounted};
-ghost use Rattle.clause_db.specs.Code.Fields.{IsTakenIn};
 ghost use Rattle.clause_db.specs.Code.Kept.{AreKept};
-ghost use Rattle.clause_db.specs.Code.LiteralMarks.{is_marked};
-ghost use Rattle.tables.specs.Filled.{at};
 
 use crate::Slot;
 use crate::store::counts::{count_in, count_out, count_with, keep};
 use crate::store::kept::{find_slots, forget, note};
 use crate::store::marks::{
-    all_known, are_different, few_have_complements, gather, have_complements, make_known, mark_all,
-    mark_new, unmark_all,
+    all_known, few_have_complements, have_complements, mark_all, unmark_all,
 };
 use crate::store::search::{find_marked, find_unit};
+use crate::store::taken::{FEW, take_in};
 use clause_index::{Index, Indexing, NoIndex};
 use clause_memory::{Blocks, Memory};
 use cnf_base::{Lit, OutOfMemory};
@@ -47,9 +44,6 @@ use occurrences::Occurrences;
 use std::alloc::Global;
 use std::marker::Model;
 use tables::Filled;
-
-/// So many literals are compared with one another.
-const FEW: usize = 8;
 
 /// The live clauses of a proof checker, each in a slot that the store picks.
 ///
@@ -101,77 +95,6 @@ impl<M: Memory, I: Indexing> Model for Store<M, I> {
         IsStore (M.seen s.memory).live (M.seen s.memory).stored s.marks s.sum
         × I.indexes s.index (M.seen s.memory).live × AreKept s.occurrences (M.seen s.memory).live
         × AreCounted s.counts (M.seen s.memory).live };
-}
-
-/// The marked literals, each once, where so many are marked. Their marks are taken off.
-fn without_repeats(
-    alloc: Global,
-    marks: &mut Filled<bool>,
-    lits: &[Lit],
-    len: usize,
-) -> Result<Vec<Lit>, OutOfMemory>
-    requires marked { (l : ℕ) → is_marked (at marks.old l) ≡ has lits.now l }
-    requires len { len ≡ size lits.now }
-    ensures same { IfOk result (λ kept. IsTrue (same_clause kept.items lits.now)) }
-    ensures different { IfOk result (λ kept. size kept.items ≡ length kept.items) }
-    ensures some { (l : ℕ) → is_marked (at marks.new l) ≡ true → has lits.now l ≡ true }
-    ensures known { (l : ℕ) → is_some (at marks.new l) ≡ is_some (at marks.old l) }
-{
-    let mut kept = Vec::with_capacity(alloc, len)?;
-    gather(marks, lits, &mut kept);
-    Ok(kept)
-}
-
-/// Marks literals of a clause, and puts it into the memory, without repeated ones.
-fn put_in<M: Memory>(
-    alloc: Global,
-    memory: &mut M,
-    marks: &mut Filled<bool>,
-    lits: &[Lit],
-) -> Result<usize, OutOfMemory>
-    requires { (l : ℕ) → is_marked (at marks.old l) ≡ false }
-    ensures taken { IfOk result (λ slot.
-        IsTakenIn (M.seen memory.old) (M.seen memory.new) slot lits.now) }
-    ensures known { OnOk result ((l : ℕ) → has lits.now l ≡ true → IsSome (at marks.new l)) }
-    ensures still_known { (l : ℕ) → IsSome (at marks.old l) → IsSome (at marks.new l) }
-    ensures some { (l : ℕ) → is_marked (at marks.new l) ≡ true → has lits.now l ≡ true }
-    ensures err { OnErr result (M.seen memory.new ≡ M.seen memory.old) }
-    ensures few_slots { (M.seen memory.new).slots ≤
-        (M.seen memory.old).slots + slots_for (size lits.now) }
-{
-    let len = mark_new(marks, lits)?;
-    if len == lits.len() {
-        return memory.insert(lits);
-    }
-    let kept = without_repeats(alloc, marks, lits, len)?;
-    memory.insert(&kept)
-}
-
-/// Puts a clause into the memory, without repeated literals. A short one is compared in place, since
-/// a mark is a load that no cache has where there are many variables.
-fn take_in<M: Memory>(
-    alloc: Global,
-    memory: &mut M,
-    marks: &mut Filled<bool>,
-    lits: &[Lit],
-) -> Result<usize, OutOfMemory>
-    requires { (l : ℕ) → is_marked (at marks.old l) ≡ false }
-    ensures taken { IfOk result (λ slot.
-        IsTakenIn (M.seen memory.old) (M.seen memory.new) slot lits.now) }
-    ensures known { OnOk result ((l : ℕ) → has lits.now l ≡ true → IsSome (at marks.new l)) }
-    ensures still_known { (l : ℕ) → IsSome (at marks.old l) → IsSome (at marks.new l) }
-    ensures clear { (l : ℕ) → is_marked (at marks.new l) ≡ false }
-    ensures err { OnErr result (M.seen memory.new ≡ M.seen memory.old) }
-    ensures few_slots { (M.seen memory.new).slots ≤
-        (M.seen memory.old).slots + slots_for (size lits.now) }
-{
-    if lits.len() <= FEW && are_different(lits) {
-        make_known(marks, lits)?;
-        return memory.insert(lits);
-    }
-    let taken = put_in(alloc, memory, marks, lits);
-    unmark_all(marks, lits);
-    taken
 }
 
 /// Counts the literals of a clause, and adds its slot to what finds it again.

@@ -164,7 +164,7 @@ impl Propagate for Scan {
         self.store.remove(slot);
     }
 
-    /// It counts no short clauses, so that it may do this sooner than needed.
+    /// It counts no unit clauses, so that it may do this sooner than needed.
     fn gather(&mut self) -> Result<(), OutOfMemory> {
         self.store.recall_invariant();
         if is_sparse(self.store.end(), self.store.literals(), 0) {

@@ -12,4 +12,4 @@ pub mod Propagated
 pub mod Doubts
 pub mod Units
 pub mod Entered
-pub mod Lone
+pub mod Unshared

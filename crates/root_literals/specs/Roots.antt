@@ -15,8 +15,8 @@ use Rattle.root_literals.specs.History.{IsHistory, sure_of, visits}
 use Rattle.root_literals.specs.Order.{each_in_order}
 use Rattle.root_literals.specs.Uses.{AreCounted}
 use Rattle.root_literals.specs.Watched.{HasUnit, IsWatched}
-use Rattle.root_literals.specs.declared.roots.Kept.TheVariants.{WithoutUnits, WithUnits, All, Clash}
-use Rattle.root_literals.specs.declared.roots.Kept.{Kept}
+use Rattle.root_literals.specs.declared.kept.Kept.TheVariants.{WithoutUnits, WithUnits, All, Clash}
+use Rattle.root_literals.specs.declared.kept.Kept.{Kept}
 use Rattle.root_literals.specs.declared.roots.Roots.{Roots}
 
 -- ---- Reasons
@@ -63,7 +63,7 @@ pub record IsFalseAt (live : Live) (slot : ℕ) (trues : List Literal) : Type 0 
   pub at : live slot ≡ Some clause
   pub falses : (k : Literal) → IsTrue (has clause k) → IsTrue (has trues (complement k))
 
--- each short clause has its literal, and it is true
+-- no clause is empty, and the literal of each unit clause is true
 abbrev pub HaveUnits : Live → List Literal → Type 0
 HaveUnits live trues = (s : ℕ) (c : Clause) → live s ≡ Some c → HasUnit c trues
 

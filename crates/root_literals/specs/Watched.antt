@@ -14,7 +14,7 @@ IsPart part whole = (l : Literal) → IsTrue (has part l) → IsTrue (has whole 
 abbrev pub IsMet : Clause → Literal → List Literal → Type 0
 IsMet c l trues = IsTrue (watches c l) → (m : Literal) × IsTrue (has c m) × IsTrue (has trues m)
 
--- a short clause has its literal, and it is true
+-- the clause isn't empty, and if it is a unit, its literal is true
 abbrev pub HasUnit : Clause → List Literal → Type 0
 HasUnit [] trues = ⊥
 HasUnit (a ∷ []) trues = IsTrue (has trues a)

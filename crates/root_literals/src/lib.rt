@@ -3,15 +3,18 @@
 
 mod doubts;
 mod history;
-mod lone;
+mod kept;
+mod made_true;
 mod other_reason;
 mod places;
 mod roots;
 mod starting;
 mod units;
+mod unshared;
 mod uses;
 
 pub use history::History;
-pub use roots::{Kept, Roots, set_by};
+pub use kept::Kept;
+pub use roots::{Roots, set_by};
 pub use starting::start;
 pub use uses::Uses;

@@ -3,10 +3,10 @@
 //! The removal of a clause that is no reason, nor the clause of a kept clash, changes nothing.
 //! Where a reason is removed, another clause takes its place if there is one by literals before its
 //! own: a copy, where it is a unit clause, so that copies may be deleted one after the other. Else
-//! the literal goes alone where nothing needs it, and otherwise the kept literals are cut
-//! back to it: those before it have reasons of literals before them alone. What still follows is
-//! found again at the next assumption. So a deletion costs what was cut, and a look at each unit
-//! clause and at each that is doubtful.
+//! the literal goes alone where nothing needs it, and otherwise the kept literals are cut back to
+//! it: those before it have reasons of literals before them alone. What still follows is found
+//! again at the next assumption. So a deletion costs what was cut, and a look at each unit clause
+//! and at each that is doubtful.
 //!
 //! A unit clause that is added becomes the reason of its literal even where that is true already:
 //! solvers add one, and then delete the clauses that it satisfies. A reason stays in the table when
@@ -21,18 +21,19 @@ ghost use Rattle.tables.specs.Filled.{at};
 ghost use Rattle.trail.specs.Trail.{HasRoom};
 ghost use Rattle.theory.specs.Sets.{SameSet};
 ghost use Rattle.root_literals.specs.History.{IsRewound};
-ghost use Rattle.root_literals.specs.Roots.{HasReasons, IsArranged, IsKept, has_clash, lacks_units};
+ghost use Rattle.root_literals.specs.Roots.{HasReasons, IsArranged, IsKept, has_clash};
 ghost use Rattle.root_literals.specs.Roots.{is_up_to_date};
 ghost use Rattle.root_literals.specs.Uses.{AreCounted, times};
 ghost use Rattle.watch_lists.specs.Watched.{AreUnchanged};
 ghost use Rattle.trail.specs.declared.left.Left.TheVariants.{More};
-ghost use Rattle.root_literals.specs.declared.roots.Kept.TheVariants.{Clash, WithUnits};
-ghost use Rattle.root_literals.specs.declared.roots.Kept.TheVariants.{WithoutUnits};
+ghost use Rattle.root_literals.specs.declared.kept.Kept.TheVariants.{Clash, WithoutUnits};
 
 use crate::history::History;
-use crate::lone::{is_needed, lone_literal, only_literal};
+use crate::kept::Kept;
+use crate::made_true::{is_reason, made_true_by};
 use crate::other_reason::{other_reason, other_unit};
 use crate::places::{Places, place_of};
+use crate::unshared::{is_needed, only_literal, unshared_literal};
 use crate::uses::Uses;
 use clause_db::{Slot, Store};
 use cnf_base::{Lit, OutOfMemory};
@@ -41,32 +42,6 @@ use std::alloc::Global;
 use tables::{Filled, key};
 use trail::{Left, Trail};
 use watch_lists::WatchLists;
-
-/// What is known of the literals that are true with nothing assumed.
-#[derive(Clone, Copy)]
-pub enum Kept {
-    /// Some are kept, and those that were visited are propagated. Literals of unit clauses may be
-    /// missing.
-    WithoutUnits,
-    /// The same, and none of these is missing.
-    WithUnits,
-    /// All are kept.
-    All,
-    /// All literals of the clause in this slot are false.
-    Clash(u32),
-}
-
-impl Kept {
-    /// With one more literal that is kept, where no clash is.
-    fn with_more(self) -> Self
-        ensures { result ≡ (if lacks_units self then WithoutUnits else WithUnits) }
-    {
-        match self {
-            Kept::WithoutUnits => Kept::WithoutUnits,
-            _ => Kept::WithUnits,
-        }
-    }
-}
 
 /// What is known of the literals that are true with nothing assumed, and of each the clause that
 /// makes it true, its reason.
@@ -105,32 +80,6 @@ pub fn set_by(assumptions: &mut Assumptions, reasons: &mut Filled<u32>, l: Lit, 
         reasons.set(key(l), slot);
     }
     is_open
-}
-
-/// Whether the clause in the slot is the reason of a literal.
-fn is_reason(reasons: &Filled<u32>, l: Lit, slot: usize) -> bool
-    ensures yes { IsTrue result → at reasons.now l ≡ Some slot }
-    ensures no { IsFalse result → at reasons.now l ≢ Some slot }
-{
-    match reasons.get(key(l)) {
-        Some(reason) => reason as usize == slot,
-        None => false,
-    }
-}
-
-/// The literal that is true by the clause in the slot, which has these literals.
-fn made_true_by(reasons: &Filled<u32>, trail: &Trail, clause: &[Lit], slot: usize) -> Option<Lit>
-    ensures is_true { IfSome result (λ l. IsTrue (has trail.now.lits l)) }
-    ensures reason { IfSome result (λ l. at reasons.now l ≡ Some slot) }
-    ensures none { IfNone result ((l : Literal) → IsTrue (has clause.now l) →
-        IsTrue (has trail.now.lits l) → at reasons.now l ≢ Some slot) }
-{
-    for l in clause {
-        if trail.is_true(*l) && is_reason(reasons, *l, slot) {
-            return Some(*l);
-        }
-    }
-    None
 }
 
 /// Whether a clause of which this is left watches a literal that is false.
@@ -371,7 +320,7 @@ impl Roots {
         ensures assumptions { assumptions.new.assumptions ≡ [] }
         ensures starts { assumptions.new.starts ≡ assumptions.old.starts }
     {
-        let Some(l) = lone_literal(store, slot) else {
+        let Some(l) = unshared_literal(store, slot) else {
             return false;
         };
         let is_true = assumptions.trail().is_true(l);

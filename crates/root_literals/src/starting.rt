@@ -6,15 +6,16 @@ ghost use Rattle.cnf_base.specs.Literals.{Literal};
 ghost use Rattle.trail.specs.Trail.{HasRoomForAll};
 ghost use Rattle.theory.specs.Sets.{SameSet};
 ghost use Rattle.tables.specs.Filled.{at};
-ghost use Rattle.watch_lists.specs.Watched.{IsShortList};
+ghost use Rattle.watch_lists.specs.Watched.{IsUnitList};
 ghost use Rattle.root_literals.specs.Order.{each_in_order};
 ghost use Rattle.root_literals.specs.History.{HasGrown, visits};
 ghost use Rattle.root_literals.specs.Roots.{IsFalseAt, IsKept, lacks_units};
 ghost use Rattle.root_literals.specs.Watched.{IsWatched};
-ghost use Rattle.root_literals.specs.declared.roots.Kept.TheVariants.{WithoutUnits};
+ghost use Rattle.root_literals.specs.declared.kept.Kept.TheVariants.{WithoutUnits};
 
 use crate::doubts::{Looked, look_at};
-use crate::roots::{Kept, Roots};
+use crate::kept::Kept;
+use crate::roots::Roots;
 use crate::units::set_units;
 use clause_db::Store;
 use propagation::Assumptions;
@@ -57,8 +58,8 @@ fn settle(store: &Store, assumptions: &mut Assumptions, roots: &mut Roots) -> Op
 
 /// Keeps the literals of the clauses of one literal too, where some may be missing, and leaves no
 /// doubt. It takes no memory.
-pub fn start(store: &Store, short: &SlotList, assumptions: &mut Assumptions, roots: &mut Roots)
-    requires listed { IsShortList (maps.get store.now.live) short.now }
+pub fn start(store: &Store, units: &SlotList, assumptions: &mut Assumptions, roots: &mut Roots)
+    requires listed { IsUnitList (maps.get store.now.live) units.now }
     requires nothing_assumed { assumptions.old.assumptions ≡ [] }
     requires room { HasRoomForAll assumptions.old.trail.reserved
         (maps.get (each_in_order store.now.live)) }
@@ -78,7 +79,7 @@ pub fn start(store: &Store, short: &SlotList, assumptions: &mut Assumptions, roo
             roots.kept = Kept::Clash(slot);
             return;
         }
-        match set_units(store, short.slots(), assumptions, &mut roots.reasons) {
+        match set_units(store, units.slots(), assumptions, &mut roots.reasons) {
             Some(slot) => roots.kept = Kept::Clash(slot),
             None => roots.kept = Kept::WithUnits,
         }

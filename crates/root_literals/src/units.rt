@@ -5,7 +5,7 @@ ghost use Rattle.std.specs.FinMap as maps;
 ghost use Rattle.tables.specs.Filled.{at};
 ghost use Rattle.root_literals.specs.Order.{each_in_order};
 ghost use Rattle.root_literals.specs.Roots.{HaveUnits, IsFalseAt};
-ghost use Rattle.watch_lists.specs.Watched.{IsShortList, is_short};
+ghost use Rattle.watch_lists.specs.Watched.{IsUnitList, is_unit_or_empty};
 ghost use Rattle.root_literals.specs.Code.Propagated.{CanSet, PropagatesTo};
 
 use crate::roots::set_by;
@@ -16,7 +16,7 @@ use tables::Filled;
 
 /// The literal of a clause that has one or none.
 fn literal_of(clause: &[Lit]) -> Option<Lit>
-    requires { IsTrue (is_short clause.now) }
+    requires { IsTrue (is_unit_or_empty clause.now) }
     ensures one { IfSome result (λ l. clause.now ≡ l ∷ []) }
     ensures none { IfNone result (clause.now ≡ []) }
 {
@@ -31,7 +31,7 @@ pub(crate) fn set_units(
     assumptions: &mut Assumptions,
     reasons: &mut Filled<u32>,
 ) -> Option<u32>
-    requires listed { IsShortList (maps.get store.now.live) slots.now }
+    requires listed { IsUnitList (maps.get store.now.live) slots.now }
     requires can { CanSet store.now.live assumptions.old (at reasons.old) }
     ensures clash { IfSome result (λ s.
         IsFalseAt (maps.get (each_in_order store.now.live)) s assumptions.new.trail.lits) }

@@ -112,9 +112,6 @@ among_lines b bs (line ∷ lines) part rest all whole written =
           by_line line lines (lines_of x) told (among_lines b bs lines x rest both.1 more)
     ]
   where
-    or_last : (v : Bool) → (v || false) ≡ true → v ≡ true
-    or_last v h = search rules
-
     or_first : (v w : Bool) → v ≡ true → (v || w) ≡ true
     or_first v w e = ap (λ x. x || w) e
 

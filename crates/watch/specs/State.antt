@@ -5,7 +5,7 @@ use Rattle.propagation.specs.Assumptions.{Propagation}
 
 -- What contracts see of `Watch`: what is seen of any propagation; how many slots
 -- its clauses stand in, free ones too; how many entries all watch lists
--- have, and the list of the clauses of one literal and of none (`short_entries`); how many literals
+-- have, and the list of the clauses of one literal and of none (`unit_entries`); how many literals
 -- are true, and how many variables were reserved; the literals that are kept as true with nothing
 -- assumed, whether the watch lists are still to be made, whether these literals are known to be all
 -- or a clash is known, and whether a clash is.
@@ -13,7 +13,7 @@ pub record WatchState : Type 0 where
   pub propagation : Propagation
   pub slots : ℕ
   pub entries : ℕ
-  pub short_entries : ℕ
+  pub unit_entries : ℕ
   pub trues : ℕ
   pub variables : ℕ
   pub roots : List Literal

@@ -2,6 +2,7 @@
 #![tactic(auto)]
 
 mod arrange;
+mod assume;
 mod clause_source;
 mod clauses;
 mod follow;

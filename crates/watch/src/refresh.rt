@@ -73,12 +73,12 @@ fn catch_up(
 pub(crate) fn refresh(
     store: &mut Store,
     lists: &mut WatchLists,
-    short: &SlotList,
+    units: &SlotList,
     assumptions: &mut Assumptions,
     roots: &mut Roots,
 ) -> Result<(), OutOfMemory>
-    requires watch { IsWatch false store.old.live lists.old short.now roots.old assumptions.old }
-    ensures watch { IsWatch false store.new.live lists.new short.now roots.new assumptions.new }
+    requires watch { IsWatch false store.old.live lists.old units.now roots.old assumptions.old }
+    ensures watch { IsWatch false store.new.live lists.new units.now roots.new assumptions.new }
     ensures up_to_date { OnOk result (is_up_to_date roots.new.kept ≡ true) }
     ensures same { each_in_order store.new.live ≡ each_in_order store.old.live }
     ensures reserved { SameSet assumptions.new.trail.reserved assumptions.old.trail.reserved }
@@ -89,7 +89,7 @@ pub(crate) fn refresh(
         return Ok(());
     }
     let trues = assumptions.trail().len();
-    start(store, short, assumptions, roots);
+    start(store, units, assumptions, roots);
     match catch_up(store, lists, assumptions, roots, trues) {
         Ok(()) => {
             // where this is refused, searches take longer

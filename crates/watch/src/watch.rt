@@ -3,30 +3,23 @@
 //! So a visit reads one place of memory for a clause and its watched literals, and a move exchanges
 //! two literals of it. Contracts see each clause by rising literals: no move is seen there.
 
-ghost use Rattle.std.specs.Prelude.{◌≡◌, ◌≢◌, [], ◌*◌, ◌≤◌, ◌<◌, drop, filter, min, true, false};
-ghost use Rattle.std.specs.Prelude.{IsTrue, IfOk, OnOk, OnErr};
+ghost use Rattle.std.specs.Prelude.{◌≡◌, ◌≢◌, [], ◌*◌, ◌≤◌, ◌<◌, drop, min, true, false};
+ghost use Rattle.std.specs.Prelude.{IfOk, OnOk, OnErr};
 ghost use Rattle.std.specs.FinMap as maps;
-ghost use Rattle.cnf_base.specs.Literals.{Literal, complements, has};
 ghost use Rattle.theory.specs.Drat.{SameLive};
-ghost use Rattle.theory.specs.Propagation.{Clash, Forced};
-ghost use Rattle.propagation.specs.Assumptions.{HoldsLiveAlone, IsThere, MayAssume};
-ghost use Rattle.propagation.specs.Slots.{most_slots, short_clauses};
-ghost use Rattle.propagation.specs.Code.Scan.{AssumesOn};
-ghost use Rattle.trail.specs.Trail.{HasRoom};
-ghost use Rattle.root_literals.specs.Order.{each_in_order};
-ghost use Rattle.root_literals.specs.Roots.{is_up_to_date};
-ghost use Rattle.watch.specs.Code.ClauseSource.{clause_of};
-ghost use Rattle.watch.specs.Code.State.{IsWatch};
-ghost use Rattle.watch_lists.specs.Watched.{watched_clauses};
+ghost use Rattle.propagation.specs.Assumptions.{HoldsLiveAlone};
+ghost use Rattle.propagation.specs.Slots.{most_slots};
+
+mod questions;
 
 use crate::arrange::arrange;
-use crate::clause_source::{assume_from, reserve_given};
+use crate::assume::assume_part;
+use crate::clause_source::reserve_given;
 use crate::clauses::{insert_clause, remove_clause};
 use crate::gather::gathered;
 use crate::reason::is_reason_at_root;
 use crate::refresh::refresh;
 use crate::room::reserve_room;
-use crate::run::run;
 use clause_db::{Blocks, Slot, Store};
 use cnf_base::{Lit, OutOfMemory};
 use propagation::{Answer, Assumptions, ClauseSource, Closure, Propagate, is_sparse};
@@ -49,7 +42,7 @@ pub struct Watch {
     /// Of a clause of two literals or more it watches the first two, unless it is a tautology.
     store: Store,
     /// The slots of the clauses of one literal and of none.
-    short: SlotList,
+    units: SlotList,
     /// Those of the clauses that have a literal and its complement: nothing follows from them.
     tautologies: SlotList,
     assumptions: Assumptions,
@@ -92,7 +85,7 @@ impl Model for Watch {
       seed = _;
       store = store;
       lists = lists;
-      short = short;
+      units = units;
       tautologies = _;
       assumptions = assumptions;
       roots = record {
@@ -115,7 +108,7 @@ impl Model for Watch {
       };
       slots = store.slots;
       entries = entries_in lists;
-      short_entries = length short;
+      unit_entries = length units;
       trues = length assumptions.trail.lits;
       variables = variables_in assumptions.trail.reserved;
       roots = roots_in assumptions.trail.lits assumptions.assumptions assumptions.starts;
@@ -125,50 +118,10 @@ impl Model for Watch {
     } };
 
     ghost invariant = { λ w.
-        IsWatch w.is_loading w.store.live w.lists w.short w.roots w.assumptions
+        IsWatch w.is_loading w.store.live w.lists w.units w.roots w.assumptions
         × (w.store.stored ≡ literals_in (each_in_order w.store.live))
         × IsClosure (maps.get (each_in_order w.store.live)) w.closure
         × IsTautologyList (maps.get (each_in_order w.store.live)) w.tautologies };
-}
-
-/// Assumes the complements of a part of a clause, beside what is assumed, and propagates.
-fn assume_part<P: Part>(
-    store: &mut Store,
-    lists: &mut WatchLists,
-    short: &SlotList,
-    assumptions: &mut Assumptions,
-    roots: &mut Roots,
-    source: &ClauseSource<'_>,
-    part: &P,
-) -> Result<Answer, OutOfMemory>
-    requires watch { IsWatch false store.old.live lists.old short.now roots.old assumptions.old }
-    requires up_to_date { is_up_to_date roots.old.kept ≡ true }
-    requires may { MayAssume assumptions.old.assumptions }
-    requires alive { IsThere store.old.live source.now }
-    requires room { HasRoom assumptions.old.trail.reserved (clause_of store.old.live source.now) }
-    ensures assumed { AssumesOn (each_in_order store.old.live) assumptions.old assumptions.new
-        (complements (filter (P.keeps part.now) (clause_of store.old.live source.now))) result }
-    ensures watch { IsWatch false store.new.live lists.new short.now roots.new assumptions.new }
-    ensures same { each_in_order store.new.live ≡ each_in_order store.old.live }
-    ensures slots { store.new.slots ≡ store.old.slots }
-{
-    let from = assumptions.trail().len();
-    if assume_from(store, assumptions, source, part)? {
-        return Ok(Answer::Clash);
-    }
-    if roots.has_clash() {
-        return Ok(Answer::Clash);
-    }
-    match run(store, lists, assumptions, &mut roots.reasons, from) {
-        Ok(answer) => {
-            assumptions.answer(answer);
-            Ok(answer)
-        }
-        Err(refused) => {
-            assumptions.undo();
-            Err(refused)
-        }
-    }
 }
 
 impl Watch {
@@ -195,7 +148,7 @@ impl Watch {
             seed,
             store: Store::seeded(alloc, seed)?,
             lists: WatchLists::new(alloc),
-            short: SlotList::new(alloc),
+            units: SlotList::new(alloc),
             tautologies: SlotList::new(alloc),
             assumptions: Assumptions::new(alloc)?,
             roots: Roots::new(alloc),
@@ -239,77 +192,6 @@ impl Watch {
         self.make_lists()
     }
 
-    /// How many entries all watch lists have, two for each clause of two literals or more that is
-    /// no tautology; `2^64 - 1` where they are more. It makes the lists where they are still to be
-    /// made.
-    ///
-    /// # Errors
-    ///
-    /// Where memory runs out. The lists have no entries then.
-    pub fn watch_entries(&mut self) -> Result<u64, OutOfMemory>
-        ensures value { IfOk result (λ entries.
-            entries ≡ min self.new.entries 18446744073709551615) }
-        ensures two_each { OnOk result
-            (self.new.entries ≡ 2 * watched_clauses self.new.propagation.live) }
-        ensures none { OnErr result (self.new.entries ≡ 0) }
-        ensures same { self.new.propagation ≡ self.old.propagation }
-        ensures slots { self.new.slots ≡ self.old.slots }
-    {
-        self.finish_loading()?;
-        Ok(self.lists.entries())
-    }
-
-    /// How many entries the list of the other clauses has, one for each.
-    pub fn short_entries(&self) -> usize
-        ensures value { result ≡ self.now.short_entries }
-        ensures one_each { self.now.short_entries ≡ short_clauses self.now.propagation.live }
-    {
-        self.short.slots().len()
-    }
-
-    /// How many literals are true: at most one of each variable that was reserved.
-    pub fn trail_len(&self) -> usize
-        ensures value { result ≡ self.now.trues }
-        ensures fits { self.now.trues ≤ self.now.variables }
-    {
-        self.assumptions.trail().len()
-    }
-
-    /// Whether what follows with nothing assumed is known: all of it, or a clash. It is while an
-    /// assumption stands.
-    pub fn is_up_to_date(&self) -> bool
-        ensures value { result ≡ self.now.is_up_to_date }
-        ensures standing { self.now.propagation.assumptions ≢ [] → result ≡ true }
-    {
-        self.roots.is_up_to_date()
-    }
-
-    /// Whether propagation with nothing assumed is known to be a clash.
-    pub fn has_root_clash(&self) -> bool
-        ensures value { result ≡ self.now.has_clash }
-        ensures clash { result ≡ true → Clash (maps.get self.now.propagation.live) [] }
-        ensures quiet { self.now.is_up_to_date ≡ true → result ≡ false →
-            ¬ Clash (maps.get self.now.propagation.live) [] }
-    {
-        self.store.recall_invariant();
-        let _different = self.assumptions.trail().len();
-        self.roots.has_clash()
-    }
-
-    /// The literals that are kept as true with nothing assumed. Where that is up to date and no
-    /// clash, they are all that follows.
-    pub fn root_literals(&self) -> &[Lit]
-        ensures value { result.now ≡ self.now.roots }
-        ensures sound { (l : Literal) → IsTrue (has result.now l) →
-            Forced (maps.get self.now.propagation.live) [] l }
-        ensures all { self.now.is_up_to_date ≡ true → self.now.has_clash ≡ false →
-            (l : Literal) →
-            Forced (maps.get self.now.propagation.live) [] l → IsTrue (has result.now l) }
-    {
-        self.store.recall_invariant();
-        &self.assumptions.trail().lits()[..self.assumptions.root_count()]
-    }
-
     /// Brings what follows with nothing assumed up to date, before an assumption or a question of
     /// it.
     ///
@@ -339,7 +221,7 @@ impl Watch {
         let refreshed = refresh(
             &mut self.store,
             &mut self.lists,
-            &self.short,
+            &self.units,
             &mut self.assumptions,
             &mut self.roots,
         );
@@ -407,7 +289,7 @@ impl Propagate for Watch {
         match add_entries(
             &self.store,
             &mut self.lists,
-            &mut self.short,
+            &mut self.units,
             &mut self.tautologies,
             slot,
             arranged.has_complements,
@@ -431,7 +313,7 @@ impl Propagate for Watch {
         remove_entries(
             &self.store,
             &mut self.lists,
-            &mut self.short,
+            &mut self.units,
             &mut self.tautologies,
             slot,
             self.is_loading,
@@ -441,8 +323,8 @@ impl Propagate for Watch {
 
     fn gather(&mut self) -> Result<(), OutOfMemory> {
         self.store.recall_invariant();
-        let short = self.short_entries();
-        if is_sparse(self.store.end(), self.store.literals(), short) {
+        let units = self.unit_entries();
+        if is_sparse(self.store.end(), self.store.literals(), units) {
             return self.gather_sparse();
         }
         // Where memory is refused, entries only take longer to find.
@@ -471,7 +353,7 @@ impl Propagate for Watch {
         let assumed = assume_part(
             &mut self.store,
             &mut self.lists,
-            &self.short,
+            &self.units,
             &mut self.assumptions,
             &mut self.roots,
             source,

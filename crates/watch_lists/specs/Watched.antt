@@ -22,15 +22,15 @@ is_first (a ∷ b ∷ c) l = a == l || b == l
 abbrev pub watches : Clause → Literal → Bool
 watches c l = is_first c l && not (is_tautology c)
 
--- whether a clause is too short to watch two literals
-abbrev pub is_short : Clause → Bool
-is_short [] = true
-is_short (a ∷ []) = true
-is_short (a ∷ b ∷ c) = false
+-- whether a clause is a unit or empty: it has no two literals to watch
+abbrev pub is_unit_or_empty : Clause → Bool
+is_unit_or_empty [] = true
+is_unit_or_empty (a ∷ []) = true
+is_unit_or_empty (a ∷ b ∷ c) = false
 
 -- whether a clause watches no literal
 abbrev pub is_unwatched : Clause → Bool
-is_unwatched c = is_short c || is_tautology c
+is_unwatched c = is_unit_or_empty c || is_tautology c
 
 -- ---- The lists
 
@@ -39,10 +39,10 @@ abbrev pub entries_for : Option Clause → Literal → ℕ
 entries_for None l = 0
 entries_for (Some c) l = if watches c l then 1 else 0
 
--- how many there are for it in the list of the short clauses
-abbrev pub short_for : Option Clause → ℕ
-short_for None = 0
-short_for (Some c) = if is_short c then 1 else 0
+-- how many there are for it in the list of the unit and empty clauses
+abbrev pub unit_for : Option Clause → ℕ
+unit_for None = 0
+unit_for (Some c) = if is_unit_or_empty c then 1 else 0
 
 -- how many there are for it in the list of the tautologies
 abbrev pub tautology_for : Option Clause → ℕ
@@ -56,9 +56,9 @@ pub record IsListed (live : ℕ → Option Clause) (list_of : Literal → List W
   pub low : (s : ℕ) → IsSome (live s) → s < 2147483648
   pub fitting : (l s : ℕ) (c : Clause) → live s ≡ Some c → unfit_entries s c l (list_of l) ≡ 0
 
--- a slot of a short clause stands once in this list, and nothing else does
-pub record IsShortList (live : ℕ → Option Clause) (short : List ℕ) : Type 0 where
-  pub listed : (s : ℕ) → times_in s short ≡ short_for (live s)
+-- a slot of a unit or empty clause stands once in this list, and nothing else does
+pub record IsUnitList (live : ℕ → Option Clause) (units : List ℕ) : Type 0 where
+  pub listed : (s : ℕ) → times_in s units ≡ unit_for (live s)
 
 -- a slot of a tautology stands once in this list, and nothing else does
 pub record IsTautologyList (live : ℕ → Option Clause) (tautologies : List ℕ) : Type 0 where

@@ -6,8 +6,8 @@ ghost use Rattle.std.specs.FinMap as maps;
 ghost use Rattle.cnf_base.specs.Literals.{Clause, has, size};
 ghost use Rattle.watch_lists.specs.Lists.{entries_in, entries_of};
 ghost use Rattle.watch_lists.specs.Lists.{list_at, times_in};
-ghost use Rattle.watch_lists.specs.Watched.{AddsFitting, HasEntry, IsListed, IsShortList};
-ghost use Rattle.watch_lists.specs.Watched.{IsTautologyList, is_short, is_unwatched};
+ghost use Rattle.watch_lists.specs.Watched.{AddsFitting, HasEntry, IsListed, IsUnitList};
+ghost use Rattle.watch_lists.specs.Watched.{IsTautologyList, is_unit_or_empty, is_unwatched};
 ghost use Rattle.clause_db.specs.Store.{is_tautology};
 
 use crate::lists::WatchLists;
@@ -42,7 +42,7 @@ pub(crate) fn watch_first_two(
 }
 
 /// Puts the slot of a clause into the lists of its first two literals, unless these are still to be
-/// made, or into that of the short clauses or of the tautologies.
+/// made, or into that of the units or of the tautologies.
 ///
 /// # Errors
 ///
@@ -50,7 +50,7 @@ pub(crate) fn watch_first_two(
 pub fn add_entries(
     store: &Store,
     lists: &mut WatchLists,
-    short: &mut SlotList,
+    units: &mut SlotList,
     tautologies: &mut SlotList,
     slot: Slot,
     has_complements: bool,
@@ -59,15 +59,15 @@ pub fn add_entries(
     requires alive { IsSome (maps.get store.now.live slot) }
     requires complements { (c : Clause) → maps.get store.now.live slot ≡ Some c →
         has_complements ≡ is_tautology c }
-    requires absent { IsFalse (has short.old slot) }
+    requires absent { IsFalse (has units.old slot) }
     requires no_tautology { IsFalse (has tautologies.old slot) }
     ensures watched { OnOk result ((c : Clause) → maps.get store.now.live slot ≡ Some c →
         is_loading ≡ false → HasEntry c slot lists.new lists.old) }
     ensures fitting { (c : Clause) → maps.get store.now.live slot ≡ Some c →
         AddsFitting c slot lists.old lists.new }
     ensures rest { OnOk result ((c : Clause) → maps.get store.now.live slot ≡ Some c →
-        (s : ℕ) → times_in s short.new ≡ times_in s short.old
-        + (if is_short c && s == slot then 1 else 0)) }
+        (s : ℕ) → times_in s units.new ≡ times_in s units.old
+        + (if is_unit_or_empty c && s == slot then 1 else 0)) }
     ensures tautologies { OnOk result ((c : Clause) → maps.get store.now.live slot ≡ Some c →
         (s : ℕ) → times_in s tautologies.new ≡ times_in s tautologies.old
         + (if is_tautology c && s == slot then 1 else 0)) }
@@ -75,12 +75,12 @@ pub fn add_entries(
         entries_in lists.new ≡
         entries_in lists.old + (if is_loading || is_unwatched c then 0 else 2)) }
     ensures longer { OnOk result ((c : Clause) → maps.get store.now.live slot ≡ Some c →
-        length short.new ≡ length short.old + (if is_short c then 1 else 0)) }
+        length units.new ≡ length units.old + (if is_unit_or_empty c then 1 else 0)) }
     ensures low { OnOk result (slot < 2147483648) }
     ensures err_watched { OnErr result ((l s : ℕ) → entries_of s (list_at lists.new l) ≡
         entries_of s (list_at lists.old l)) }
     ensures err_entries { OnErr result (entries_in lists.new ≡ entries_in lists.old) }
-    ensures err_rest { OnErr result (short.new ≡ short.old) }
+    ensures err_rest { OnErr result (units.new ≡ units.old) }
     ensures err_tautologies { OnErr result (tautologies.new ≡ tautologies.old) }
     ensures different { OnOk result ((c : Clause) → maps.get store.now.live slot ≡ Some c →
         size c ≡ length c) }
@@ -91,7 +91,7 @@ pub fn add_entries(
     let number = slot.number() as u32;
     let clause = store.clause(slot);
     if clause.len() < 2 {
-        short.add(number)
+        units.add(number)
     } else if has_complements {
         tautologies.add(number)
     } else if is_loading {
@@ -105,7 +105,7 @@ pub fn add_entries(
 pub fn remove_entries(
     store: &Store,
     lists: &mut WatchLists,
-    short: &mut SlotList,
+    units: &mut SlotList,
     tautologies: &mut SlotList,
     slot: Slot,
     is_loading: bool,
@@ -113,15 +113,15 @@ pub fn remove_entries(
     requires alive { IsSome (maps.get store.now.live slot) }
     requires low { slot < 2147483648 }
     requires listed { is_loading ≡ false → IsListed (maps.get store.now.live) (list_at lists.old) }
-    requires rest { IsShortList (maps.get store.now.live) short.old }
+    requires rest { IsUnitList (maps.get store.now.live) units.old }
     requires tautologies { IsTautologyList (maps.get store.now.live) tautologies.old }
     ensures watched { (c : Clause) → maps.get store.now.live slot ≡ Some c →
         is_loading ≡ false → HasEntry c slot lists.old lists.new }
     ensures fitting { (c : Clause) → maps.get store.now.live slot ≡ Some c →
         AddsFitting c slot lists.old lists.new }
     ensures rest { (c : Clause) → maps.get store.now.live slot ≡ Some c →
-        (s : ℕ) → times_in s short.new + (if is_short c && s == slot then 1 else 0) ≡
-        times_in s short.old }
+        (s : ℕ) → times_in s units.new + (if is_unit_or_empty c && s == slot then 1 else 0) ≡
+        times_in s units.old }
     ensures tautologies { (c : Clause) → maps.get store.now.live slot ≡ Some c →
         (s : ℕ) → times_in s tautologies.new + (if is_tautology c && s == slot then 1 else 0) ≡
         times_in s tautologies.old }
@@ -129,14 +129,14 @@ pub fn remove_entries(
         entries_in lists.new + (if is_loading || is_unwatched c then 0 else 2) ≡
         entries_in lists.old }
     ensures shorter { (c : Clause) → maps.get store.now.live slot ≡ Some c →
-        length short.new + (if is_short c then 1 else 0) ≡ length short.old }
+        length units.new + (if is_unit_or_empty c then 1 else 0) ≡ length units.old }
     ensures different { (c : Clause) → maps.get store.now.live slot ≡ Some c →
         size c ≡ length c }
 {
     let number = slot.number() as u32;
     let clause = store.clause(slot);
     if clause.len() < 2 {
-        short.remove(number);
+        units.remove(number);
     } else if tautologies.has(number) {
         tautologies.remove(number);
     } else if !is_loading {

@@ -10,8 +10,8 @@ use Rattle.theory.proofs.PropagationLemmas.{Conflicts.conflicts_more, Forced.cla
 use Rattle.propagation.specs.Assumptions.{Assumption, AssumptionsState, roots_in}
 use Rattle.propagation.specs.Code.Closure.{AreForced}
 use Rattle.root_literals.specs.Roots.{AreNoted, AreReasoned, HaveUnits, IsKept, IsKnown, IsStanding}
-use Rattle.root_literals.specs.{Roots.is_up_to_date, Roots.has_clash, declared.roots.Kept.Kept}
-use Rattle.root_literals.specs.declared.roots.Kept.TheVariants.{All, Clash as KeptClash}
+use Rattle.root_literals.specs.{Roots.is_up_to_date, Roots.has_clash, declared.kept.Kept.Kept}
+use Rattle.root_literals.specs.declared.kept.Kept.TheVariants.{All, Clash as KeptClash}
 use Rattle.root_literals.specs.History.{IsHistory, sure_of}
 use Rattle.root_literals.specs.Code.Propagated.{CanSet, PropagatesTo}
 use Rattle.root_literals.specs.{declared.history.History.History, Uses.AreCounted, Watched.IsPart}
@@ -78,7 +78,7 @@ module _ (a b : FinMap nat_cmp Clause) (x y : AssumptionsState) (r s : Literal �
   noted_carried noted = record { each = λ k c is l member. carried.noted l (noted.each k c (ap (λ m. maps.get m k) (sym carried.same) ∙ is) l member) }
 
   pub known_carried : (kept : Kept) (lits : List Literal) → IsPart lits x.trail.lits → IsKnown a kept lits → IsKnown b kept lits
-  known_carried All lits part known = (carried.kept [] lits lits part part known.0, units_carried a b lits carried.same carried.short known.1)
+  known_carried All lits part known = (carried.kept [] lits lits part part known.0, units_carried a b lits carried.same carried.units known.1)
   known_carried kept lits h h2 = grind (arith, units_carried)
 
   -- what is watched still is

@@ -15,7 +15,7 @@ use Rattle.root_literals.specs.{Code.Propagated.PropagatesTo, Order.each_in_orde
 use Rattle.root_literals.proofs.RootLemmas.Order.{has-in_order, seen_there, there_seen}
 use Rattle.root_literals.proofs.RootLemmas.Watched.{unit_more}
 use Rattle.clause_db.specs.Store.{is_tautology}
-use Rattle.watch_lists.specs.Watched.{is_short, short_for, watches}
+use Rattle.watch_lists.specs.Watched.{is_unit_or_empty, unit_for, watches}
 use Rattle.watch_lists.proofs.WatchListsLemmas.Watched.{watches_first}
 use Rattle.trail.proofs.TrailLemmas.Longer.{has_begun}
 use Rattle.propagation.specs.Assumptions.{AssumptionsState}
@@ -54,16 +54,16 @@ clause_closed (a ∷ b ∷ c) trues different unit met apart m member others = b
     by_test t h = grind (arith, by_both, by_two)
 
 -- a unit in another order
-pub unit_alike : (c d : Clause) (trues : List Literal) → is_short d ≡ is_short c → ((l : Literal) → has d l ≡ has c l) → HasUnit c trues → HasUnit d trues
-unit_alike c [] trues short alike unit = no_unit c (λ l. sym (alike l)) unit
+pub unit_alike : (c d : Clause) (trues : List Literal) → is_unit_or_empty d ≡ is_unit_or_empty c → ((l : Literal) → has d l ≡ has c l) → HasUnit c trues → HasUnit d trues
+unit_alike c [] trues units alike unit = no_unit c (λ l. sym (alike l)) unit
   where
     no_unit : (c : Clause) → ((l : Literal) → has c l ≡ false) → HasUnit c trues → HasUnit [] trues
     no_unit [] none h = h
     no_unit (a ∷ c) none h = absurd (true≢false (sym (has_head a c) ∙ none a))
-unit_alike [] (a ∷ []) trues short alike unit = absurd unit
-unit_alike (b ∷ []) (a ∷ []) trues short alike unit = grind (arith, has_cases, has_head, false≢true)
-unit_alike (b ∷ e ∷ c) (a ∷ []) trues short alike unit = absurd (true≢false short)
-unit_alike c (a ∷ b ∷ d) trues short alike unit = tt
+unit_alike [] (a ∷ []) trues units alike unit = absurd unit
+unit_alike (b ∷ []) (a ∷ []) trues units alike unit = grind (arith, has_cases, has_head, false≢true)
+unit_alike (b ∷ e ∷ c) (a ∷ []) trues units alike unit = absurd (true≢false units)
+unit_alike c (a ∷ b ∷ d) trues units alike unit = tt
 
 module _ (live : FinMap nat_cmp Clause) (trues : List Literal) (different : (s : ℕ) (c : Clause) → maps.get live s ≡ Some c → size c ≡ length c)
     (units : (s : ℕ) (c : Clause) → maps.get live s ≡ Some c → HasUnit c trues) (watched : IsWatched (maps.get live) trues trues) (quiet : conflicts trues ≡ false) where
@@ -86,9 +86,9 @@ module _ (live : FinMap nat_cmp Clause) (trues : List Literal) (different : (s :
   all_quiet assumed start (by_both l f g) = apart l (f.in_each (λ l. has trues l) all_closed start) (g.in_each (λ l. has trues l) all_closed start)
 
 -- the units are those of the clauses in another order too
-pub units_carried : (before after : FinMap nat_cmp Clause) (trues : List Literal) → each_in_order after ≡ each_in_order before → ((s : ℕ) → short_for (maps.get after s) ≡ short_for (maps.get before s)) →
+pub units_carried : (before after : FinMap nat_cmp Clause) (trues : List Literal) → each_in_order after ≡ each_in_order before → ((s : ℕ) → unit_for (maps.get after s) ≡ unit_for (maps.get before s)) →
     ((s : ℕ) (c : Clause) → maps.get before s ≡ Some c → HasUnit c trues) → (s : ℕ) (c : Clause) → maps.get after s ≡ Some c → HasUnit c trues
-units_carried before after trues same short units s c is =
+units_carried before after trues same listed units s c is =
     let seen = ap (λ m. maps.get m s) (sym same) ∙ seen_there after s c is in
     grind (arith, there_seen, unit_alike, has-in_order)
   where
@@ -99,4 +99,4 @@ units_carried before after trues same short units s c is =
 pub units_kept : (a b : FinMap nat_cmp Clause) (x y : AssumptionsState) (r t : Literal → Option ℕ) → PropagatesTo a b x y r t →
     ((s : ℕ) (c : Clause) → maps.get a s ≡ Some c → HasUnit c x.trail.lits) → (s : ℕ) (c : Clause) → maps.get b s ≡ Some c → HasUnit c y.trail.lits
 units_kept a b x y r t carried units =
-    units_carried a b y.trail.lits carried.same carried.short (λ s d is. unit_more d x.trail.lits y.trail.lits (λ l h. has_begun x.trail.lits y.trail.lits l carried.extends.begins h) (units s d is))
+    units_carried a b y.trail.lits carried.same carried.units (λ s d is. unit_more d x.trail.lits y.trail.lits (λ l h. has_begun x.trail.lits y.trail.lits l carried.extends.begins h) (units s d is))

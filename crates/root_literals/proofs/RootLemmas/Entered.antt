@@ -13,8 +13,8 @@ use Rattle.root_literals.specs.Roots.{AreNoted, AreReasoned, HasReasons, HaveUni
 use Rattle.root_literals.specs.Roots.{IsKept, IsKnown, has_clash, lacks_units}
 use Rattle.root_literals.specs.{Uses.AreCounted, Uses.clause_in, Uses.is_in, Order.each_in_order}
 use Rattle.root_literals.specs.Watched.{IsPart, IsMet, HasUnit, IsWatched}
-use Rattle.root_literals.specs.declared.roots.Kept.TheVariants.{WithoutUnits, WithUnits, Clash}
-use Rattle.root_literals.specs.declared.roots.{Roots.Roots, Kept.Kept}
+use Rattle.root_literals.specs.declared.kept.Kept.TheVariants.{WithoutUnits, WithUnits, Clash}
+use Rattle.root_literals.specs.declared.{kept.Kept.Kept, roots.Roots.Roots}
 use Rattle.root_literals.proofs.RootLemmas.Watched.{front_part, watched_grown, watched_most}
 use Rattle.root_literals.proofs.RootLemmas.History.{history_none, history_noted, history_one_more}
 use Rattle.root_literals.proofs.RootLemmas.Kept.{elsewhere, false_added, gone, noted_added}

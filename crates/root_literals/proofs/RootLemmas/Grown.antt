@@ -14,7 +14,7 @@ use Rattle.root_literals.specs.Roots.{AreReasoned, IsKept, IsKnown, has_clash, l
 use Rattle.root_literals.specs.{Code.Doubts.AreSettled, Uses.AreCounted}
 use Rattle.root_literals.specs.Watched.{IsPart, IsMet, IsWatched}
 use Rattle.root_literals.specs.{declared.history.History.History, Code.Propagated.PropagatesTo}
-use Rattle.root_literals.specs.declared.roots.{Kept.TheVariants.WithoutUnits, Roots.Roots}
+use Rattle.root_literals.specs.declared.{kept.Kept.TheVariants.WithoutUnits, roots.Roots.Roots}
 use Rattle.root_literals.proofs.RootLemmas.Watched.{front_part, sure_by, watched_done, watched_most}
 use Rattle.root_literals.proofs.RootLemmas.Watched.{watched_grown, watched_more, watched_all}
 use Rattle.root_literals.proofs.RootLemmas.History.{front_in_front, history_longer, watched_nothing}

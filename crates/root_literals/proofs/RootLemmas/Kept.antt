@@ -8,10 +8,10 @@ use Rattle.cnf_base.specs.Literals.{Literal, complement, Clause, has}
 use Rattle.cnf_base.proofs.{MapLemmas.remove_here, MapLemmas.remove_other, SetLemmas.has_head}
 use Rattle.tables.specs.Filled.{at}
 use Rattle.root_literals.specs.History.{IsHistory, IsRewound, sure_of, visits}
-use Rattle.root_literals.specs.declared.roots.Kept.TheVariants.{WithoutUnits, Clash as KeptClash}
+use Rattle.root_literals.specs.declared.kept.Kept.TheVariants.{WithoutUnits, Clash as KeptClash}
 use Rattle.root_literals.specs.Roots.{seen_of, AreNoted, AreReasoned, HasReasons, HaveUnits, lacks_units}
 use Rattle.root_literals.specs.Roots.{IsArranged, IsFalseAt, IsKept, IsKnown, IsReasonAt, has_clash}
-use Rattle.root_literals.specs.declared.roots.{Roots.Roots, Kept.Kept}
+use Rattle.root_literals.specs.declared.{kept.Kept.Kept, roots.Roots.Roots}
 use Rattle.root_literals.specs.{declared.history.History.History, Order.in_order}
 use Rattle.root_literals.specs.Watched.{IsPart, IsMet, HasUnit, IsWatched}
 use Rattle.root_literals.specs.{Uses.AreCounted, Uses.clause_in, Uses.times, Order.each_in_order}

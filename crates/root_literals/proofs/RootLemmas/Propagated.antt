@@ -27,7 +27,7 @@ pub propagates_on : (a b c : FinMap nat_cmp Clause) (x y z : AssumptionsState) (
 propagates_on a b c x y z r s t first second =
     let more : IsPart x.trail.lits y.trail.lits = λ l h. has_begun x.trail.lits y.trail.lits l first.extends.begins h in record {
       same = second.same ∙ first.same;
-      short = λ s. second.short s ∙ first.short s;
+      units = λ s. second.units s ∙ first.units s;
       kept = λ doubts done trues p q w. second.kept doubts done trues (λ l h. more l (p l h)) (λ l h. more l (q l h)) (first.kept doubts done trues p q w);
       sound = λ l h. forced_through (maps.get (each_in_order a)) y.trail.lits x.trail.lits first.sound l (subst (λ m. Forced (maps.get m) y.trail.lits l) first.same (second.sound l h));
       extends = extends_on x y z first.extends second.extends;
@@ -55,7 +55,7 @@ module _ (live : FinMap nat_cmp Clause) (held : AssumptionsState) (slot : ℕ) (
         ((k : Literal) → reason_now k ≡ cond (is_open && eqb k m) (Some slot) (reason_of k)) → PropagatesTo live live held after reason_of reason_now
     propagates_unit after is_open was is reserved assumptions starts reason_of reason_now reasons = record {
       same = refl;
-      short = λ s. refl;
+      units = λ s. refl;
       kept = λ doubts done trues p q w. w;
       sound = λ l h. by_open is_open is l h;
       extends = extends_made held after m is_open was is reserved assumptions starts;

@@ -9,7 +9,7 @@ use Rattle.cnf_base.proofs.SetLemmas.{has_append_right, has_cases, has_head}
 use Rattle.theory.specs.Propagation.{Live}
 use Rattle.root_literals.specs.Watched.{IsPart, HasUnit}
 use Rattle.root_literals.proofs.RootLemmas.Watched.{unit_more}
-use Rattle.watch_lists.specs.Watched.{is_short, short_for, IsShortList}
+use Rattle.watch_lists.specs.Watched.{is_unit_or_empty, unit_for, IsUnitList}
 use Rattle.watch_lists.proofs.WatchListsLemmas.Entries.{has_times}
 use Rattle.trail.proofs.TrailLemmas.Longer.{pushed_each}
 
@@ -21,7 +21,7 @@ only_literal c l is k h = elim (has_cases l [] k (ap (λ d. has d k) (sym is) �
 pub no_literal : (c : Clause) → c ≡ [] → (k : Literal) → has c k ≡ true → ⊥
 no_literal c is k h = false≢true (ap (λ d. has d k) (sym is) ∙ h)
 
-unit_long : (c : Clause) (trues : List Literal) → is_short c ≡ false → HasUnit c trues
+unit_long : (c : Clause) (trues : List Literal) → is_unit_or_empty c ≡ false → HasUnit c trues
 unit_long c trues h = grind (arith, true≢false)
 
 -- a literal that is set where it was open is true
@@ -30,25 +30,25 @@ set_by before after l is_open h h2 = grind (arith, has_append_right, has_head, n
 
 -- ---- The list
 
-module _ (live : Live) (slots : List ℕ) (listed : IsShortList live slots) where
-  pub short_alive : (place : ℕ) → place < length slots → (c : Clause) × (live (get_or slots place 0) ≡ Some c) × (is_short c ≡ true)
-  short_alive place inside = grind (arith, get_or-le-sum_by, eq-eqb, by_clause)
+module _ (live : Live) (slots : List ℕ) (listed : IsUnitList live slots) where
+  pub units_alive : (place : ℕ) → place < length slots → (c : Clause) × (live (get_or slots place 0) ≡ Some c) × (is_unit_or_empty c ≡ true)
+  units_alive place inside = grind (arith, get_or-le-sum_by, eq-eqb, by_clause)
     where
-      by_length : (c : Clause) (b : Bool) → is_short c ≡ b → 0 < cond {A = ℕ} b 1 0 → is_short c ≡ true
+      by_length : (c : Clause) (b : Bool) → is_unit_or_empty c ≡ b → 0 < cond {A = ℕ} b 1 0 → is_unit_or_empty c ≡ true
       by_length c true e h = e
       by_length c false e h = absurd (omega (arith, h))
 
-      by_clause : (o : Option Clause) → live (get_or slots place 0) ≡ o → 0 < short_for o → (c : Clause) × (live (get_or slots place 0) ≡ Some c) × (is_short c ≡ true)
+      by_clause : (o : Option Clause) → live (get_or slots place 0) ≡ o → 0 < unit_for o → (c : Clause) × (live (get_or slots place 0) ≡ Some c) × (is_unit_or_empty c ≡ true)
       by_clause None is h = absurd (omega (arith, h))
-      by_clause (Some c) is h = (c, is, by_length c (is_short c) refl h)
+      by_clause (Some c) is h = (c, is, by_length c (is_unit_or_empty c) refl h)
 
   pub all_units : (trues : List Literal) (place : ℕ) → length slots ≤ place → ((s : ℕ) → has (take place slots) s ≡ true → (c : Clause) → live s ≡ Some c → HasUnit c trues) →
       (s : ℕ) (c : Clause) → live s ≡ Some c → HasUnit c trues
-  all_units trues place past set s c is = by_length (is_short c) refl
+  all_units trues place past set s c is = by_length (is_unit_or_empty c) refl
     where
-      by_length : (b : Bool) → is_short c ≡ b → HasUnit c trues
+      by_length : (b : Bool) → is_unit_or_empty c ≡ b → HasUnit c trues
       by_length true e =
-          let count = listed.listed s ∙ ap short_for is ∙ ap (λ b. cond {A = ℕ} b 1 0) e in
+          let count = listed.listed s ∙ ap unit_for is ∙ ap (λ b. cond {A = ℕ} b 1 0) e in
           set s (ap (λ xs. has xs s) (take_all place slots past) ∙ has_times slots s (omega (arith, count))) c is
       by_length false e = unit_long c trues e
 

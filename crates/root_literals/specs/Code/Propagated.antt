@@ -8,7 +8,7 @@ use Rattle.theory.specs.Propagation.{Forced}
 use Rattle.trail.specs.Trail.{HasRoomForAll}
 use Rattle.propagation.specs.Assumptions.{AssumptionsState}
 use Rattle.propagation.specs.Code.Exact.{Extends}
-use Rattle.watch_lists.specs.Watched.{short_for}
+use Rattle.watch_lists.specs.Watched.{unit_for}
 use Rattle.root_literals.specs.History.{sure_of}
 use Rattle.root_literals.specs.Order.{each_in_order}
 use Rattle.root_literals.specs.Roots.{AreNoted, AreReasoned}
@@ -29,7 +29,7 @@ AreFalse trues c = (k : Literal) → IsTrue (has c k) → IsTrue (has trues (com
 pub record PropagatesTo (before after : FinMap nat_cmp Clause) (held now : AssumptionsState)
     (reason_of reason_now : Literal → Option ℕ) : Type 0 where
   pub same : each_in_order after ≡ each_in_order before
-  pub short : (s : ℕ) → short_for (maps.get after s) ≡ short_for (maps.get before s)
+  pub units : (s : ℕ) → unit_for (maps.get after s) ≡ unit_for (maps.get before s)
   pub kept : (doubts : List ℕ) (done trues : List Literal) → IsPart done held.trail.lits →
       IsPart trues held.trail.lits → IsWatched (sure_of doubts (maps.get before)) done trues →
       IsWatched (sure_of doubts (maps.get after)) done trues

@@ -4,8 +4,10 @@ use crate::tests::asserts::{expect_equal, expect_equal_at, expect_true};
 use cnf_base::{Lit, OutOfMemory};
 use std::test::Fail;
 use test_inputs::literal;
-use trail::{Except, Left, Part, Trail, Value, Whole};
-use trail::{is_false_under, is_true_under, last_non_false_under, left_of};
+use trail::{
+    Except, Left, Part, Trail, Value, Whole, is_false_under, is_true_under, last_non_false_under,
+    left_of,
+};
 
 /// Makes room for the literal's variable, and sets it where it is open.
 fn set_open(trail: &mut Trail, l: Lit) -> Result<(), OutOfMemory> {

@@ -7,13 +7,13 @@ use Rattle.std.specs.FinMap.{FinMap}
 use Rattle.cnf_base.specs.Literals.{Clause, size}
 use Rattle.watch_lists.specs.Lists.{entries_in, entries_of, list_at, unfit_entries}
 use Rattle.watch_lists.specs.declared.lists.WatchLists.{WatchLists}
-use Rattle.watch_lists.specs.Watched.{AddsFitting, HasEntry, is_short, is_unwatched, HasAll}
+use Rattle.watch_lists.specs.Watched.{AddsFitting, HasEntry, is_unit_or_empty, is_unwatched, HasAll}
 use Rattle.watch.specs.Code.State.{AreLists}
 use Rattle.watch_lists.proofs.WatchListsLemmas.Made.{all_added, all_removed, long_is, low_added}
 use Rattle.watch_lists.proofs.WatchListsLemmas.Made.{low_left}
 
-pub short_weight : (c : Clause) → size c ≡ length c → cond {A = ℕ} (nat_le 2 (size c)) 0 1 ≡ cond (is_short c) 1 0
-short_weight c different = ap (λ b. cond b 0 1) (long_is c different) ∙ by_test (is_short c)
+pub unit_weight : (c : Clause) → size c ≡ length c → cond {A = ℕ} (nat_le 2 (size c)) 0 1 ≡ cond (is_unit_or_empty c) 1 0
+unit_weight c different = ap (λ b. cond b 0 1) (long_is c different) ∙ by_test (is_unit_or_empty c)
   where
     by_test : (b : Bool) → cond {A = ℕ} (not b) 0 1 ≡ cond b 1 0
     by_test true = refl

@@ -18,7 +18,7 @@ use Rattle.theory.specs.Propagation.{Live}
 use Rattle.watch_lists.specs.Lists.{entries_of, fits, unfit_entries}
 use Rattle.clause_db.specs.Store.{is_tautology}
 use Rattle.clause_db.proofs.StoreLemmas.Swap.{has_swapped}
-use Rattle.watch_lists.specs.Watched.{watches, is_first, is_short, entries_for, short_for, IsListed}
+use Rattle.watch_lists.specs.Watched.{watches, is_first, is_unit_or_empty, entries_for, unit_for, IsListed}
 use Rattle.root_literals.specs.Watched.{IsMet, IsWatched}
 use Rattle.watch_lists.proofs.WatchListsLemmas.Made.{and_false, and_true}
 use Rattle.watch_lists.proofs.WatchListsLemmas.Watched.{tautology_alike, watches_first}
@@ -104,14 +104,14 @@ module _ (l m : Literal) where
       by_test false n e = absurd (let wrong : ⊥ = omega (arith, e) in wrong)
 
 -- it is as long as it was
-pub short_moved : (c : Clause) (from to : ℕ) → from < 2 → 2 ≤ to → to < length c → is_short (swap c from to) ≡ is_short c
-short_moved [] from to low past inside = refl
-short_moved (a ∷ []) from to low past inside = absurd (omega (arith, inside, past))
-short_moved (a ∷ b ∷ c) from zero low past inside = absurd (omega (arith, past))
-short_moved (a ∷ b ∷ c) from (suc zero) low past inside = absurd (omega (arith, past))
-short_moved (a ∷ b ∷ c) zero (suc (suc k)) low past inside = refl
-short_moved (a ∷ b ∷ c) (suc zero) (suc (suc k)) low past inside = refl
-short_moved (a ∷ b ∷ c) (suc (suc from)) (suc (suc k)) low past inside = absurd (omega (arith, low))
+pub units_moved : (c : Clause) (from to : ℕ) → from < 2 → 2 ≤ to → to < length c → is_unit_or_empty (swap c from to) ≡ is_unit_or_empty c
+units_moved [] from to low past inside = refl
+units_moved (a ∷ []) from to low past inside = absurd (omega (arith, inside, past))
+units_moved (a ∷ b ∷ c) from zero low past inside = absurd (omega (arith, past))
+units_moved (a ∷ b ∷ c) from (suc zero) low past inside = absurd (omega (arith, past))
+units_moved (a ∷ b ∷ c) zero (suc (suc k)) low past inside = refl
+units_moved (a ∷ b ∷ c) (suc zero) (suc (suc k)) low past inside = refl
+units_moved (a ∷ b ∷ c) (suc (suc from)) (suc (suc k)) low past inside = absurd (omega (arith, low))
 
 -- literals at two places of a clause that repeats none
 pub places_apart : (c : Clause) (i j : ℕ) (l m : Literal) → size c ≡ length c → i < j → j < length c → get_or c i 0 ≡ l → get_or c j 0 ≡ m → l ≢ m
@@ -259,12 +259,12 @@ module _ (live : FinMap nat_cmp Clause) (slot : ℕ) (c d : Clause) (here : maps
         ];
   }
 
-  pub shorts_moved : is_short d ≡ is_short c → (s : ℕ) → short_for (maps.get (maps.insert live slot d) s) ≡ short_for (maps.get live s)
-  shorts_moved alike s = elim (cases_eq s slot) [
+  pub all_units_moved : is_unit_or_empty d ≡ is_unit_or_empty c → (s : ℕ) → unit_for (maps.get (maps.insert live slot d) s) ≡ unit_for (maps.get live s)
+  all_units_moved alike s = elim (cases_eq s slot) [
     | inl e ↦
-        ap (λ k. short_for (maps.get (maps.insert live slot d) k)) e ∙ ap short_for at_slot ∙ ap (λ b. cond b 1 0) alike
-        ∙ sym (ap short_for here) ∙ ap (λ k. short_for (maps.get live k)) (sym e)
-    | inr ne ↦ ap short_for (at_others s ne)
+        ap (λ k. unit_for (maps.get (maps.insert live slot d) k)) e ∙ ap unit_for at_slot ∙ ap (λ b. cond b 1 0) alike
+        ∙ sym (ap unit_for here) ∙ ap (λ k. unit_for (maps.get live k)) (sym e)
+    | inr ne ↦ ap unit_for (at_others s ne)
   ]
 
 -- ---- A slot in the list that is in hand

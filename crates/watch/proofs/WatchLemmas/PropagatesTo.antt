@@ -15,7 +15,7 @@ use Rattle.root_literals.specs.Order.{each_in_order}
 use Rattle.root_literals.specs.Code.Propagated.{PropagatesTo}
 use Rattle.root_literals.proofs.RootLemmas.Order.{ordered_same}
 use Rattle.root_literals.proofs.RootLemmas.Propagated.{extends_none}
-use Rattle.watch.proofs.WatchLemmas.Moves.{entries_moved, short_moved, shorts_moved, still_watched}
+use Rattle.watch.proofs.WatchLemmas.Moves.{entries_moved, units_moved, all_units_moved, still_watched}
 use Rattle.watch.proofs.WatchLemmas.Moves.{watched_moved}
 
 -- the literal m, which isn't false, is exchanged with l, which is
@@ -24,7 +24,7 @@ module _ (live : FinMap nat_cmp Clause) (held : AssumptionsState) (slot : ℕ) (
       (reason_of : Literal → Option ℕ) → PropagatesTo live (maps.insert live slot (swap c from to)) held held reason_of reason_of
   propagates_moved from to l m apart different low there past inside to_is m_open reason_of = record {
     same = ordered_same live slot c (swap c from to) here swapped;
-    short = shorts_moved live slot c (swap c from to) here l m moved (short_moved c from to low past inside);
+    units = all_units_moved live slot c (swap c from to) here l m moved (units_moved c from to low past inside);
     kept = λ doubts done trues p q w.
         watched_moved live slot c (swap c from to) here l m moved doubts done trues
         (λ x h old there.

@@ -22,15 +22,15 @@ use Rattle.propagation.specs.Code.Closure.{AreForced}
 use Rattle.watch.specs.Code.State.{AddsRoom, AreLists, HaveReasons, IsWatch}
 use Rattle.root_literals.specs.Code.Propagated.{PropagatesTo}
 use Rattle.root_literals.specs.Watched.{IsPart, AreWatched, IsWatched}
-use Rattle.watch_lists.specs.Watched.{AreUnchanged, HasEntry, IsListed, AddsFitting, IsShortList}
-use Rattle.watch_lists.specs.Watched.{IsTautologyList, is_short, is_unwatched, tautology_for}
-use Rattle.watch_lists.specs.Watched.{short_for, watched_clauses}
+use Rattle.watch_lists.specs.Watched.{AreUnchanged, HasEntry, IsListed, AddsFitting, IsUnitList}
+use Rattle.watch_lists.specs.Watched.{IsTautologyList, is_unit_or_empty, is_unwatched, tautology_for}
+use Rattle.watch_lists.specs.Watched.{unit_for, watched_clauses}
 use Rattle.clause_db.specs.Store.{is_tautology}
-use Rattle.propagation.specs.Slots.{short_clauses}
+use Rattle.propagation.specs.Slots.{unit_or_empty_clauses}
 use Rattle.propagation.specs.declared.answer.Answer.{Answer}
 use Rattle.propagation.specs.declared.answer.Answer.TheVariants.{Quiet}
 use Rattle.watch_lists.specs.declared.lists.WatchLists.{WatchLists}
-use Rattle.root_literals.specs.declared.roots.Kept.TheVariants.{WithoutUnits}
+use Rattle.root_literals.specs.declared.kept.Kept.TheVariants.{WithoutUnits}
 use Rattle.root_literals.specs.declared.roots.Roots.{Roots}
 use Rattle.tables.specs.Filled.{at}
 use Rattle.propagation.proofs.PropagationLemmas.Exact.{begins_on, longer_from}
@@ -38,7 +38,7 @@ use Rattle.trail.proofs.TrailLemmas.Longer.{has_begun}
 use Rattle.propagation.proofs.PropagationLemmas.Scan.{held_reserved}
 use Rattle.root_literals.proofs.RootLemmas.Watched.{front_part}
 use Rattle.watch_lists.proofs.WatchListsLemmas.Made.{added, is_counted, removed}
-use Rattle.watch.proofs.WatchLemmas.Lists.{lists_added, lists_removed, lists_same, short_weight}
+use Rattle.watch.proofs.WatchLemmas.Lists.{lists_added, lists_removed, lists_same, unit_weight}
 use Rattle.root_literals.proofs.RootLemmas.Carried.{kept_carried, kept_forced, roots_alone}
 use Rattle.root_literals.proofs.RootLemmas.Carried.{roots_part}
 use Rattle.root_literals.proofs.RootLemmas.Kept.{kept_nothing, seen_same}
@@ -60,14 +60,14 @@ watched_shown =
     sum_ordered (λ c. cond (is_counted c) 1 0) (λ c. cond (is_counted c) 1 0)
     (λ c i. cond (nat_le 2 (size-in_order c i) && not (tautology-in_order c i)) 1 0)
 
-pub short_shown : (live : FinMap nat_cmp Clause) → short_clauses (each_in_order live) ≡ short_clauses live
-short_shown = sum_ordered (λ c. cond (nat_le 2 (size c)) 0 1) (λ c. cond (nat_le 2 (size c)) 0 1) (λ c. ap (λ n. cond (nat_le 2 n) 0 1) (size-in_order c))
+pub units_shown : (live : FinMap nat_cmp Clause) → unit_or_empty_clauses (each_in_order live) ≡ unit_or_empty_clauses live
+units_shown = sum_ordered (λ c. cond (nat_le 2 (size c)) 0 1) (λ c. cond (nat_le 2 (size c)) 0 1) (λ c. ap (λ n. cond (nat_le 2 n) 0 1) (size-in_order c))
 
 pub watched_alike : (before after : FinMap nat_cmp Clause) → each_in_order after ≡ each_in_order before → watched_clauses after ≡ watched_clauses before
 watched_alike before after same = sym (watched_shown after) ∙ ap watched_clauses same ∙ watched_shown before
 
-pub short_alike : (before after : FinMap nat_cmp Clause) → each_in_order after ≡ each_in_order before → short_clauses after ≡ short_clauses before
-short_alike before after same = sym (short_shown after) ∙ ap short_clauses same ∙ short_shown before
+pub units_alike : (before after : FinMap nat_cmp Clause) → each_in_order after ≡ each_in_order before → unit_or_empty_clauses after ≡ unit_or_empty_clauses before
+units_alike before after same = sym (units_shown after) ∙ ap unit_or_empty_clauses same ∙ units_shown before
 
 -- ---- Levels
 
@@ -88,7 +88,7 @@ same_roots before after lits_are assumptions_are starts_are =
 
 -- ---- One more assumption
 
-module _ (live live2 : FinMap nat_cmp Clause) (lists lists2 : WatchLists) (short : List ℕ) (roots roots2 : Roots) (before after found : AssumptionsState) (watch : IsWatch false live lists short roots before)
+module _ (live live2 : FinMap nat_cmp Clause) (lists lists2 : WatchLists) (units : List ℕ) (roots roots2 : Roots) (before after found : AssumptionsState) (watch : IsWatch false live lists units roots before)
     (carried : PropagatesTo live live2 after found (at roots.reasons) (at roots2.reasons)) (as_before : roots2 ≡ record roots { reasons = roots2.reasons }) (listed : IsListed (maps.get live2) (list_at lists2)) (entries : entries_in lists2 ≡ entries_in lists)
     (begins : take (length before.trail.lits) after.trail.lits ≡ before.trail.lits) where
   as_known : roots2.kept ≡ roots.kept
@@ -106,13 +106,13 @@ module _ (live live2 : FinMap nat_cmp Clause) (lists lists2 : WatchLists) (short
       (λ l h. has_begun before.trail.lits after.trail.lits l begins (roots_part before.trail.lits before.assumptions before.starts l h)) watch.kept
 
   watch_with : (last : AssumptionsState) → SameSet last.trail.reserved before.trail.reserved → IsHeld (each_in_order live) (AreForced (maps.get (each_in_order live))) last → AreWatched (maps.get live2) last.trail.lits last.assumptions last.starts →
-      IsKept live2 roots2 (roots_in last.trail.lits last.assumptions last.starts) → IsStanding roots2.kept last.assumptions → IsWatch false live2 lists2 short roots2 last
+      IsKept live2 roots2 (roots_in last.trail.lits last.assumptions last.starts) → IsStanding roots2.kept last.assumptions → IsWatch false live2 lists2 units roots2 last
   watch_with last reserved scan watched kept standing = record {
     scan = subst (λ m. IsHeld m (AreForced (maps.get m)) last) (sym carried.same) scan;
     listed = record { each = listed; two_each = entries ∙ watch.listed.two_each ∙ ap (λ n. 2 * n) (sym (watched_alike live live2 carried.same)) };
-    rest = record { listed = λ s. watch.rest.listed s ∙ sym (carried.short s) };
+    rest = record { listed = λ s. watch.rest.listed s ∙ sym (carried.units s) };
     watched = watched;
-    one_each = watch.one_each ∙ sym (short_alike live live2 carried.same);
+    one_each = watch.one_each ∙ sym (units_alike live live2 carried.same);
     kept = kept;
     standing = standing;
     noted = λ l h. carried.noted l (watch.noted l (sym (reserved (variable l)) ∙ h));
@@ -121,7 +121,7 @@ module _ (live live2 : FinMap nat_cmp Clause) (lists lists2 : WatchLists) (short
   -- it is answered
   pub watch_answered : is_up_to_date roots.kept ≡ true → (last : AssumptionsState) (answer : Answer) (all : List Literal) → last.trail ≡ found.trail → last.assumptions ≡ record { answer = answer; assumed = all } ∷ before.assumptions →
       last.starts ≡ length before.trail.lits ∷ before.starts → (answer ≡ Quiet → IsWatched (maps.get live2) found.trail.lits found.trail.lits) → SameSet last.trail.reserved before.trail.reserved → IsHeld (each_in_order live) (AreForced (maps.get (each_in_order live))) last →
-      IsWatch false live2 lists2 short roots2 last
+      IsWatch false live2 lists2 units roots2 last
   watch_answered up last answer all trail stand starts quiet reserved scan =
       watch_with last reserved scan
       (subst (λ t. AreWatched (maps.get live2) t.lits last.assumptions last.starts) (sym trail)
@@ -136,7 +136,7 @@ module _ (live live2 : FinMap nat_cmp Clause) (lists lists2 : WatchLists) (short
 
   -- it is taken back
   pub watch_undone : (last : AssumptionsState) (all : Assumption) → found.assumptions ≡ all ∷ before.assumptions → found.starts ≡ length before.trail.lits ∷ before.starts → last.assumptions ≡ drop 1 found.assumptions →
-      last.starts ≡ drop 1 found.starts → last.trail.lits ≡ take (slice_index found.starts 0) found.trail.lits → SameSet last.trail.reserved before.trail.reserved → IsWatch false live2 lists2 short roots2 last
+      last.starts ≡ drop 1 found.starts → last.trail.lits ≡ take (slice_index found.starts 0) found.trail.lits → SameSet last.trail.reserved before.trail.reserved → IsWatch false live2 lists2 units roots2 last
   watch_undone last all stand starts assumptions_are starts_are lits_are reserved =
       let same_assumptions = assumptions_are ∙ ap (drop 1) stand in
       let same_starts = starts_are ∙ ap (drop 1) starts in
@@ -151,9 +151,9 @@ module _ (live live2 : FinMap nat_cmp Clause) (lists lists2 : WatchLists) (short
 
 -- ---- Where nothing changes but room and order
 
-watch_reserved : (loading : Bool) (live : FinMap nat_cmp Clause) (lists : WatchLists) (short : List ℕ) (roots : Roots) (before after : AssumptionsState) → after.trail.lits ≡ before.trail.lits → after.assumptions ≡ before.assumptions → after.starts ≡ before.starts →
-    ((v : ℕ) → has before.trail.reserved v ≡ true → has after.trail.reserved v ≡ true) → HaveReasons after.trail.reserved (at roots.reasons) → IsWatch loading live lists short roots before → IsWatch loading live lists short roots after
-watch_reserved loading live lists short roots before after lits_are assumptions_are starts_are within noted watch = record {
+watch_reserved : (loading : Bool) (live : FinMap nat_cmp Clause) (lists : WatchLists) (units : List ℕ) (roots : Roots) (before after : AssumptionsState) → after.trail.lits ≡ before.trail.lits → after.assumptions ≡ before.assumptions → after.starts ≡ before.starts →
+    ((v : ℕ) → has before.trail.reserved v ≡ true → has after.trail.reserved v ≡ true) → HaveReasons after.trail.reserved (at roots.reasons) → IsWatch loading live lists units roots before → IsWatch loading live lists units roots after
+watch_reserved loading live lists units roots before after lits_are assumptions_are starts_are within noted watch = record {
   scan = held_reserved (each_in_order live) (AreForced (maps.get (each_in_order live))) before after lits_are assumptions_are starts_are within watch.scan;
   listed = watch.listed;
   rest = watch.rest;
@@ -168,9 +168,9 @@ watch_reserved loading live lists short roots before after lits_are assumptions_
 }
 
 -- more room for reasons
-watch_noted : (loading : Bool) (live : FinMap nat_cmp Clause) (lists : WatchLists) (short : List ℕ) (roots after : Roots) (held : AssumptionsState) → after.kept ≡ roots.kept → after.history ≡ roots.history → after.uses.counted ≡ roots.uses.counted → ((k : Literal) → times after.uses k ≡ times roots.uses k) →
-    ((l : Literal) → is_some (at roots.reasons l) ≡ true → at after.reasons l ≡ at roots.reasons l) → IsWatch loading live lists short roots held → IsWatch loading live lists short after held
-watch_noted loading live lists short roots after held kept_is history_is counted_is times_are old watch = record {
+watch_noted : (loading : Bool) (live : FinMap nat_cmp Clause) (lists : WatchLists) (units : List ℕ) (roots after : Roots) (held : AssumptionsState) → after.kept ≡ roots.kept → after.history ≡ roots.history → after.uses.counted ≡ roots.uses.counted → ((k : Literal) → times after.uses k ≡ times roots.uses k) →
+    ((l : Literal) → is_some (at roots.reasons l) ≡ true → at after.reasons l ≡ at roots.reasons l) → IsWatch loading live lists units roots held → IsWatch loading live lists units after held
+watch_noted loading live lists units roots after held kept_is history_is counted_is times_are old watch = record {
   scan = watch.scan;
   listed = watch.listed;
   rest = watch.rest;
@@ -194,14 +194,14 @@ watch_noted loading live lists short roots after held kept_is history_is counted
 }
 
 -- more room for variables, and for the reasons of their literals
-pub watch_room : {loading : Bool} {live : FinMap nat_cmp Clause} {lists : WatchLists} {short : List ℕ} {roots roots2 : Roots} {held held2 : AssumptionsState} → AddsRoom held held2 roots roots2 →
-    HaveReasons held2.trail.reserved (at roots2.reasons) → IsWatch loading live lists short roots held → IsWatch loading live lists short roots2 held2
-watch_room {loading} {live} {lists} {short} {roots} {roots2} {held} {held2} more noted watch =
-    watch_reserved loading live lists short roots2 held held2 more.lits more.assumptions more.starts more.reserved noted (watch_noted loading live lists short roots roots2 held more.kept more.history more.counted more.times more.reasons watch)
+pub watch_room : {loading : Bool} {live : FinMap nat_cmp Clause} {lists : WatchLists} {units : List ℕ} {roots roots2 : Roots} {held held2 : AssumptionsState} → AddsRoom held held2 roots roots2 →
+    HaveReasons held2.trail.reserved (at roots2.reasons) → IsWatch loading live lists units roots held → IsWatch loading live lists units roots2 held2
+watch_room {loading} {live} {lists} {units} {roots} {roots2} {held} {held2} more noted watch =
+    watch_reserved loading live lists units roots2 held held2 more.lits more.assumptions more.starts more.reserved noted (watch_noted loading live lists units roots roots2 held more.kept more.history more.counted more.times more.reasons watch)
 
-pub watch_same : (loading : Bool) (live : FinMap nat_cmp Clause) (lists after : WatchLists) (short : List ℕ) (roots : Roots) (held : AssumptionsState) → ((l s : ℕ) → entries_of s (list_at after l) ≡ entries_of s (list_at lists l)) →
-    ((l s : ℕ) (c : Clause) → maps.get live s ≡ Some c → unfit_entries s c l (list_at after l) ≤ unfit_entries s c l (list_at lists l)) → entries_in after ≡ entries_in lists → IsWatch loading live lists short roots held → IsWatch loading live after short roots held
-watch_same loading live lists after short roots held times fewer entries watch = record {
+pub watch_same : (loading : Bool) (live : FinMap nat_cmp Clause) (lists after : WatchLists) (units : List ℕ) (roots : Roots) (held : AssumptionsState) → ((l s : ℕ) → entries_of s (list_at after l) ≡ entries_of s (list_at lists l)) →
+    ((l s : ℕ) (c : Clause) → maps.get live s ≡ Some c → unfit_entries s c l (list_at after l) ≤ unfit_entries s c l (list_at lists l)) → entries_in after ≡ entries_in lists → IsWatch loading live lists units roots held → IsWatch loading live after units roots held
+watch_same loading live lists after units roots held times fewer entries watch = record {
   scan = watch.scan;
   listed = lists_same loading live lists after times fewer entries watch.listed;
   rest = watch.rest;
@@ -213,16 +213,16 @@ watch_same loading live lists after short roots held times fewer entries watch =
 }
 
 -- the lists were taken out and put back
-pub watch_put_back : (loading : Bool) (live : FinMap nat_cmp Clause) (lists after : WatchLists) (short : List ℕ) (roots : Roots) (held : AssumptionsState) → AreUnchanged lists after → IsWatch loading live lists short roots held → IsWatch loading live after short roots held
-watch_put_back loading live lists after short roots held same watch =
-    watch_same loading live lists after short roots held (λ l s. ap (entries_of s) (same.lists l)) (λ l s c _. let e = ap (unfit_entries s c l) (same.lists l) in omega (arith, e)) same.entries watch
+pub watch_put_back : (loading : Bool) (live : FinMap nat_cmp Clause) (lists after : WatchLists) (units : List ℕ) (roots : Roots) (held : AssumptionsState) → AreUnchanged lists after → IsWatch loading live lists units roots held → IsWatch loading live after units roots held
+watch_put_back loading live lists after units roots held same watch =
+    watch_same loading live lists after units roots held (λ l s. ap (entries_of s) (same.lists l)) (λ l s c _. let e = ap (unfit_entries s c l) (same.lists l) in omega (arith, e)) same.entries watch
 
 -- ---- Where nothing is assumed
 
-pub watch_alone : (loading : Bool) (live : FinMap nat_cmp Clause) (lists : WatchLists) (short : List ℕ) (roots : Roots) (held : AssumptionsState) → held.assumptions ≡ [] → HasRoomForAll held.trail.reserved (maps.get (each_in_order live)) →
-    AreLists loading live lists → IsShortList (maps.get live) short → length short ≡ short_clauses live → IsKept live roots held.trail.lits → HaveReasons held.trail.reserved (at roots.reasons) →
-    IsWatch loading live lists short roots held
-watch_alone loading live lists short roots held nothing room listed rest one_each kept noted = record {
+pub watch_alone : (loading : Bool) (live : FinMap nat_cmp Clause) (lists : WatchLists) (units : List ℕ) (roots : Roots) (held : AssumptionsState) → held.assumptions ≡ [] → HasRoomForAll held.trail.reserved (maps.get (each_in_order live)) →
+    AreLists loading live lists → IsUnitList (maps.get live) units → length units ≡ unit_or_empty_clauses live → IsKept live roots held.trail.lits → HaveReasons held.trail.reserved (at roots.reasons) →
+    IsWatch loading live lists units roots held
+watch_alone loading live lists units roots held nothing room listed rest one_each kept noted = record {
   scan = record {
     room = room;
     exact = subst (λ xs. AreExact (maps.get (each_in_order live)) (AreForced (maps.get (each_in_order live))) held.trail.lits xs held.starts) (sym nothing) (kept_forced live roots held.trail.lits kept);
@@ -237,60 +237,60 @@ watch_alone loading live lists short roots held nothing room listed rest one_eac
 }
 
 -- what is kept there
-pub alone_kept : (loading : Bool) (live : FinMap nat_cmp Clause) (lists : WatchLists) (short : List ℕ) (roots : Roots) (held : AssumptionsState) → IsWatch loading live lists short roots held → held.assumptions ≡ [] → IsKept live roots held.trail.lits
-alone_kept loading live lists short roots held watch nothing = subst (IsKept live roots) (roots_alone held.trail.lits held.assumptions held.starts nothing) watch.kept
+pub alone_kept : (loading : Bool) (live : FinMap nat_cmp Clause) (lists : WatchLists) (units : List ℕ) (roots : Roots) (held : AssumptionsState) → IsWatch loading live lists units roots held → held.assumptions ≡ [] → IsKept live roots held.trail.lits
+alone_kept loading live lists units roots held watch nothing = subst (IsKept live roots) (roots_alone held.trail.lits held.assumptions held.starts nothing) watch.kept
 
 -- it is brought up to date
-pub watch_refreshed : (live live2 : FinMap nat_cmp Clause) (lists lists2 : WatchLists) (short : List ℕ) (roots roots2 : Roots) (held held2 : AssumptionsState) → IsWatch false live lists short roots held → held2.assumptions ≡ [] → SameSet held2.trail.reserved held.trail.reserved →
-    each_in_order live2 ≡ each_in_order live → ((s : ℕ) → short_for (maps.get live2 s) ≡ short_for (maps.get live s)) → IsListed (maps.get live2) (list_at lists2) → entries_in lists2 ≡ entries_in lists →
-    IsKept live2 roots2 held2.trail.lits → ((l : Literal) → is_some (at roots.reasons l) ≡ true → is_some (at roots2.reasons l) ≡ true) → IsWatch false live2 lists2 short roots2 held2
-watch_refreshed live live2 lists lists2 short roots roots2 held held2 watch nothing reserved same shorts listed entries kept noted =
-    watch_alone false live2 lists2 short roots2 held2 nothing (record { each = λ k c here l member. reserved (l / 2) ∙ watch.scan.room.each k c (ap (λ m. maps.get m k) (sym same) ∙ here) l member })
+pub watch_refreshed : (live live2 : FinMap nat_cmp Clause) (lists lists2 : WatchLists) (units : List ℕ) (roots roots2 : Roots) (held held2 : AssumptionsState) → IsWatch false live lists units roots held → held2.assumptions ≡ [] → SameSet held2.trail.reserved held.trail.reserved →
+    each_in_order live2 ≡ each_in_order live → ((s : ℕ) → unit_for (maps.get live2 s) ≡ unit_for (maps.get live s)) → IsListed (maps.get live2) (list_at lists2) → entries_in lists2 ≡ entries_in lists →
+    IsKept live2 roots2 held2.trail.lits → ((l : Literal) → is_some (at roots.reasons l) ≡ true → is_some (at roots2.reasons l) ≡ true) → IsWatch false live2 lists2 units roots2 held2
+watch_refreshed live live2 lists lists2 units roots roots2 held held2 watch nothing reserved same unit_slots listed entries kept noted =
+    watch_alone false live2 lists2 units roots2 held2 nothing (record { each = λ k c here l member. reserved (l / 2) ∙ watch.scan.room.each k c (ap (λ m. maps.get m k) (sym same) ∙ here) l member })
     (record { each = listed; two_each = entries ∙ watch.listed.two_each ∙ ap (λ n. 2 * n) (sym (watched_alike live live2 same)) })
-    (record { listed = λ s. watch.rest.listed s ∙ sym (shorts s) }) (watch.one_each ∙ sym (short_alike live live2 same)) kept
+    (record { listed = λ s. watch.rest.listed s ∙ sym (unit_slots s) }) (watch.one_each ∙ sym (units_alike live live2 same)) kept
     (λ l h. noted l (watch.noted l (sym (reserved (variable l)) ∙ h)))
 
 -- ---- No clauses
 
-pub watch_empty : (live : FinMap nat_cmp Clause) (lists : WatchLists) (short : List ℕ) (roots : Roots) (held : AssumptionsState) → live ≡ maps.empty → entries_in lists ≡ 0 → short ≡ [] →
+pub watch_empty : (live : FinMap nat_cmp Clause) (lists : WatchLists) (units : List ℕ) (roots : Roots) (held : AssumptionsState) → live ≡ maps.empty → entries_in lists ≡ 0 → units ≡ [] →
     roots.kept ≡ WithoutUnits → roots.history.visited.items ≡ [] → held.trail.lits ≡ [] → held.trail.reserved ≡ [] → held.assumptions ≡ [] → roots.uses.counted ≡ 0 →
-    IsWatch true live lists short roots held
-watch_empty live lists short roots held none no_entries no_short cut unseen unset no_room nothing uncounted =
+    IsWatch true live lists units roots held
+watch_empty live lists units roots held none no_entries no_unit_entry cut unseen unset no_room nothing uncounted =
     let gone = λ (s : ℕ). ap (λ m. maps.get m s) none ∙ maps.get-empty nat_cmp s in
     let gone_shown = λ (s : ℕ). ap (λ m. maps.get m s) (ap each_in_order none ∙ ordered_empty) ∙ maps.get-empty nat_cmp s in
-    watch_alone true live lists short roots held nothing (record { each = λ k c here. absurd (none-some c (sym (gone_shown k) ∙ here)) })
+    watch_alone true live lists units roots held nothing (record { each = λ k c here. absurd (none-some c (sym (gone_shown k) ∙ here)) })
     (record { none = no_entries; low = λ s is. absurd (false≢true (sym (ap is_some (gone s)) ∙ is)) })
-    (record { listed = λ s. ap (times_in s) no_short ∙ sym (ap short_for (gone s)) })
-    (ap length no_short ∙ sym (ap short_clauses none ∙ sum_empty (λ c. cond (nat_le 2 (size c)) 0 1)))
+    (record { listed = λ s. ap (times_in s) no_unit_entry ∙ sym (ap unit_for (gone s)) })
+    (ap length no_unit_entry ∙ sym (ap unit_or_empty_clauses none ∙ sum_empty (λ c. cond (nat_le 2 (size c)) 0 1)))
     (kept_nothing live roots held.trail.lits (record { each = λ s c here. absurd (none-some c (sym (gone_shown s) ∙ here)) }) cut (ap length unseen) unset uncounted)
     (λ l h. absurd (false≢true (ap (λ vs. has vs (variable l)) (sym no_room) ∙ h)))
 
 -- ---- One clause more or less, where nothing is assumed
 
-module _ (loading : Bool) (live after : FinMap nat_cmp Clause) (lists lists2 : WatchLists) (short short2 : List ℕ) (roots roots2 : Roots) (held held2 : AssumptionsState) (watch : IsWatch loading live lists short roots held) (nothing : held2.assumptions ≡ [])
+module _ (loading : Bool) (live after : FinMap nat_cmp Clause) (lists lists2 : WatchLists) (units short2 : List ℕ) (roots roots2 : Roots) (held held2 : AssumptionsState) (watch : IsWatch loading live lists units roots held) (nothing : held2.assumptions ≡ [])
     (slot : ℕ) (c : Clause) (different : size c ≡ length c) (room : HasRoomForAll held2.trail.reserved (maps.get (each_in_order after))) (kept : IsKept after roots2 held2.trail.lits) (noted : HaveReasons held2.trail.reserved (at roots2.reasons)) where
   pub watch_added : maps.get live slot ≡ None → after ≡ maps.insert live slot c → slot < 2147483648 →
-      (loading ≡ false → HasEntry c slot lists2 lists) → AddsFitting c slot lists lists2 → ((s : ℕ) → times_in s short2 ≡ times_in s short + cond (is_short c && eqb s slot) 1 0) →
-      entries_in lists2 ≡ entries_in lists + cond (loading || is_unwatched c) 0 2 → length short2 ≡ length short + cond (is_short c) 1 0 → IsWatch loading after lists2 short2 roots2 held2
-  watch_added free is low times fewer short_times entries longer =
-      let more_short = ap short_clauses is ∙ sum_insert (λ c. cond (nat_le 2 (size c)) 0 1) live slot c free in
-      let weight_short = short_weight c different in
-      let was_short = watch.one_each in
+      (loading ≡ false → HasEntry c slot lists2 lists) → AddsFitting c slot lists lists2 → ((s : ℕ) → times_in s short2 ≡ times_in s units + cond (is_unit_or_empty c && eqb s slot) 1 0) →
+      entries_in lists2 ≡ entries_in lists + cond (loading || is_unwatched c) 0 2 → length short2 ≡ length units + cond (is_unit_or_empty c) 1 0 → IsWatch loading after lists2 short2 roots2 held2
+  watch_added free is low times fewer unit_times entries longer =
+      let more_units = ap unit_or_empty_clauses is ∙ sum_insert (λ c. cond (nat_le 2 (size c)) 0 1) live slot c free in
+      let weight_unit = unit_weight c different in
+      let was_unit = watch.one_each in
       watch_alone loading after lists2 short2 roots2 held2 nothing room (lists_added live after slot c free is different low lists lists2 loading times fewer entries watch.listed)
-      (record { listed = λ s. short_times s ∙ added live after slot c free is short_for refl (is_short c) refl s (times_in s short) (watch.rest.listed s) })
-      (omega (arith, more_short, weight_short, was_short, longer)) kept noted
+      (record { listed = λ s. unit_times s ∙ added live after slot c free is unit_for refl (is_unit_or_empty c) refl s (times_in s units) (watch.rest.listed s) })
+      (omega (arith, more_units, weight_unit, was_unit, longer)) kept noted
 
   pub watch_removed : maps.get live slot ≡ Some c → after ≡ maps.remove live slot →
-      (loading ≡ false → HasEntry c slot lists lists2) → AddsFitting c slot lists lists2 → ((s : ℕ) → times_in s short2 + cond (is_short c && eqb s slot) 1 0 ≡ times_in s short) →
-      entries_in lists2 + cond (loading || is_unwatched c) 0 2 ≡ entries_in lists → length short2 + cond (is_short c) 1 0 ≡ length short → IsWatch loading after lists2 short2 roots2 held2
-  watch_removed there is times fewer short_times entries shorter =
-      let less_short = sum_remove (λ c. cond (nat_le 2 (size c)) 0 1) live slot c there in
-      let as_map_short = ap short_clauses is in
-      let weight_short = short_weight c different in
-      let was_short = watch.one_each in
+      (loading ≡ false → HasEntry c slot lists lists2) → AddsFitting c slot lists lists2 → ((s : ℕ) → times_in s short2 + cond (is_unit_or_empty c && eqb s slot) 1 0 ≡ times_in s units) →
+      entries_in lists2 + cond (loading || is_unwatched c) 0 2 ≡ entries_in lists → length short2 + cond (is_unit_or_empty c) 1 0 ≡ length units → IsWatch loading after lists2 short2 roots2 held2
+  watch_removed there is times fewer unit_times entries shorter =
+      let fewer_units = sum_remove (λ c. cond (nat_le 2 (size c)) 0 1) live slot c there in
+      let as_map_unit = ap unit_or_empty_clauses is in
+      let weight_unit = unit_weight c different in
+      let was_unit = watch.one_each in
       watch_alone loading after lists2 short2 roots2 held2 nothing room (lists_removed live after slot c there is different lists lists2 loading times fewer entries watch.listed)
-      (record { listed = λ s. removed live after slot c there is short_for refl (is_short c) refl s (times_in s short2) (short_times s ∙ watch.rest.listed s) })
-      (omega (arith, less_short, as_map_short, weight_short, was_short, shorter)) kept noted
+      (record { listed = λ s. removed live after slot c there is unit_for refl (is_unit_or_empty c) refl s (times_in s short2) (unit_times s ∙ watch.rest.listed s) })
+      (omega (arith, fewer_units, as_map_unit, weight_unit, was_unit, shorter)) kept noted
 
 -- what is seen, field by field
 pub same_state : (live live2 : FinMap nat_cmp Clause) (assumptions assumptions2 : List Assumption) (stored stored2 : ℕ) (has_refused : Bool) → live ≡ live2 → assumptions ≡ assumptions2 → stored ≡ stored2 →

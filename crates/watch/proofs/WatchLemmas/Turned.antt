@@ -13,7 +13,7 @@ use Rattle.cnf_base.proofs.MapLemmas.{insert_here, insert_twice}
 use Rattle.clause_db.proofs.StoreLemmas.Swap.{has_swapped}
 use Rattle.propagation.specs.Assumptions.{AssumptionsState}
 use Rattle.clause_db.specs.Store.{is_tautology}
-use Rattle.watch_lists.specs.Watched.{IsListed, is_first, is_short, watches}
+use Rattle.watch_lists.specs.Watched.{IsListed, is_first, is_unit_or_empty, watches}
 use Rattle.watch_lists.proofs.WatchListsLemmas.Watched.{tautology_alike}
 use Rattle.root_literals.proofs.RootLemmas.Order.{ordered_same}
 use Rattle.theory.proofs.PropagationLemmas.Forced.{forced_assumed}
@@ -22,7 +22,7 @@ use Rattle.root_literals.specs.Code.Propagated.{PropagatesTo}
 use Rattle.watch.specs.declared.visit.Exchange.{Exchange}
 use Rattle.watch_lists.specs.declared.watcher.Watcher.{Watcher}
 use Rattle.root_literals.specs.Order.{each_in_order}
-use Rattle.watch.proofs.WatchLemmas.Moves.{listed_moved, shorts_moved, watched_moved}
+use Rattle.watch.proofs.WatchLemmas.Moves.{listed_moved, all_units_moved, watched_moved}
 use Rattle.root_literals.proofs.RootLemmas.Propagated.{extends_none}
 
 or_turned : (a b : Bool) → (b || a) ≡ (a || b)
@@ -72,12 +72,12 @@ turned_watches c from low long x = λ i. turned_first_two c from low long x i &&
     alike : is_tautology (turned c from) ≡ is_tautology c
     alike = tautology_alike c (turned c from) (has_swapped c (turned c from) 0 (1 - from) (omega (arith, long)) (omega (arith, long)) refl)
 
-turned_short : (c : Clause) (from : ℕ) → from < 2 → 2 ≤ length c → is_short (turned c from) ≡ is_short c
-turned_short [] from low long = absurd (omega (arith, long))
-turned_short (a ∷ []) from low long = absurd (omega (arith, long))
-turned_short (a ∷ b ∷ c) zero low long = refl
-turned_short (a ∷ b ∷ c) (suc zero) low long = refl
-turned_short (a ∷ b ∷ c) (suc (suc from)) low long = absurd (omega (arith, low))
+turned_units : (c : Clause) (from : ℕ) → from < 2 → 2 ≤ length c → is_unit_or_empty (turned c from) ≡ is_unit_or_empty c
+turned_units [] from low long = absurd (omega (arith, long))
+turned_units (a ∷ []) from low long = absurd (omega (arith, long))
+turned_units (a ∷ b ∷ c) zero low long = refl
+turned_units (a ∷ b ∷ c) (suc zero) low long = refl
+turned_units (a ∷ b ∷ c) (suc (suc from)) low long = absurd (omega (arith, low))
 
 module _ (c : Clause) (from : ℕ) (low : from < 2) (long : 2 ≤ length c) where
   pub turned_has : (l : Literal) → has (turned c from) l ≡ has c l
@@ -99,7 +99,7 @@ module _ (c : Clause) (from : ℕ) (low : from < 2) (long : 2 ≤ length c) wher
     pub propagates_turned : (held : AssumptionsState) (reason_of : Literal → Option ℕ) → PropagatesTo live (maps.insert live slot (turned c from)) held held reason_of reason_of
     propagates_turned held reason_of = record {
       same = ordered_same live slot c (turned c from) here turned_has;
-      short = shorts_moved live slot c (turned c from) here 0 0 (same_entries 0) (turned_short c from low long);
+      units = all_units_moved live slot c (turned c from) here 0 0 (same_entries 0) (turned_units c from low long);
       kept = λ doubts done trues p q w.
           watched_moved live slot c (turned c from) here 0 0 (same_entries 0) doubts done trues
           (λ x h old there. let met = old (sym (turned_watches c from low long x) ∙ there) in (met.0, turned_has met.0 ∙ met.1, met.2)) w;

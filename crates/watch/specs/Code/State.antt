@@ -10,14 +10,14 @@ use Rattle.tables.specs.Filled.{at}
 use Rattle.propagation.specs.Assumptions.{Propagation, AssumptionsState, roots_in}
 use Rattle.propagation.specs.Code.Coding.{propagation_code}
 use Rattle.propagation.specs.Code.Scan.{IsHeld}
-use Rattle.propagation.specs.Slots.{short_clauses}
+use Rattle.propagation.specs.Slots.{unit_or_empty_clauses}
 use Rattle.watch_lists.specs.Lists.{entries_in}
 use Rattle.root_literals.specs.Order.{each_in_order}
 use Rattle.root_literals.specs.Roots.{IsKept, IsStanding}
 use Rattle.root_literals.specs.Uses.{times}
 use Rattle.propagation.specs.Code.Closure.{AreForced}
 use Rattle.root_literals.specs.Watched.{AreWatched}
-use Rattle.watch_lists.specs.Watched.{HasAll, IsShortList}
+use Rattle.watch_lists.specs.Watched.{HasAll, IsUnitList}
 use Rattle.watch.specs.State.{WatchState}
 use Rattle.watch_lists.specs.declared.lists.WatchLists.{WatchLists}
 use Rattle.root_literals.specs.declared.roots.Roots.{Roots}
@@ -37,7 +37,7 @@ watch_code =
     (λ s. (
       (s.propagation, s.slots),
       (
-        ((s.entries, s.short_entries), (s.trues, s.variables)),
+        ((s.entries, s.unit_entries), (s.trues, s.variables)),
         (s.roots, (s.is_loading, (s.is_up_to_date, s.has_clash))),
       ),
     ))
@@ -45,7 +45,7 @@ watch_code =
       propagation = p.0.0;
       slots = p.0.1;
       entries = p.1.0.0.0;
-      short_entries = p.1.0.0.1;
+      unit_entries = p.1.0.0.1;
       trues = p.1.0.1.0;
       variables = p.1.0.1.1;
       roots = p.1.1.0;
@@ -87,12 +87,12 @@ AreLists false live lists = HasAll live lists
 -- is watched; what is kept of the literals that are true with nothing assumed is so; and each
 -- literal of a variable that is reserved can have a reason
 pub record IsWatch (is_loading : Bool) (live : FinMap nat_cmp Clause) (lists : WatchLists)
-    (short : List ℕ) (roots : Roots) (held : AssumptionsState) : Type 0 where
+    (units : List ℕ) (roots : Roots) (held : AssumptionsState) : Type 0 where
   pub scan : IsHeld (each_in_order live) (AreForced (maps.get (each_in_order live))) held
   pub listed : AreLists is_loading live lists
-  pub rest : IsShortList (maps.get live) short
+  pub rest : IsUnitList (maps.get live) units
   pub watched : AreWatched (maps.get live) held.trail.lits held.assumptions held.starts
-  pub one_each : length short ≡ short_clauses live
+  pub one_each : length units ≡ unit_or_empty_clauses live
   pub kept : IsKept live roots (roots_in held.trail.lits held.assumptions held.starts)
   pub standing : IsStanding roots.kept held.assumptions
   pub noted : HaveReasons held.trail.reserved (at roots.reasons)

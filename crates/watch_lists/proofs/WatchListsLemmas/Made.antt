@@ -9,7 +9,7 @@ use Rattle.cnf_base.proofs.MapLemmas.{insert_here, insert_other, remove_here, re
 use Rattle.cnf_base.proofs.MapLemmas.{sum_empty, sum_insert, sum_remove}
 use Rattle.clause_db.specs.Store.{is_tautology}
 use Rattle.clause_db.proofs.StoreLemmas.Below.{below, below_next, below_none, below_same, gone}
-use Rattle.watch_lists.specs.Watched.{AddsFitting, HasAll, HasEntry, is_short, is_unwatched}
+use Rattle.watch_lists.specs.Watched.{AddsFitting, HasAll, HasEntry, is_unit_or_empty, is_unwatched}
 use Rattle.watch_lists.specs.{Lists.entries_in, Lists.list_at, declared.lists.WatchLists.WatchLists}
 use Rattle.watch_lists.proofs.WatchListsLemmas.Lists.{unfit_absent}
 use Rattle.std.specs.FinMap as maps
@@ -22,7 +22,7 @@ and_false b = search rules
 
 -- ---- What a clause counts as
 
-pub long_is : (c : Clause) → size c ≡ length c → nat_le 2 (size c) ≡ not (is_short c)
+pub long_is : (c : Clause) → size c ≡ length c → nat_le 2 (size c) ≡ not (is_unit_or_empty c)
 long_is c h1 = search rules
 
 -- whether it is watched

@@ -7,7 +7,7 @@ use Rattle.root_literals.specs.{Order.each_in_order, Roots.IsFalseAt}
 use Rattle.trail.proofs.TrailLemmas.Longer.{has_begun}
 use Rattle.root_literals.proofs.RootLemmas.Propagated.{propagates_on, propagates_unit, clashes}
 use Rattle.root_literals.proofs.RootLemmas.Carried.{can_set_on, room_for}
-use Rattle.root_literals.proofs.RootLemmas.Units.{all_units, no_literal, only_literal, short_alive}
+use Rattle.root_literals.proofs.RootLemmas.Units.{all_units, no_literal, only_literal, units_alive}
 use Rattle.root_literals.proofs.RootLemmas.Units.{units_more, set_by}
 use Rattle.std.specs.FinMap as maps
 use Rattle.root_literals.proofs.units.set_units.Goals as goal
@@ -54,5 +54,5 @@ returns-clause-units c =
 pub clause-clause-requires : goal.clause-clause-requires
 clause-clause-requires c =
     let live = maps.get c.args.store.now.live in
-    let w = short_alive live c.args.slots.now c.requires.listed c.loop-place.place c.loop-place-test.true in
+    let w = units_alive live c.args.slots.now c.requires.listed c.loop-place.place c.loop-place-test.true in
     ap (λ s. is_some (live s)) c.at.ensures ∙ ap is_some w.1

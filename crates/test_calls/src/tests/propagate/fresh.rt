@@ -67,7 +67,7 @@ impl Watching for Watch {
     }
 
     fn entries(&mut self) -> Result<(u64, usize), Fail> {
-        Ok((self.watch_entries()?, self.short_entries()))
+        Ok((self.watch_entries()?, self.unit_entries()))
     }
 
     fn take_back(&mut self) {

@@ -131,8 +131,8 @@ fn takes_no_reason_from_behind(rt: HostRuntime) -> Result<(), Fail> {
 #[test]
 fn takes_back_alone_what_no_clause_has(rt: HostRuntime) -> Result<(), Fail> {
     let units = [[1, 1], [2, 2], [3, 3], [-3, 4]];
-    let lone = cut_back(rt.alloc(), &units, &[1])?;
-    expect_equal(&rt, lone, ((true, false, 3), (true, false, 3)));
+    let unit = cut_back(rt.alloc(), &units, &[1])?;
+    expect_equal(&rt, unit, ((true, false, 3), (true, false, 3)));
     let (_, copied) = cut_back(rt.alloc(), &[[1, 1], [1, 1], [2, 2]], &[1])?;
     expect_equal(&rt, copied, (true, false, 2));
     let known = cut_back(rt.alloc(), &[[1, 1], [2, 2], [-1, 3]], &[1])?;

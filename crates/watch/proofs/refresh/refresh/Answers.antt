@@ -28,12 +28,12 @@ returns-in-Ok-clause-watch c =
     let held = c.catch_up.new.assumptions in
     let room = c.make_room.ensures in
     let watch =
-    watch_refreshed c.args.store.now.live live c.args.lists.now lists c.args.short.now
+    watch_refreshed c.args.store.now.live live c.args.lists.now lists c.args.units.now
     c.args.roots.now c.catch_up.new.roots c.args.assumptions.now held c.requires.watch
     (p.extends.assumptions ∙ c.start.ensures.assumptions ∙ nothing_stands c.args.roots.now.kept
     c.args.assumptions.now.assumptions c.requires.watch.standing
     (sym c.is_up_to_date.ensures ∙ c.if-is_up_to_date.false))
-    (λ v. p.extends.reserved v ∙ c.start.ensures.reserved v) p.same p.short e.listed e.entries
+    (λ v. p.extends.reserved v ∙ c.start.ensures.reserved v) p.same p.units e.listed e.entries
     c.in-Ok.ensures.kept (λ l h. p.noted l (c.start.ensures.noted l h)) in
     let more : AddsRoom held held c.catch_up.new.roots c.make_room.new.self = record {
       reserved = λ v h. h;
@@ -58,8 +58,8 @@ returns-in-Err-clause-watch c =
     let u = c.cut.ensures in
     let fewer = u.fewer in
     let zero : length c.cut.new.assumptions.trail.lits ≡ 0 = omega (arith, fewer) in
-    watch_refreshed c.args.store.now.live after c.args.lists.now c.catch_up.new.lists c.args.short.now c.args.roots.now c.cut.new.self c.args.assumptions.now c.cut.new.assumptions c.requires.watch u.assumptions
-    (λ v. u.reserved v ∙ p.extends.reserved v ∙ c.start.ensures.reserved v) p.same p.short e.listed e.entries
+    watch_refreshed c.args.store.now.live after c.args.lists.now c.catch_up.new.lists c.args.units.now c.args.roots.now c.cut.new.self c.args.assumptions.now c.cut.new.assumptions c.requires.watch u.assumptions
+    (λ v. u.reserved v ∙ p.extends.reserved v ∙ c.start.ensures.reserved v) p.same p.units e.listed e.entries
     (kept_nothing after c.cut.new.self c.cut.new.assumptions.trail.lits
     (subst (λ t. AreNoted (maps.get (each_in_order after)) (at t)) (sym u.reasons)
     (noted_carried c.args.store.now.live after c.start.new.assumptions c.catch_up.new.assumptions (at c.start.new.roots.reasons) (at roots.reasons) p c.start.ensures.kept.noted)) u.kept (rewound_none (subst (IsRewound roots.history c.cut.new.self.history) zero u.history)) (u.lits ∙ ap (λ n. take n c.catch_up.new.assumptions.trail.lits) zero)

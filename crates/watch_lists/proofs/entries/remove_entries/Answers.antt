@@ -5,7 +5,7 @@ use Rattle.cnf_base.specs.Literals.{Clause, Literal, has}
 use Rattle.watch_lists.specs.Lists.{list_at, marked_entries}
 use Rattle.watch_lists.specs.{declared.watcher.Watcher.Watcher, Watched.IsListed, Watched.watches}
 use Rattle.watch_lists.proofs.WatchListsLemmas.Lists.{marked_fitting}
-use Rattle.watch_lists.proofs.WatchListsLemmas.Watched.{short_apart}
+use Rattle.watch_lists.proofs.WatchListsLemmas.Watched.{units_apart}
 use Rattle.watch_lists.proofs.WatchListsLemmas.Entries.{two_apart, two_watched, has_times}
 use Rattle.watch_lists.proofs.WatchListsLemmas.Entries.{tautology_listed}
 use Rattle.clause_db.specs.Store.{is_tautology}
@@ -49,7 +49,7 @@ take_off-requires-then-not-is_loading-clause-there c =
 
 pub returns-then-clause-lt2-clause-tautologies : goal.returns-then-clause-lt2-clause-tautologies
 returns-then-clause-lt2-clause-tautologies c d here s =
-    search (rules, arith, same_Some, short_apart)
+    search (rules, arith, same_Some, units_apart)
 
 pub returns-else-not-is_loading-clause-tautologies : goal.returns-else-not-is_loading-clause-tautologies
 returns-else-not-is_loading-clause-tautologies c d here s = search (rules, arith, tautology_listed)

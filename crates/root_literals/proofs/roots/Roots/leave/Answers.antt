@@ -1,7 +1,7 @@
 use Rattle.std.proofs.Common.{Some, is_some, ◌≤◌, length, sym, ap, ◌∙◌, subst, arith}
 use Rattle.cnf_base.specs.Literals.{has}
 use Rattle.tables.specs.Filled.{at}
-use Rattle.root_literals.specs.declared.roots.Kept.TheVariants.{Clash}
+use Rattle.root_literals.specs.declared.kept.Kept.TheVariants.{Clash}
 use Rattle.root_literals.proofs.RootLemmas.Kept.{kept_cut, kept_left}
 use Rattle.root_literals.proofs.roots.Roots.leave.Goals as goal
 

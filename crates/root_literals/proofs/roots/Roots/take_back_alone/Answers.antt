@@ -3,7 +3,7 @@ use Rattle.trail.specs.Trail.{HasNoVariableTwice}
 use Rattle.tables.specs.Filled.{at}
 use Rattle.root_literals.proofs.roots.Roots.take_back_alone.Goals.{After-is_needed}
 use Rattle.root_literals.specs.{Roots.IsKept, Roots.IsUnneeded, Uses.AreCounted}
-use Rattle.root_literals.proofs.RootLemmas.{Kept.kept_counted, Lone.kept_out}
+use Rattle.root_literals.proofs.RootLemmas.{Kept.kept_counted, Unshared.kept_out}
 use Rattle.root_literals.proofs.roots.Roots.take_back_alone.Goals as goal
 use Rattle.std.specs.FinMap as maps
 

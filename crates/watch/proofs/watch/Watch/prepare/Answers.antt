@@ -11,7 +11,7 @@ pub invariant_of-self-2 : goal.invariant_of-self-2
 invariant_of-self-2 c =
     let e = c.refresh-refreshed in
     let loaded = ap (λ w. w.is_loading) c.self-2.view_is ∙ unless_refused c.finish_loading.result (sym c.is_err.ensures.value ∙ c.if-is_err.false) c.finish_loading.ensures.loaded in (
-      subst (λ b. IsWatch b e.new.store.live e.new.lists c.self-2.inside.short e.new.roots e.new.assumptions) (sym loaded) e.ensures.watch,
+      subst (λ b. IsWatch b e.new.store.live e.new.lists c.self-2.inside.units e.new.roots e.new.assumptions) (sym loaded) e.ensures.watch,
       c.recall_invariant-2.ensures.live_alone ∙ sym (literals_ordered e.new.store.live),
       subst (λ m. IsClosure (maps.get m) c.self-2.inside.closure) (sym e.ensures.same) c.self-2.invariant.2,
       subst (λ m. IsTautologyList (maps.get m) c.self-2.inside.tautologies) (sym e.ensures.same) c.self-2.invariant.3,

@@ -24,7 +24,7 @@ assume_part-assumed-requires-clause-watch g c =
     let i = c.self.inside in
     let r = c.reserve_given.ensures in
     let loaded = ap (λ w. w.is_loading) c.self.view_is ∙ c.in_ok-prepare.ensures.loaded in
-    subst (λ b. IsWatch b i.store.live i.lists i.short c.reserve_given.new.roots c.reserve_given.new.assumptions) loaded
+    subst (λ b. IsWatch b i.store.live i.lists i.units c.reserve_given.new.roots c.reserve_given.new.assumptions) loaded
     (watch_room r.more r.noted c.self.invariant.0)
 
 pub assume_part-assumed-requires-clause-alive : goal.assume_part-assumed-requires-clause-alive
@@ -40,7 +40,7 @@ assume_part-assumed-requires-clause-room g c =
 
 pub invariant_of-self-2 : goal.invariant_of-self-2
 invariant_of-self-2 g c = (
-  subst (λ b. IsWatch b c.assume_part-assumed.new.store.live c.assume_part-assumed.new.lists c.self.inside.short c.assume_part-assumed.new.roots c.assume_part-assumed.new.assumptions)
+  subst (λ b. IsWatch b c.assume_part-assumed.new.store.live c.assume_part-assumed.new.lists c.self.inside.units c.assume_part-assumed.new.roots c.assume_part-assumed.new.assumptions)
       (sym (ap (λ w. w.is_loading) c.self.view_is ∙ c.in_ok-prepare.ensures.loaded)) c.assume_part-assumed.ensures.watch,
   c.recall_invariant.ensures.live_alone ∙ sym (literals_ordered c.assume_part-assumed.new.store.live),
   subst (λ m. IsClosure (maps.get m) c.self.inside.closure) (sym c.assume_part-assumed.ensures.same) c.self.invariant.2,

@@ -8,7 +8,7 @@ use Rattle.root_literals.specs.Order.{each_in_order, in_order}
 use Rattle.root_literals.specs.Roots.{IsArranged, IsKept}
 use Rattle.watch.specs.Code.State.{IsWatch}
 use Rattle.std.proofs.lemmas.Option.{none-some, same_Some}
-use Rattle.watch_lists.specs.Watched.{IsTautologyList, short_for, tautology_for}
+use Rattle.watch_lists.specs.Watched.{IsTautologyList, unit_for, tautology_for}
 use Rattle.clause_db.specs.Store.{literals_in}
 use Rattle.propagation.proofs.PropagationLemmas.Scan.{room_added}
 use Rattle.propagation.specs.Closure.{IsClosure}
@@ -33,8 +33,8 @@ pub add_entries-requires-clause-absent : goal.add_entries-requires-clause-absent
 add_entries-requires-clause-absent c =
     let i = c.self.inside in
     let slot = c.in_ok-slot.slot in
-    let none = c.self.invariant.0.rest.listed slot ∙ ap short_for c.in_ok-slot.ensures.free in
-    false_from_ne_true (has i.short slot) (λ h. let some = times_has i.short slot h in omega (arith, none, some))
+    let none = c.self.invariant.0.rest.listed slot ∙ ap unit_for c.in_ok-slot.ensures.free in
+    false_from_ne_true (has i.units slot) (λ h. let some = times_has i.units slot h in omega (arith, none, some))
 
 pub add_entries-requires-clause-no_tautology : goal.add_entries-requires-clause-no_tautology
 add_entries-requires-clause-no_tautology c =
@@ -53,7 +53,7 @@ enter-requires-clause-kept c =
     let watch = watch_room r.more r.noted c.self.invariant.0 in
     subst (λ m. IsKept m c.reserve_room.new.roots c.reserve_room.new.assumptions.trail.lits)
     (sym (removed_back live c.arrange-arranged.new.store.live c.in_ok-slot.slot c.in_ok-slot.ensures.free (λ s ne. c.arrange-arranged.ensures.others s ne ∙ c.in_ok-slot.ensures.others s ne)))
-    (alone_kept i.is_loading live i.lists i.short c.reserve_room.new.roots c.reserve_room.new.assumptions watch (r.more.assumptions ∙ ap (λ w. w.propagation.assumptions) c.self.view_is ∙ c.requires))
+    (alone_kept i.is_loading live i.lists i.units c.reserve_room.new.roots c.reserve_room.new.assumptions watch (r.more.assumptions ∙ ap (λ w. w.propagation.assumptions) c.self.view_is ∙ c.requires))
 
 pub enter-requires-clause-reasons : goal.enter-requires-clause-reasons
 enter-requires-clause-reasons c clause here l member =
@@ -91,7 +91,7 @@ invariant_of-self-in-Ok c =
     let is_same = same_trans (in_order w.0) w.0 c.args.lits.now (same-in_order w.0) (same_trans w.0 d.0 c.args.lits.now (same_from w.0 d.0 (λ l g. sym (w.2 l) ∙ g) (λ l g. w.2 l ∙ g)) d.2) in
     let room = room_added held.trail.reserved (each_in_order live) (each_in_order after) slot c.args.lits.now watch.scan.room c.in_ok-reserve_room.ensures.room
     (in_order w.0, seen_there after slot w.0 w.1, is_same) (λ s ne. get_ordered after s ∙ ap (option_map in_order) (others s ne) ∙ sym (get_ordered live s)) in (
-      watch_added i.is_loading live after i.lists c.add_entries.new.lists i.short c.add_entries.new.short c.reserve_room.new.roots c.enter.new.self held now watch (n.assumptions ∙ r.more.assumptions ∙ ap (λ w. w.propagation.assumptions) c.self.view_is ∙ c.requires)
+      watch_added i.is_loading live after i.lists c.add_entries.new.lists i.units c.add_entries.new.units c.reserve_room.new.roots c.enter.new.self held now watch (n.assumptions ∙ r.more.assumptions ∙ ap (λ w. w.propagation.assumptions) c.self.view_is ∙ c.requires)
           slot w.0 (e.different w.0 w.1) (record { each = λ k x here l member. n.reserved (l / 2) ∙ room.each k x here l member }) n.kept
           (λ l h. n.noted l (watch.noted l (sym (n.reserved (l / 2)) ∙ h)))
           c.in_ok-slot.ensures.free (inserted_is live after slot w.0 w.1 others) e.low (e.watched w.0 w.1) (e.fitting w.0 w.1) (e.rest w.0 w.1) (e.more w.0 w.1) (e.longer w.0 w.1),
@@ -118,8 +118,8 @@ invariant_of-self-in-Err c =
     let w = c.arrange-arranged.ensures.arranged d.0 d.1 in
     let fewer = λ (l s : ℕ) (x : Clause) (is : maps.get live s ≡ Some x). e.fitting w.0 w.1 l s x (λ same. absurd (none-some x (sym (ap (maps.get live) same ∙ c.in_ok-slot.ensures.free) ∙ is))) in
     let back = c.remove_clause.ensures.live ∙ removed_back live c.arrange-arranged.new.store.live c.in_ok-slot.slot c.in_ok-slot.ensures.free (λ s ne. c.arrange-arranged.ensures.others s ne ∙ c.in_ok-slot.ensures.others s ne) in (
-      subst (λ m. IsWatch i.is_loading m c.add_entries.new.lists c.add_entries.new.short roots held) (sym back)
-          (subst (λ xs. IsWatch i.is_loading live c.add_entries.new.lists xs roots held) (sym e.err_rest) (watch_same i.is_loading live i.lists c.add_entries.new.lists i.short roots held e.err_watched fewer e.err_entries watch)),
+      subst (λ m. IsWatch i.is_loading m c.add_entries.new.lists c.add_entries.new.units roots held) (sym back)
+          (subst (λ xs. IsWatch i.is_loading live c.add_entries.new.lists xs roots held) (sym e.err_rest) (watch_same i.is_loading live i.lists c.add_entries.new.lists i.units roots held e.err_watched fewer e.err_entries watch)),
       c.remove_clause.ensures.live_alone ∙ sym (literals_ordered c.remove_clause.new.store.live),
       c.remove_clause.ensures.closure,
       subst (λ m. IsTautologyList (maps.get (each_in_order m)) c.add_entries.new.tautologies) (sym back)
@@ -173,7 +173,7 @@ invariant_of-self-in_err-slot c =
     let r = c.reserve_room.ensures in
     let watch = watch_room r.more r.noted c.self.invariant.0 in
     let same = sym c.in_err-slot.ensures.err_live in (
-      subst (λ m. IsWatch i.is_loading m i.lists i.short c.reserve_room.new.roots c.reserve_room.new.assumptions) same watch,
+      subst (λ m. IsWatch i.is_loading m i.lists i.units c.reserve_room.new.roots c.reserve_room.new.assumptions) same watch,
       c.in_err-slot.ensures.err_stored ∙ c.self.invariant.1 ∙ ap (λ m. literals_in (each_in_order m)) same,
       c.insert_clause.ensures.closure,
       subst (λ m. IsTautologyList (maps.get (each_in_order m)) i.tautologies) same c.self.invariant.3,

@@ -25,12 +25,12 @@ leave-requires-clause-alive c =
 pub leave-requires-clause-kept : goal.leave-requires-clause-kept
 leave-requires-clause-kept c =
     let i = c.self.inside in
-    alone_kept i.is_loading i.store.live i.lists i.short i.roots i.assumptions c.self.invariant.0 (ap (λ w. w.propagation.assumptions) c.self.view_is ∙ c.requires.nothing_assumed)
+    alone_kept i.is_loading i.store.live i.lists i.units i.roots i.assumptions c.self.invariant.0 (ap (λ w. w.propagation.assumptions) c.self.view_is ∙ c.requires.nothing_assumed)
 
 pub remove_entries-requires-clause-listed : goal.remove_entries-requires-clause-listed
 remove_entries-requires-clause-listed c loaded =
     let i = c.self.inside in
-    (loaded_all i.is_loading i.store.live c.leave.new.lists loaded (watch_put_back i.is_loading i.store.live i.lists c.leave.new.lists i.short i.roots i.assumptions c.leave.ensures.lists c.self.invariant.0).listed).each
+    (loaded_all i.is_loading i.store.live c.leave.new.lists loaded (watch_put_back i.is_loading i.store.live i.lists c.leave.new.lists i.units i.roots i.assumptions c.leave.ensures.lists c.self.invariant.0).listed).each
 
 pub remove_entries-requires-clause-low : goal.remove_entries-requires-clause-low
 remove_entries-requires-clause-low c =
@@ -49,13 +49,13 @@ invariant_of-self c =
     let after = c.remove_clause.new.store.live in
     let slot = c.args.slot in
     let left = c.leave.ensures in
-    let watch = watch_put_back i.is_loading live i.lists c.leave.new.lists i.short i.roots i.assumptions left.lists c.self.invariant.0 in
+    let watch = watch_put_back i.is_loading live i.lists c.leave.new.lists i.units i.roots i.assumptions left.lists c.self.invariant.0 in
     let held = c.leave.new.assumptions in
     let e = c.remove_entries.ensures in
     let d = alive_clause live slot (sym (alive_alike live slot) ∙ ap (λ w. is_some (maps.get w.propagation.live slot)) c.self.view_is ∙ c.requires.alive) in
     let gone = ap each_in_order c.remove_clause.ensures.live ∙ ordered_remove live slot in
     let room = room_removed i.assumptions.trail.reserved (each_in_order live) (each_in_order after) slot gone watch.scan.room in (
-      watch_removed i.is_loading live after c.leave.new.lists c.remove_entries.new.lists i.short c.remove_entries.new.short i.roots c.leave.new.self i.assumptions held watch left.assumptions
+      watch_removed i.is_loading live after c.leave.new.lists c.remove_entries.new.lists i.units c.remove_entries.new.units i.roots c.leave.new.self i.assumptions held watch left.assumptions
           slot d.0 (e.different d.0 d.1) (record { each = λ k x here l member. left.reserved (l / 2) ∙ room.each k x here l member })
           (subst (λ m. IsKept m c.leave.new.self held.trail.lits) (sym c.remove_clause.ensures.live) left.kept)
           (λ l h. left.noted l (watch.noted l (sym (left.reserved (l / 2)) ∙ h)))

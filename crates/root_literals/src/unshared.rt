@@ -28,7 +28,7 @@ pub(crate) fn only_literal(clause: &[Lit]) -> Option<Lit>
 }
 
 /// The literal of the unit clause in the slot, where no other clause has it.
-pub(crate) fn lone_literal(store: &Store, slot: Slot) -> Option<Lit>
+pub(crate) fn unshared_literal(store: &Store, slot: Slot) -> Option<Lit>
     requires { IsSome (maps.get store.now.live slot) }
     ensures unit { IfSome result (λ l. maps.get store.now.live slot ≡ Some (l ∷ [])) }
     ensures alone { IfSome result (λ l.

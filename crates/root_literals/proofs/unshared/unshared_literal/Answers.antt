@@ -1,6 +1,6 @@
 use Rattle.std.proofs.Common.{Some, sym, ap, ◌∙◌}
-use Rattle.root_literals.proofs.RootLemmas.Lone.{absent_else}
-use Rattle.root_literals.proofs.lone.lone_literal.Goals as goal
+use Rattle.root_literals.proofs.RootLemmas.Unshared.{absent_else}
+use Rattle.root_literals.proofs.unshared.unshared_literal.Goals as goal
 
 pub returns-then-count_with-eq1-clause-alone : goal.returns-then-count_with-eq1-clause-alone
 returns-then-count_with-eq1-clause-alone c =

@@ -20,12 +20,12 @@ use Rattle.trail.proofs.TrailLemmas.Without.{none_left, still_there, was_there a
 use Rattle.trail.{specs.Trail.HasNoVariableTwice, proofs.TrailLemmas.Truth.places_apart}
 use Rattle.root_literals.specs.Roots.{AreNoted, AreReasoned, FollowsReasons, HaveUnits, IsAbsent}
 use Rattle.root_literals.specs.Roots.{IsKept, IsKnown, IsUnneeded, has_clash, lacks_units}
-use Rattle.root_literals.specs.declared.roots.Kept.TheVariants.{All}
+use Rattle.root_literals.specs.declared.kept.Kept.TheVariants.{All}
 use Rattle.root_literals.specs.{History.IsHistory, History.sure_of, History.trues_at}
 use Rattle.root_literals.specs.{History.visits, Order.each_in_order, Uses.AreCounted}
 use Rattle.root_literals.specs.{Uses.clause_in, Uses.is_in, Uses.times, Watched.HasUnit}
 use Rattle.root_literals.specs.{Watched.IsPart, Watched.IsWatched, declared.roots.Roots.Roots}
-use Rattle.root_literals.specs.{declared.history.History.History, declared.roots.Kept.Kept}
+use Rattle.root_literals.specs.{declared.history.History.History, declared.kept.Kept.Kept}
 use Rattle.root_literals.proofs.RootLemmas.{Watched.front_part, Watched.sure_by, Watched.sure_is}
 use Rattle.root_literals.proofs.RootLemmas.{History.front_in_front, Kept.noted_left}
 use Rattle.root_literals.proofs.RootLemmas.{Kept.still_seen, Kept.was_there, Order.seen_has_at}

@@ -3,9 +3,9 @@ use Rattle.cnf_base.specs.Literals.{has}
 use Rattle.clause_db.specs.Store.{copies_with}
 use Rattle.tables.specs.Filled.{at}
 use Rattle.root_literals.specs.Uses.{clause_in, is_in}
-use Rattle.root_literals.proofs.RootLemmas.Lone.{unneeded_none, unneeded_unused}
+use Rattle.root_literals.proofs.RootLemmas.Unshared.{unneeded_none, unneeded_unused}
 use Rattle.std.proofs.lemmas.{Grind.get_or_default_zero, Bool.cases_lt}
-use Rattle.root_literals.proofs.lone.is_needed.Goals as goal
+use Rattle.root_literals.proofs.unshared.is_needed.Goals as goal
 use Rattle.std.specs.FinMap as maps
 
 pub returns-then-count_with-eq0-clause-unneeded : goal.returns-then-count_with-eq0-clause-unneeded

@@ -4,7 +4,7 @@ use Rattle.cnf_base.proofs.SetLemmas.{same_back, same_from, same_there}
 use Rattle.cnf_base.proofs.SizeLemmas.{size_same}
 use Rattle.clause_memory.specs.Memory.{slots_for}
 use Rattle.clause_db.proofs.StoreLemmas.Taken.{taken_in}
-use Rattle.clause_db.proofs.store.put_in.Goals as goal
+use Rattle.clause_db.proofs.store.taken.put_in.Goals as goal
 
 pub returns-then-len-lits-clause-taken : goal.returns-then-len-lits-clause-taken
 returns-then-len-lits-clause-taken g c =

@@ -1,7 +1,7 @@
 use Rattle.std.proofs.Common.{◌≡◌, ◌≢◌, true, Some, take}
 use Rattle.cnf_base.specs.Literals.{Literal, has}
 use Rattle.tables.specs.Filled.{at}
-use Rattle.root_literals.proofs.roots.made_true_by.Given as goal
+use Rattle.root_literals.proofs.made_true.made_true_by.Given as goal
 
 abbrev pub invariant-loop-l : goal.invariant-loop-l
 invariant-loop-l l =

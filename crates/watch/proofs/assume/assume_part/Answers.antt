@@ -16,7 +16,7 @@ use Rattle.theory.proofs.PropagationLemmas.Forced.{clash_through}
 use Rattle.root_literals.proofs.RootLemmas.Carried.{kept_clash, kept_forced}
 use Rattle.std.proofs.lemmas.Bool.{false≢true}
 use Rattle.watch.proofs.WatchLemmas.State.{watch_answered, watch_undone}
-use Rattle.watch.proofs.watch.assume_part.Goals as goal
+use Rattle.watch.proofs.assume.assume_part.Goals as goal
 
 pub returns-in_err-assume_from-clause-assumed : goal.returns-in_err-assume_from-clause-assumed
 returns-in_err-assume_from-clause-assumed g c = assumed_none _ c.args.assumptions.now _ _ c.from_residual.result (search rules) (ap (λ h. h.assumptions) c.in_err-assume_from.ensures.err)
@@ -71,7 +71,7 @@ returns-in-Ok g c =
         stays = tt;
       };
       watch =
-          watch_answered live c.run.new.store.live c.args.lists.now c.run.new.lists c.args.short.now c.args.roots.now _ before after found c.requires.watch f.propagates refl f.listed f.entries e.begins c.requires.up_to_date last answer all c.answer.ensures.trail stand starts p.watched
+          watch_answered live c.run.new.store.live c.args.lists.now c.run.new.lists c.args.units.now c.args.roots.now _ before after found c.requires.watch f.propagates refl f.listed f.entries e.begins c.requires.up_to_date last answer all c.answer.ensures.trail stand starts p.watched
           (λ v. ap (λ t. has t.reserved v) c.answer.ensures.trail ∙ extends.reserved v ∙ e.reserved v)
           (scan_after shown (AreForced (maps.get shown)) (λ ls forced. forced) before after added c.requires.may c.requires.watch.scan last answer all stand starts
           (ap (λ t. take (length before.trail.lits) t.lits) c.answer.ensures.trail ∙ begins) (λ v. ap (λ t. has t.reserved v) c.answer.ensures.trail ∙ extends.reserved v ∙ e.reserved v)
@@ -89,7 +89,7 @@ returns-in-Err g c =
     let u = c.undo.ensures in record {
       assumed = record { answer = tt; stands = tt; stays = u.assumptions ∙ ap (drop 1) (extends.assumptions ∙ e.assumed.1) };
       watch =
-          watch_undone c.args.store.now.live c.run.new.store.live c.args.lists.now c.run.new.lists c.args.short.now c.args.roots.now _ c.args.assumptions.now c.assume_from.new.assumptions c.run.new.assumptions c.requires.watch f.propagates refl f.listed f.entries e.begins
+          watch_undone c.args.store.now.live c.run.new.store.live c.args.lists.now c.run.new.lists c.args.units.now c.args.roots.now _ c.args.assumptions.now c.assume_from.new.assumptions c.run.new.assumptions c.requires.watch f.propagates refl f.listed f.entries e.begins
           c.undo.new.self _ (extends.assumptions ∙ e.assumed.1) (extends.starts ∙ e.starts) u.assumptions u.starts u.lits (λ v. u.reserved v ∙ extends.reserved v ∙ e.reserved v);
       same = f.propagates.same;
       slots = c.run.ensures.slots;
