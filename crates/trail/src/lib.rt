@@ -10,7 +10,7 @@ mod trail;
 mod truths;
 mod value;
 
-pub use assignment::{Assignment, is_false_under, is_true_under, last_non_false_under};
+pub use assignment::{Assignment, first_non_false_under, is_false_under, is_true_under};
 pub use dense::Dense;
 pub use left::Left;
 pub use literal_set::LiteralSet;

@@ -1,10 +1,8 @@
 //! Visits of clauses that watch a literal which became false.
 
 ghost use Rattle.std.specs.Prelude.{◌≡◌, ℕ, ◌-◌, ◌<◌, ◌≤◌, length, slice_index, Some, IsTrue};
-ghost use Rattle.std.specs.Prelude.{IfSome, IfNone};
 ghost use Rattle.std.specs.FinMap as maps;
 ghost use Rattle.cnf_base.specs.Literals.{Clause, complement, has, size};
-ghost use Rattle.trail.specs.Left.{AreFalseBetween, AreFalseFrom, IsNonFalseAt};
 ghost use Rattle.trail.specs.Trail.{HasNoVariableTwice, HasRoom, HasRoomForAll};
 ghost use Rattle.root_literals.specs.Order.{each_in_order};
 ghost use Rattle.watch_lists.specs.Watched.{watches};
@@ -12,7 +10,7 @@ ghost use Rattle.watch.specs.Code.Visits.{IsEntryOf, IsVisit};
 
 use clause_db::{Slot, Store};
 use cnf_base::Lit;
-use trail::{Assignment, Value, is_false_under};
+use trail::{Assignment, Value, first_non_false_under};
 use watch_lists::Watcher;
 
 /// What a clause watches in place of a literal that became false.
@@ -53,32 +51,6 @@ fn other_watched(clause: &[Lit], l: Lit) -> Lit
     if first == l { second } else { first }
 }
 
-/// The first place of a clause from this one on whose literal is not false.
-///
-/// From the end on it would take fewer instructions, and more time: where a clause ends is read
-/// from its header, and the branch on the value would wait for that too.
-#[inline(always)]
-fn first_non_false_under<A: Assignment>(
-    assignment: &A,
-    clause: &[Lit],
-    from: usize,
-) -> Option<usize>
-    requires { HasRoom (A.trail_of assignment.now).reserved clause.now }
-    ensures found { IfSome result
-        (IsNonFalseAt (A.trail_of assignment.now).lits clause.now from) }
-    ensures first { IfSome result (λ place.
-        AreFalseBetween (A.trail_of assignment.now).lits clause.now from place) }
-    ensures none { IfNone result
-        (AreFalseFrom (A.trail_of assignment.now).lits clause.now from) }
-{
-    for place in from..clause.len() {
-        if !is_false_under(assignment, clause[place]) {
-            return Some(place);
-        }
-    }
-    None
-}
-
 /// What is to be done with a clause that watches this literal, which is false.
 fn look<A: Assignment>(assignment: &A, clause: &[Lit], l: Lit) -> Visit
     requires room { HasRoom (A.trail_of assignment.now).reserved clause.now }
@@ -98,7 +70,7 @@ fn look<A: Assignment>(assignment: &A, clause: &[Lit], l: Lit) -> Visit
             next: clause[to],
             other,
         }),
-        // Asked again, since it would be carried through the search for an open literal.
+        // Asked again, since it would be carried through the search for a non-false literal.
         None => match assignment.value_of(other) {
             Value::False => Visit::Clash,
             _ => Visit::Unit(other),

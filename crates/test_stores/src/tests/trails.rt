@@ -5,7 +5,7 @@ use cnf_base::{Lit, OutOfMemory};
 use std::test::Fail;
 use test_inputs::literal;
 use trail::{
-    Except, Left, Part, Trail, Value, Whole, is_false_under, is_true_under, last_non_false_under,
+    Except, Left, Part, Trail, Value, Whole, first_non_false_under, is_false_under, is_true_under,
     left_of,
 };
 
@@ -138,16 +138,16 @@ fn counts_what_is_left(rt: HostRuntime) -> Result<(), Fail> {
     Ok(())
 }
 
-/// The last place whose literal isn't false, by the array of values, or by the trail.
-fn last_non_false(
+/// The first place whose literal isn't false, by the array of values, or by the trail.
+fn first_non_false(
     trail: &mut Trail,
     clause: &[Lit],
     from: usize,
 ) -> Result<Option<usize>, OutOfMemory> {
     trail.reserve_all(clause)?;
     match trail.dense() {
-        Some(dense) => Ok(last_non_false_under(&dense, clause, from)),
-        None => Ok(last_non_false_under(trail, clause, from)),
+        Some(dense) => Ok(first_non_false_under(&dense, clause, from)),
+        None => Ok(first_non_false_under(trail, clause, from)),
     }
 }
 
@@ -159,19 +159,14 @@ fn finds_what_is_open(rt: HostRuntime) -> Result<(), Fail> {
         let clause = [one, two, last, one];
         expect_equal(&rt, trail.first_non_false(&clause, 0), Some(0));
         expect_true(&rt, !make_false(&mut trail, &[one, two.neg()], &Whole)?);
-        let places = [
-            (0, Some(1), Some(2)),
-            (2, Some(2), Some(2)),
-            (3, None, None),
-            (4, None, None),
-        ];
-        for (from, first_place, last_place) in places {
-            expect_equal(&rt, trail.first_non_false(&clause, from), first_place);
-            expect_equal(&rt, last_non_false(&mut trail, &clause, from)?, last_place);
+        let places = [(0, Some(1)), (2, Some(2)), (3, None), (4, None)];
+        for (from, place) in places {
+            expect_equal(&rt, trail.first_non_false(&clause, from), place);
+            expect_equal(&rt, first_non_false(&mut trail, &clause, from)?, place);
         }
         expect_true(&rt, !make_false(&mut trail, &[last], &Whole)?);
-        expect_equal(&rt, last_non_false(&mut trail, &clause, 0)?, Some(1));
-        expect_equal(&rt, last_non_false(&mut trail, &clause, 2)?, None);
+        expect_equal(&rt, first_non_false(&mut trail, &clause, 0)?, Some(1));
+        expect_equal(&rt, first_non_false(&mut trail, &clause, 2)?, None);
     }
     Ok(())
 }

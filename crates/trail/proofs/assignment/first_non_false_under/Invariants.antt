@@ -1,6 +1,6 @@
 use Rattle.std.proofs.Common.{◌≡◌, ℕ, ◌<◌, ◌≤◌, true, slice_index}
 use Rattle.cnf_base.specs.Literals.{complement, has}
-use Rattle.watch.proofs.visit.first_non_false_under.Given as goal
+use Rattle.trail.proofs.assignment.first_non_false_under.Given as goal
 
 abbrev pub invariant-loop-place : goal.invariant-loop-place
 invariant-loop-place g l = record {
