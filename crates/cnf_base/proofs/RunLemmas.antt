@@ -116,6 +116,22 @@ whole_number-read old first count number some shown skips w =
     next : slice_index (drop count old.ahead) 0 ≡ slice_index old.ahead count
     next = grind (arith, common_steps)
 
+-- a run of one byte, which a separator follows
+pub one_byte-read : (old : Stream) (first : ℕ) (word : Word) → first ≡ slice_index old.ahead 0
+    → word ≡ word_of (first ∷ []) → is_separator first ≡ false
+    → skips_at old.place (first ∷ []) ≡ false → 2 ≤ length old.ahead
+    → is_separator (slice_index old.ahead 1) ≡ true
+    → Along old (bumped old) (λ i j. listing_at old.place i
+    ≡ with_front (listed (token.Word old.place word) j.offset ∷ [])
+    (listing_at (bumped old).place j))
+one_byte-read old first word shown says inner skips long separator =
+    InRun-separator old (bumped old) word (first ∷ []) (slice_index (drop 1 old.ahead) 0) says
+    (InRun-first old first (omega (arith, long)) shown inner skips) (grind (arith, length-drop)) refl
+    (ap is_separator next ∙ separator)
+  where
+    next : slice_index (drop 1 old.ahead) 0 ≡ slice_index old.ahead 1
+    next = grind (arith, common_steps)
+
 -- the run is at the end
 pub InRun-end : (old now : Stream) (word : Word) (run : List ℕ) → word ≡ word_of run
     → InRun old now run → now.ahead ≡ [] → now.met ≡ Some End

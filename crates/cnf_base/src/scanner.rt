@@ -1,5 +1,6 @@
 //! A text's tokens, with their places.
-ghost use Rattle.std.specs.Prelude.{◌≡◌, ◌<◌, ◌≤◌, ◌==◌, ◌&&◌, true, IfSome, OnOk, OnErr};
+ghost use Rattle.std.specs.Prelude.{◌≡◌, ◌<◌, ◌≤◌, ◌==◌, ◌&&◌, true, IfSome, OnOk, OnErr, length};
+ghost use Rattle.std.specs.Prelude.{slice_index};
 ghost use Rattle.cnf_base.specs.Stream.{Along, most_to_come, tells_failure};
 ghost use Rattle.cnf_base.specs.Code.Digits.{begins_number};
 ghost use Rattle.cnf_base.specs.Ahead.{IsNumberAhead, TakesNumber};
@@ -193,6 +194,10 @@ fn any_token<R: In>(source: &mut Source<R>, name: &mut Name) -> Result<Token, Re
                     }
                 } else {
                     let place = source.place();
+                    if byte == b'd' && separator_follows(source.ahead()) {
+                        source.bump_in_line();
+                        return Ok(Token::Word(place, Word::D));
+                    }
                     if let Some((count, number)) = whole_number(source.ahead()) {
                         source.skip_in_line(count);
                         return Ok(Token::Word(place, Word::Number(number)));
@@ -278,6 +283,15 @@ fn begins_comment(byte: u8, place: Place) -> bool
     ensures { result ≡ ((place.col == 1) && (byte == 99)) }
 {
     byte == b'c' && place.col == 1
+}
+
+// Whether a separator follows the first of the bytes, and was read with it.
+#[inline(always)]
+fn separator_follows(bytes: &[u8]) -> bool
+    ensures long { result ≡ true → 2 ≤ length bytes.now }
+    ensures separator { result ≡ true → is_separator (slice_index bytes.now 1) ≡ true }
+{
+    bytes.len() > 1 && is_separator(bytes[1])
 }
 
 #[inline(always)]

@@ -187,7 +187,7 @@ fn read_step<R: In, P: TextPart>(
 }
 
 // Puts a word into the step.
-#[inline(never)]
+#[inline(always)]
 fn move_on<P: TextPart>(part: P, step: &mut StepBuf, word: Word) -> Result<Moved<P>, Stopped>
     requires { IsTrue (P.fits part step.old) }
     ensures moves { MovesText P.spot result
@@ -195,10 +195,22 @@ fn move_on<P: TextPart>(part: P, step: &mut StepBuf, word: Word) -> Result<Moved
     ensures fits { FitsMoved P.fits result step.new }
 {
     match word {
-        Word::Number(number) => part.take_number(step, number),
+        Word::Number(number) => take_apart(part, step, number),
         Word::D => part.take_d(step),
         _ => Err(Stopped::Text(TextFault::BadToken)),
     }
+}
+
+// Puts a number that wasn't seen whole into the step, out of line.
+#[cold]
+#[inline(never)]
+fn take_apart<P: TextPart>(part: P, step: &mut StepBuf, number: Number) -> Result<Moved<P>, Stopped>
+    requires { IsTrue (P.fits part step.old) }
+    ensures moves { MovesText P.spot result
+        (P.format.number_move (P.spot part) step.old number) step.new }
+    ensures fits { FitsMoved P.fits result step.new }
+{
+    part.take_number(step, number)
 }
 
 // The fault of the word at this place, or want of memory.

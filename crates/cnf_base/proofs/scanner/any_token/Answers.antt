@@ -1,11 +1,15 @@
 -- What comes before a token is skipped.
 use Rattle.std.proofs.Common.{◌≡◌, ◌<◌, ◌==◌, true, ap, sym, ◌∙◌, subst, ℕ, rules, arith}
+use Rattle.std.proofs.Common.{refl}
+use Rattle.std.specs.Prelude.{slice_index}
 use Rattle.std.proofs.lemmas.Bool.{and_parts}
 use Rattle.std.proofs.lemmas.Bool.Decides.{nat_tests}
 use Rattle.std.proofs.lemmas.Grind.{common_steps}
 use Rattle.cnf_base.proofs.RunLemmas.{Stands-start, Stands-end, Stands-failed, Stands-looked}
 use Rattle.cnf_base.proofs.RunLemmas.{Stands-separator, Stands-feed, Stands-comment, Stands-cut}
 use Rattle.cnf_base.proofs.RunLemmas.{Stands-word, Stands-cut_word, whole_number-read}
+use Rattle.cnf_base.proofs.RunLemmas.{one_byte-read}
+use Rattle.cnf_base.specs.declared.word.Word.TheVariants as words
 use Rattle.cnf_base.proofs.TokenLemmas.{failed}
 use Rattle.cnf_base.proofs.scanner.any_token.Goals as goal
 
@@ -54,7 +58,7 @@ loop-byte-preserved g c =
 
 pub returns-in-Some-clause-tokens : goal.returns-in-Some-clause-tokens
 returns-in-Some-clause-tokens g c =
-    let number = rw c.ahead.ensures at c.in-Some.ensures in
+    let number = rw c.ahead-else-begins_comment.ensures at c.in-Some.ensures in
     rw c.skip_in_line.ensures (Stands-word _ _ _ _ _
     (Stands-looked _ _ _ c.loop-byte.invariant c.peek.ensures.look (search rules))
     c.place-place-else-begins_comment.ensures.value
@@ -72,3 +76,13 @@ pub returns-in_err-read_word-in-Ok-Some-clause-tokens
 returns-in_err-read_word-in-Ok-Some-clause-tokens g c =
     let cut = Stands-cut_word _ _ _ (Stands-looked _ _ _ c.loop-byte.invariant c.peek.ensures.look (search rules)) c.in_err-read_word-in-Ok-Some.ensures.text in
     failed _ _ _ c.from_residual.ensures.0 cut
+
+pub returns-then-separator_follows-clause-tokens
+    : goal.returns-then-separator_follows-clause-tokens
+returns-then-separator_follows-clause-tokens g c =
+    let is_d = c.if-byte-eq100.true in
+    let stands = Stands-looked _ _ _ c.loop-byte.invariant c.peek.ensures.look (search rules) in
+    let follows = rw c.ahead.ensures at c.separator_follows.ensures in
+    let first : 100 ≡ slice_index c.peek.new.self.ahead 0 = search rules in
+    rw c.bump_in_line-then-separator_follows.ensures (Stands-word _ _ _ _ words.D stands c.place-place-else-begins_comment.ensures.value
+    (one_byte-read _ 100 words.D first refl refl (search rules) (follows.long (search rules)) (follows.separator (search rules))))
