@@ -52,22 +52,22 @@ ends (b ∷ bs) within = by (λ w. ends bs w) (nat_le 128 b) refl
         subst P (sym is) it
     by rest false e = grind (arith, spelled, more)
 
-in_five : (xs ys : List ℕ) (n : ℕ) → n < length xs → slice_index (xs ++ ys) n ≡ slice_index xs n
-in_five xs ys n low = grind (arith, common_steps, low)
+in_front : (xs ys : List ℕ) (n : ℕ) → n < length xs → slice_index (xs ++ ys) n ≡ slice_index xs n
+in_front xs ys n low = grind (arith, common_steps, low)
 
-pub whole_of : (bytes : List ℕ) → 5 ≤ length bytes → (s : Spelled) (l : ℕ) → s ≡ spelled (slice_index bytes 0 ∷ slice_index bytes 1 ∷ slice_index bytes 2 ∷ slice_index bytes 3 ∷ slice_index bytes 4 ∷ []) → s.count ≤ 5
+pub whole_of : (bytes : List ℕ) → 4 ≤ length bytes → (s : Spelled) (l : ℕ) → s ≡ spelled (slice_index bytes 0 ∷ slice_index bytes 1 ∷ slice_index bytes 2 ∷ slice_index bytes 3 ∷ []) → s.count ≤ 4
     → ((n : ℕ) → s.count ≡ n + 1 → slice_index bytes n ≢ 0) → l ≡ s.value → 2 ≤ l → l ≤ 536870911 → IsWhole bytes s.count l
-whole_of (a ∷ b ∷ c ∷ d ∷ e ∷ rest) long s l is few some same least most =
-    let five = a ∷ b ∷ c ∷ d ∷ e ∷ [] in let P : Spelled → Type 0 = λ x. Ends five x in
-    let r : Ends five s = subst P (sym is) (ends five (let n = ap (λ x. x.count) is in omega (arith, n, few))) in record {
+whole_of (a ∷ b ∷ c ∷ d ∷ rest) long s l is few some same least most =
+    let four = a ∷ b ∷ c ∷ d ∷ [] in let P : Spelled → Type 0 = λ x. Ends four x in
+    let r : Ends four s = subst P (sym is) (ends four (let n = ap (λ x. x.count) is in omega (arith, n, few))) in record {
       init = r.init;
       last = r.last;
-      are = take-append-le s.count five rest few ∙ r.are;
+      are = take-append-le s.count four rest few ∙ r.are;
       count_is = r.count_is;
       within = omega (arith, few, long);
       high = r.high;
       low = let low = r.low in grind (arith, nat_tests, low);
-      not_empty = λ zero_last. some (length r.init) r.count_is (in_five five rest (length r.init) (let c = r.count_is in omega (arith, c, few)) ∙ r.at ∙ zero_last);
+      not_empty = λ zero_last. some (length r.init) r.count_is (in_front four rest (length r.init) (let c = r.count_is in omega (arith, c, few)) ∙ r.at ∙ zero_last);
       says = same ∙ r.says;
       least = least;
       most = most;

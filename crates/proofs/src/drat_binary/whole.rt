@@ -1,8 +1,8 @@
 //! Numbers of binary DRAT that stand whole in what was read at once.
 //!
-//! How many bytes a number has can't be foretold, and a wrong guess costs more than five bytes do:
-//! so no byte has a branch. What isn't the number of a literal is left to the reading by bytes,
-//! which tells what is wrong.
+//! How many bytes a number has can't be foretold, and a wrong guess costs more than four bytes do:
+//! so no byte has a branch. A variable past 134,217,727, whose numbers are longer, and what isn't
+//! the number of a literal are left to the reading by bytes, which tells what is wrong.
 
 ghost use Rattle.std.specs.Prelude.{◌≡◌, ℕ, ◌<◌, ◌≤◌, length, IfSome, OnOk, [], ◌∷◌, slice_index};
 ghost use Rattle.proofs.specs.Binary.{BinarySpot, in_step};
@@ -14,8 +14,8 @@ use super::part::BinaryPart;
 use crate::StepBuf;
 use cnf_base::{In, Lit, Number, OutOfMemory, Source};
 
-/// How many bytes a number of a literal has at most.
-const MOST: usize = 5;
+/// How many bytes of a number are looked at.
+const MOST: usize = 4;
 
 /// How many bytes a number has, and the sum of its groups.
 #[derive(Clone, Copy)]
@@ -39,16 +39,15 @@ fn joined(byte: u8, rest: Spelled) -> Spelled
     }
 }
 
-// The number at the front of five bytes; longer than they are where none of them ends it.
+// The number at the front of four bytes; longer than they are where none of them ends it.
 #[inline(always)]
 fn front(bytes: &[u8]) -> Spelled
-    requires { 5 ≤ length bytes.now }
+    requires { 4 ≤ length bytes.now }
     ensures { result ≡ spelled (slice_index bytes.now 0 ∷ slice_index bytes.now 1
-        ∷ slice_index bytes.now 2 ∷ slice_index bytes.now 3 ∷ slice_index bytes.now 4 ∷ []) }
+        ∷ slice_index bytes.now 2 ∷ slice_index bytes.now 3 ∷ []) }
 {
     let endless = Spelled { count: 1, value: 0 };
-    let last = joined(bytes[4], endless);
-    let fourth = joined(bytes[3], last);
+    let fourth = joined(bytes[3], endless);
     let third = joined(bytes[2], fourth);
     let second = joined(bytes[1], third);
     joined(bytes[0], second)
