@@ -1,8 +1,8 @@
 //! A deletion of a DRAT proof, over any store of clauses that propagates.
 //!
-//! A session tells whether a root-level literal was lost. Propagation is asked for that before and
-//! after a deletion, up to the first that loses one. What it finds is kept for the next step, so
-//! that this costs little more than a look at the literals of the clause.
+//! A session tells whether a root-level literal was lost. None is with a clause that isn't the
+//! reason of one. With one that is, propagation is asked before the deletion and after it, up to
+//! the first deletion that loses one.
 
 ghost use Rattle.std.specs.Prelude.{◌≡◌, ◌⊎◌, ◌↔◌, ◌≤◌, true, false, Some, IsSome, IfSome, IfNone};
 ghost use Rattle.std.specs.Prelude.{[], IsTrue, IfOk, OnOk, OnErr};
@@ -12,7 +12,7 @@ ghost use Rattle.propagation.specs.Assumptions.{LastIsAnswered, assumed_by};
 ghost use Rattle.theory.specs.Answers.{UnlessOutOfMemory};
 ghost use Rattle.theory.specs.Drat.{AnswersDelete, after_drat, SameLive};
 ghost use Rattle.theory.specs.Drat as drat;
-ghost use Rattle.theory.specs.Propagation.{Clash, Forced};
+ghost use Rattle.theory.specs.Propagation.{Clash, Forced, IsRootReason};
 ghost use Rattle.theory.specs.Losses.{DeleteLoses};
 ghost use Rattle.drat_steps.specs.Ready.{IsIdle};
 
@@ -63,9 +63,12 @@ fn is_lost<P: Propagate>(clauses: &mut P, l: Lit) -> Result<bool, OutOfMemory>
     Ok(is_lost)
 }
 
-/// Takes the clause out of its slot, and tells whether a root-level literal is lost with it.
-fn remove_and_tell<P: Propagate>(clauses: &mut P, slot: Slot) -> Result<bool, OutOfMemory>
+/// Takes the clause, which is the reason of a root-level literal, out of its slot, and tells
+/// whether such a literal is lost with it.
+fn remove_reason<P: Propagate>(clauses: &mut P, slot: Slot) -> Result<bool, OutOfMemory>
     requires alive { IsSome (maps.get (P.state clauses.old).live slot) }
+    requires reason { (c : Clause) → maps.get (P.state clauses.old).live slot ≡ Some c →
+        IsRootReason (maps.get (P.state clauses.old).live) c }
     requires idle { IsIdle (P.state clauses.old) }
     ensures live { OnOk result
         ((P.state clauses.new).live ≡ maps.remove (P.state clauses.old).live slot) }
@@ -79,9 +82,8 @@ fn remove_and_tell<P: Propagate>(clauses: &mut P, slot: Slot) -> Result<bool, Ou
 {
     if let Answer::Clash = clauses.assume(&[])? {
         clauses.undo();
-        let is_reason = clauses.is_root_reason(slot)?;
         clauses.remove(slot);
-        return Ok(is_reason);
+        return Ok(true);
     }
     let held = true_literal(clauses, slot);
     clauses.undo();
@@ -130,6 +132,10 @@ pub fn delete<P: Propagate>(
         clauses.remove(slot);
         return Ok(Accepted::Deleted);
     }
-    *has_lost_literal = remove_and_tell(clauses, slot)?;
+    if !clauses.is_root_reason(slot)? {
+        clauses.remove(slot);
+        return Ok(Accepted::Deleted);
+    }
+    *has_lost_literal = remove_reason(clauses, slot)?;
     Ok(Accepted::Deleted)
 }

@@ -1,7 +1,7 @@
 -- What deletions lose, from what propagation over the slots says.
 use Rattle.std.proofs.Common.{◌≡◌, ℕ, ◌≤◌, Bool, true, false, Some, is_some, IsSome, Ok, Result}
 use Rattle.std.proofs.Common.{List, [], ◌++◌, slice_get, subst, arith, IfOk, OnErr, refl, sym, inl}
-use Rattle.std.proofs.Common.{inr, ◌⊎◌, ◌↔◌, rules}
+use Rattle.std.proofs.Common.{inr, ◌⊎◌, ◌↔◌, rules, ap}
 use Rattle.std.proofs.lemmas.Bool.{cases_Bool, false≢true}
 use Rattle.std.specs.{Ordering.nat_cmp, FinMap.FinMap}
 use Rattle.std.specs.FinMap as maps
@@ -54,14 +54,10 @@ module _ (live : FinMap nat_cmp Clause) (slot : ℕ) (c lits : Clause) (there : 
   reasonless none = search (rules, arith, no_reason_kept, reason-slots, same_symm)
 
   -- past a clash
-  pub loses_past_clash : Clash (maps.get live) [] → (reason : Bool) → (reason ≡ true → IsRootReason (maps.get live) c) → (reason ≡ false → ¬ IsRootReason (maps.get live) c)
-      → (reason ≡ true) ↔ Loses
-  loses_past_clash clash reason is_one is_none = (
-    λ h. inl ((slots-clash live []).0 clash, slots-reason live c lits same (is_one h)),
-    λ loses. elim (cases_Bool reason) [
-      | inl is ↦ is
-      | inr not ↦ absurd (reasonless (is_none not) loses)
-    ],
+  pub loses_past_clash : Clash (maps.get live) [] → IsRootReason (maps.get live) c → (true ≡ true) ↔ Loses
+  loses_past_clash clash reason = (
+    λ is. inl ((slots-clash live []).0 clash, slots-reason live c lits same reason),
+    λ loses. refl,
   )
 
   module _ (quiet : ¬ Clash (maps.get live) []) where
@@ -95,8 +91,19 @@ module _ (live : FinMap nat_cmp Clause) (slot : ℕ) (c lits : Clause) (there : 
 -- ---- What is noted
 
 -- nothing is lost, and what was noted stays
-pub noted_before : (had : Bool) (X : Type 0) → ¬ X → (had ≡ true) ↔ ((had ≡ true) ⊎ X)
+noted_before : (had : Bool) (X : Type 0) → ¬ X → (had ≡ true) ↔ ((had ≡ true) ⊎ X)
 noted_before had X none = search rules
+
+-- a clause that was found was no reason
+pub unlost : (had : Bool) (before after : Propagation) (slot : ℕ) (lits : Clause) → after ≡ before
+    → (d : Clause) × (maps.get before.live slot ≡ Some d) × (same_clause d lits ≡ true)
+    → ((e : Clause) → maps.get after.live slot ≡ Some e → ¬ IsRootReason (maps.get after.live) e)
+    → (had ≡ true) ↔ ((had ≡ true) ⊎ DeleteLoses (maps.values before.live) lits Deleted)
+unlost had before after slot lits same found none =
+    let None : FinMap nat_cmp Clause → Type 0 = λ m. (e : Clause) → maps.get m slot ≡ Some e
+    → ¬ IsRootReason (maps.get m) e in
+    noted_before had _ (reasonless before.live slot found.0 lits found.1 found.2
+    (subst None (ap (λ s. s.live) same) none found.0 found.1))
 
 -- a loss was noted before
 pub noted_already : (had : Bool) (X : Type 0) → had ≡ true → (had ≡ true) ↔ ((had ≡ true) ⊎ X)

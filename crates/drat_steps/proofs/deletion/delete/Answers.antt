@@ -1,11 +1,10 @@
-use Rattle.std.proofs.Common.{arith, sym, ap, ◌∙◌, subst, ◌≡◌, Some, true, ◌↔◌}
+use Rattle.std.proofs.Common.{arith, sym, ap, ◌∙◌, subst, ◌≡◌, true, ◌↔◌}
 use Rattle.std.proofs.lemmas.Bool.{false≢true}
 use Rattle.std.specs.{FinMap.FinMap, Ordering.nat_cmp}
 use Rattle.std.specs.FinMap as maps
 use Rattle.cnf_base.specs.Literals.{Clause}
 use Rattle.theory.specs.{Losses.DeleteLoses, declared.accepted.Accepted.TheVariants.Deleted}
-use Rattle.theory.specs.Propagation.{IsRootReason}
-use Rattle.drat_steps.proofs.DratLemmas.Losses.{reasonless, noted_before, noted_already, noted_now}
+use Rattle.drat_steps.proofs.DratLemmas.Losses.{noted_already, noted_now, unlost}
 use Rattle.drat_steps.proofs.DratLemmas.Steps.{kept_ignored, none_listed, not_kept_deleted}
 use Rattle.drat_steps.proofs.DratLemmas.Steps.{taken_off}
 use Rattle.drat_steps.proofs.deletion.delete.Goals as goal
@@ -33,11 +32,7 @@ returns-then-rules-2-clause-live g c = grind (arith, taken_off)
 
 pub returns-then-rules-2-clause-lost : goal.returns-then-rules-2-clause-lost
 returns-then-rules-2-clause-lost g c =
-    let live = (g.P.Propagate.state c.args.clauses.now).live in
-    let found = c.in-Some.ensures.found in
-    let None : FinMap nat_cmp Clause → Type 0 = λ m. (e : Clause) → maps.get m c.in-Some.slot ≡ Some e → ¬ IsRootReason (maps.get m) e in
-    let none = subst None (ap (λ s. s.live) c.in-Some.ensures.same) (c.in_ok-is_root_reason.ensures.no c.if-branch.false) in
-    noted_before c.args.has_lost_literal.now _ (reasonless live c.in-Some.slot found.0 c.args.lits.now found.1 found.2 (none found.0 found.1))
+    unlost _ _ _ _ _ c.in-Some.ensures.same c.in-Some.ensures.found (c.in_ok-is_root_reason.ensures.no c.if-branch.false)
 
 -- ---- Where a loss was noted
 
@@ -52,7 +47,21 @@ returns-then-has_lost_literal-clause-live g c = grind (arith, taken_off)
 pub returns-then-has_lost_literal-clause-lost : goal.returns-then-has_lost_literal-clause-lost
 returns-then-has_lost_literal-clause-lost g c = grind (arith, noted_already)
 
--- ---- Where none was
+-- ---- Where none was, and the clause is no reason
+
+pub returns-then-not-branch-clause-answers : goal.returns-then-not-branch-clause-answers
+returns-then-not-branch-clause-answers g c =
+    not_kept_deleted (g.P.Propagate.state c.args.clauses.now) _ c.in-Some.ensures.same c.args.rules c.args.lits.now c.in-Some.slot c.in-Some.ensures.found
+    (λ d there kept. false≢true (sym c.if-rules-2.false ∙ kept.0))
+
+pub returns-then-not-branch-clause-live : goal.returns-then-not-branch-clause-live
+returns-then-not-branch-clause-live g c = grind (arith, taken_off)
+
+pub returns-then-not-branch-clause-lost : goal.returns-then-not-branch-clause-lost
+returns-then-not-branch-clause-lost g c =
+    unlost _ _ _ _ _ c.in-Some.ensures.same c.in-Some.ensures.found (c.in_ok-is_root_reason-2.ensures.no c.if-not-branch.true)
+
+-- ---- Where none was, and the clause is one
 
 pub returns-clause-answers : goal.returns-clause-answers
 returns-clause-answers g c =
@@ -66,6 +75,9 @@ pub returns-clause-lost : goal.returns-clause-lost
 returns-clause-lost g c =
     let found = c.in-Some.ensures.found in
     let lits = c.args.lits.now in
-    let there = ap (λ s. maps.get s.live c.in-Some.slot) c.in-Some.ensures.same ∙ found.1 in
-    noted_now c.args.has_lost_literal.now c.in_ok-has_lost_literal.field-0 _ c.if-has_lost_literal.false
-    (subst (λ s. (c.in_ok-has_lost_literal.field-0 ≡ true) ↔ DeleteLoses (maps.values s.live) lits Deleted) c.in-Some.ensures.same (c.in_ok-has_lost_literal.ensures.loses found.0 lits there found.2))
+    let told = c.in_ok-has_lost_literal.field-0 in
+    let Tells : FinMap nat_cmp Clause → Type 0 = λ m. (told ≡ true) ↔ DeleteLoses (maps.values m) lits Deleted in
+    let same = c.in_ok-is_root_reason-2.ensures.live ∙ ap (λ s. s.live) c.in-Some.ensures.same in
+    let there = ap (λ m. maps.get m c.in-Some.slot) same ∙ found.1 in
+    noted_now c.args.has_lost_literal.now told _ c.if-has_lost_literal.false
+    (subst Tells same (c.in_ok-has_lost_literal.ensures.loses found.0 lits there found.2))

@@ -4,22 +4,18 @@ use Rattle.std.specs.FinMap as maps
 use Rattle.std.specs.FinMap.{FinMap}
 use Rattle.std.proofs.lemmas.Bool.{false≢true}
 use Rattle.cnf_base.specs.Literals.{Clause}
-use Rattle.theory.specs.Propagation.{IsRootReason, Forced, Clash}
+use Rattle.theory.specs.Propagation.{Forced, Clash}
 use Rattle.drat_steps.proofs.DratLemmas.Losses.{loses_past_clash, loses_nothing, loses_held}
 use Rattle.drat_steps.proofs.DratLemmas.Losses.{has_clashed, is_quiet, no_clash_now, forced_now}
 use Rattle.drat_steps.proofs.DratLemmas.Losses.{forced_before, if_ok_both, on_err_too}
 use Rattle.drat_steps.proofs.DratLemmas.Losses.{fewer_literals}
-use Rattle.drat_steps.proofs.deletion.remove_and_tell.Goals as goal
+use Rattle.drat_steps.proofs.deletion.remove_reason.Goals as goal
 
 pub returns-in-Clash-clause-loses : goal.returns-in-Clash-clause-loses
 returns-in-Clash-clause-loses g c d lits there same =
     let old = g.P.Propagate.state c.args.clauses.now in
-    let reason = c.in_ok-is_reason.is_reason in
-    let stays = c.undo.ensures.live ∙ c.in_ok-assume.ensures.assumed.live in
-    let Yes : FinMap nat_cmp Clause → Type 0 = λ m. reason ≡ true → (e : Clause) → maps.get m c.args.slot ≡ Some e → IsRootReason (maps.get m) e in
-    let No : FinMap nat_cmp Clause → Type 0 = λ m. reason ≡ false → (e : Clause) → maps.get m c.args.slot ≡ Some e → ¬ IsRootReason (maps.get m) e in
     loses_past_clash old.live c.args.slot d lits there same (has_clashed old _ _ c.requires.idle.nothing_assumed c.in_ok-assume.ensures.assumed c.in-Clash.is)
-    reason (λ is. subst Yes stays c.in_ok-is_reason.ensures.yes is d there) (λ is. subst No stays c.in_ok-is_reason.ensures.no is d there)
+    (c.requires.reason d there)
 
 pub true_literal-held-requires-clause-no_clash : goal.true_literal-held-requires-clause-no_clash
 true_literal-held-requires-clause-no_clash g c =
