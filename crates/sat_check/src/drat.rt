@@ -51,8 +51,8 @@ pub fn run_drat<F: In, P: In, O: Out>(
     run_drat_kept(alloc, options, formula, proof, out).0.status
 }
 
-/// As [`run_drat`], and tells why it ended so. It hands over the session that it checked in, if there
-/// was memory for one.
+/// As [`run_drat`], and tells why it ended so. It hands over the session that it checked in, if
+/// there was memory for one.
 pub(crate) fn run_drat_kept<F: In, P: In, O: Out>(
     alloc: Global,
     options: &DratOptions,

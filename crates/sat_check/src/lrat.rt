@@ -48,8 +48,8 @@ pub fn run_lrat<F: In, P: In, O: Out>(
     run_lrat_kept(alloc, options, formula, proof, out).0.status
 }
 
-/// As [`run_lrat`], and tells why it ended so. It hands over the session that it checked in, if there
-/// was memory for one.
+/// As [`run_lrat`], and tells why it ended so. It hands over the session that it checked in, if
+/// there was memory for one.
 pub(crate) fn run_lrat_kept<F: In, P: In, O: Out>(
     alloc: Global,
     options: &LratOptions,

@@ -49,9 +49,10 @@ pub fn lrat_check<F: In, P: In, O: Out>(
     proof: &mut P,
     out: &mut O,
 ) -> Checked
-    ensures runs { RunsLrat (lrat_options args.now).trace (F.shown formula.old) (F.shown formula.new)
-        (P.shown proof.old) (P.shown proof.new) (O.held out.old) (O.held out.new)
-        (O.has_failed out.old) (O.has_failed out.new) (O.is_flushed out.new) result }
+    ensures runs { RunsLrat (lrat_options args.now).trace (F.shown formula.old)
+        (F.shown formula.new) (P.shown proof.old) (P.shown proof.new) (O.held out.old)
+        (O.held out.new) (O.has_failed out.old) (O.has_failed out.new) (O.is_flushed out.new)
+        result }
     ensures unsatisfiable { ShowsUnsatisfiable (F.shown formula.old).left result.status
         (O.held out.old) (O.held out.new) }
     ensures steps_verify { LratStepsVerify (F.shown formula.old) (P.shown proof.old)

@@ -1,5 +1,5 @@
-//! Tests of the programs by calls: their words, what they tell beside the report, and where a refused
-//! step ends. What they write and answer is tested by rows.
+//! Tests of the programs by calls: their words, what they tell beside the report, and where a
+//! refused step ends. What they write and answer is tested by rows.
 #![tactic(auto)]
 
 #[cfg(test)]
