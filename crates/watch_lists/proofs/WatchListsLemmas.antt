@@ -3,5 +3,6 @@ pub mod Cursor
 pub mod Entries
 pub mod Lists
 pub mod Made
+pub mod Parts
 pub mod SlotList
 pub mod Watched

@@ -18,7 +18,7 @@ use cnf_base::{Lit, OutOfMemory};
 
 /// Puts the slot of a clause into the lists of its first two literals, unless it has fewer, or a
 /// literal and its complement.
-pub(crate) fn watch_first_two(
+fn watch_first_two(
     lists: &mut WatchLists,
     clause: &[Lit],
     number: u32,

@@ -5,6 +5,7 @@ mod cursor;
 mod entries;
 mod listing;
 mod lists;
+mod part;
 mod place_table;
 mod places;
 mod slot_list;

@@ -1,13 +1,13 @@
 -- The entries of one clause, and the slots of those that have none.
 use Rattle.std.proofs.Common.{rules, ◌≡◌, ◌≢◌, ℕ, ◌+◌, ◌<◌, ◌≤◌, Bool, true, false, cond, eqb, ◌||◌}
 use Rattle.std.proofs.Common.{◌&&◌, List, [], ◌∷◌, Option, Some, length, get_or, refl, sym, ap, ◌∙◌}
-use Rattle.std.proofs.Common.{arith}
+use Rattle.std.proofs.Common.{arith, ne_eqb}
 use Rattle.std.proofs.lemmas.Bool.{true≢false, false≢true}
 use Rattle.std.proofs.{lemmas.Bool.Decides.nat_tests, lemmas.List.Sums.sum_by-cons}
 use Rattle.cnf_base.specs.Literals.{Literal, Clause, has, size}
 use Rattle.cnf_base.proofs.{SetLemmas.both_pass, SetLemmas.has_head, SizeLemmas.distinct_parts}
 use Rattle.clause_db.specs.Store.{is_tautology}
-use Rattle.watch_lists.specs.Lists.{times_in}
+use Rattle.watch_lists.specs.Lists.{fits, times_in}
 use Rattle.watch_lists.specs.Watched.{watches, IsTautologyList, tautology_for}
 
 -- a clause of two literals or more
@@ -24,6 +24,23 @@ module _ (first second : Literal) where
   -- an entry in each of the two lists
   pub one_each : first ≢ second → (slot l s : ℕ) → cond {A = ℕ} ((eqb first l || eqb second l) && eqb s slot) 1 0 ≡ cond (eqb l first && eqb s slot) 1 0 + cond (eqb l second && eqb s slot) 1 0
   one_each apart slot l s = grind (arith, nat_tests)
+
+  -- the same where only some literals get one
+  pub one_each_in : first ≢ second → (among : Literal → Bool) (slot l s : ℕ)
+      → cond {A = ℕ} (among l && (eqb first l || eqb second l) && eqb s slot) 1 0 ≡
+      cond (among first && eqb l first && eqb s slot) 1 0
+      + cond (among second && eqb l second && eqb s slot) 1 0
+  one_each_in apart among slot l s = grind (arith, nat_tests)
+
+  -- an entry of each fits the clause
+  pub both_fit : (c : Clause) → 2 ≤ length c → size c ≡ length c → first ≡ get_or c 0 first
+      → second ≡ get_or c 1 second → (fits c first second (eqb (length c) 2) ≡ true)
+      × (fits c second first (eqb (length c) 2) ≡ true)
+  both_fit [] long different first_is second_is = absurd (omega (arith, long))
+  both_fit (a ∷ []) long different first_is second_is = absurd (omega (arith, long))
+  both_fit (a ∷ b ∷ c) long different first_is second_is =
+      let apart = two_apart (a ∷ b ∷ c) long different first_is second_is in
+      search (rules, arith, ne_eqb, has_head)
 
 -- ---- Slots in a list
 

@@ -1,16 +1,15 @@
--- The lists of all clauses: one clause more or less, and as they are made, slot by slot.
+-- The lists of all clauses: one clause more or less.
 use Rattle.std.proofs.Common.{rules, ◌≡◌, ◌≢◌, ℕ, ◌+◌, ◌<◌, Bool, true, false, not, ◌&&◌, cond, eqb}
-use Rattle.std.proofs.Common.{eq-eqb, ne_eqb, Option, Some, None, nat_le, IsSome, [], length, arith}
+use Rattle.std.proofs.Common.{eq-eqb, ne_eqb, Option, Some, None, nat_le, IsSome, length, arith}
 use Rattle.std.proofs.lemmas.Bool.{cases_eq, false≢true}
 use Rattle.std.proofs.lemmas.Option.{none-some, same_Some}
 use Rattle.std.specs.{Ordering.nat_cmp, FinMap.FinMap}
-use Rattle.cnf_base.specs.Literals.{Literal, Clause, size}
+use Rattle.cnf_base.specs.Literals.{Clause, size}
 use Rattle.cnf_base.proofs.MapLemmas.{insert_here, insert_other, remove_here, remove_other}
-use Rattle.cnf_base.proofs.MapLemmas.{sum_empty, sum_insert, sum_remove}
+use Rattle.cnf_base.proofs.MapLemmas.{sum_insert, sum_remove}
 use Rattle.clause_db.specs.Store.{is_tautology}
-use Rattle.clause_db.proofs.StoreLemmas.Below.{below, below_next, below_none, below_same, gone}
 use Rattle.watch_lists.specs.Watched.{AddsFitting, HasAll, HasEntry, is_unit_or_empty, is_unwatched}
-use Rattle.watch_lists.specs.{Lists.entries_in, Lists.list_at, declared.lists.WatchLists.WatchLists}
+use Rattle.watch_lists.specs.{Lists.entries_in, declared.lists.WatchLists.WatchLists}
 use Rattle.watch_lists.proofs.WatchListsLemmas.Lists.{unfit_absent}
 use Rattle.std.specs.FinMap as maps
 
@@ -67,17 +66,3 @@ module _ (live after : FinMap nat_cmp Clause) (slot : ℕ) (c : Clause) where
     pub all_removed : size c ≡ length c → (lists lists2 : WatchLists) → HasEntry c slot lists lists2 → AddsFitting c slot lists lists2 → entries_in lists2 + cond (is_unwatched c) 0 2 ≡ entries_in lists → HasAll live lists → HasAll after lists2
     all_removed different lists lists2 times fewer entries was =
         search (rules, arith, sum_remove, removed, low_left, cases_eq, none-some, is_gone, others_stay)
-
--- ---- Lists that are made, slot by slot
-
-pub made_none : (live : FinMap nat_cmp Clause) (lists : WatchLists) → ((l : Literal) → list_at lists l ≡ []) → entries_in lists ≡ 0 → HasAll (below 0 live) lists
-made_none live lists empty no_entries =
-    search (rules, arith, below_none, sum_empty, none-some, maps.get-empty)
-
-pub made_next : (live : FinMap nat_cmp Clause) (n : ℕ) (c : Clause) (lists lists2 : WatchLists) → maps.get live n ≡ Some c → size c ≡ length c → n < 2147483648 → HasEntry c n lists2 lists → AddsFitting c n lists lists2 →
-    entries_in lists2 ≡ entries_in lists + cond (is_unwatched c) 0 2 → HasAll (below n live) lists → HasAll (below (n + 1) live) lists2
-made_next live n c lists lists2 here different low times fewer entries =
-    search (rules, arith, all_added, below, gone, below_next)
-
-pub made_nothing : (live : FinMap nat_cmp Clause) (n : ℕ) (lists : WatchLists) → maps.get live n ≡ None → HasAll (below n live) lists → HasAll (below (n + 1) live) lists
-made_nothing live n lists none = search (rules, arith, below_same)

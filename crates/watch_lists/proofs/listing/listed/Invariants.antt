@@ -1,7 +1,6 @@
--- The lists have the entries of the clauses in the slots that were passed.
-use Rattle.watch_lists.specs.Watched.{HasAll}
-use Rattle.clause_db.proofs.StoreLemmas.Below.{below}
+-- The lists of the parts that were passed have all entries.
+use Rattle.watch_lists.proofs.WatchListsLemmas.Parts.{AreFilled}
 use Rattle.watch_lists.proofs.listing.listed.Given as goal
 
 abbrev pub invariant-loop-number : goal.invariant-loop-number
-invariant-loop-number l = HasAll (below l.number l.store.live) l.lists
+invariant-loop-number l = AreFilled l.last l.number l.store.live l.lists
