@@ -90,7 +90,7 @@ def sentences():
     yield "README.md", f"a tenth of DRAT-trim's memory, whose least is {least} MB"
     low, high = span(lambda it: it.ratios(ours, trim))
     forward_low, forward_high = span(lambda it: it.ratios(ours, forward))
-    yield "docs/PERFORMANCE.md", (f"`drat-forward` takes {low:.1f} (orders) to {high:.2f} times (random) DRAT-trim's time, and "
+    yield "docs/PERFORMANCE.md", (f"`drat-forward` takes {low:.1f} to {high:.2f} times (random) DRAT-trim's time, and "
                                   f"{forward_low:.1f} to {forward_high:.1f} times its forward check's")
     low, high = span(lambda it: it.per_100_mb("DRAT", ours))
     yield "docs/PERFORMANCE.md", f"100 MB of DRAT take {low:.0f} to {high:.0f} seconds"
