@@ -10,6 +10,7 @@ ghost use Rattle.std.specs.Prelude.{OnErr, IsSome};
 ghost use Rattle.std.specs.HashMap.{get};
 ghost use Rattle.clause_index.specs.Code.SlotMap.{slot_at};
 
+use crate::index::Waiting;
 use crate::slot_map::SlotMap;
 use cnf_base::OutOfMemory;
 use std::alloc::Global;
@@ -51,6 +52,14 @@ impl Buckets {
             single: SlotMap::new(alloc),
             many: HashMap::new(alloc),
         }
+    }
+
+    /// Makes room for all slots that wait.
+    #[inline(always)]
+    pub(crate) fn make_room(&mut self, waiting: &[Waiting]) -> Result<(), OutOfMemory>
+        ensures { (h : ℕ) → bucket_at self.new h ≡ bucket_at self.old h }
+    {
+        self.single.make_room(waiting)
     }
 
     /// The slots in the bucket of a hash.

@@ -4,7 +4,7 @@
 //! a third less memory for clauses of three literals.
 //!
 //! To place a slot takes a load that no cache has, since the hashes lie far apart. So the slots of
-//! a formula's clauses are placed some at a time, in a loop in which these loads overlap. Until
+//! a formula's clauses are placed some at a time, after a loop in which these loads overlap. Until
 //! then they wait in a list, and a search goes over it too. From the first removal on, when the
 //! formula is read as a rule, each slot is placed at once.
 
@@ -174,6 +174,7 @@ impl Index {
             Indexes self.old live → Indexes self.new live }
         ensures none { OnOk result (length self.new.waiting.items ≡ 0) }
     {
+        self.placed.make_room(&self.waiting)?;
         while !self.waiting.is_empty() {
             self.place_last()?;
         }

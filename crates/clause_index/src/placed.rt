@@ -15,6 +15,7 @@ ghost use Rattle.clause_index.specs.Code.Placed.{under, place_in, IsPlaced};
 ghost use Rattle.tables.specs.Table.{at};
 
 use crate::buckets::Buckets;
+use crate::index::Waiting;
 use cnf_base::OutOfMemory;
 use std::alloc::Global;
 use tables::Table;
@@ -84,6 +85,15 @@ impl Placed {
             buckets: Buckets::new(alloc),
             places: Table::new(alloc),
         }
+    }
+
+    /// Makes room for all slots that wait.
+    #[inline(always)]
+    pub(crate) fn make_room(&mut self, waiting: &[Waiting]) -> Result<(), OutOfMemory>
+        ensures { (seed : ℕ) (live : FinMap nat_cmp Clause) →
+            IsPlaced seed self.old live → IsPlaced seed self.new live }
+    {
+        self.buckets.make_room(waiting)
     }
 
     /// The slots with this hash.

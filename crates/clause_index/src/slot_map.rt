@@ -11,6 +11,7 @@ ghost use Rattle.clause_index.specs.Code.Entries.{entry_at, home, is_end, is_fre
 ghost use Rattle.clause_index.specs.Code.Entries.{is_used, next_of, slot_among, spot, AreApart};
 ghost use Rattle.clause_index.specs.Code.Entries.{AreReached, HasAt, IsEnd};
 
+use crate::index::Waiting;
 use cnf_base::OutOfMemory;
 use std::alloc::Global;
 
@@ -134,6 +135,28 @@ fn is_next_free(entries: &[Entry], p: usize) -> bool
     next.slot == NONE && next.hash == 0
 }
 
+/// How many entries may be other than free.
+#[inline(always)]
+fn limit(len: usize) -> usize
+    ensures { result ≤ len }
+{
+    len / 4 * 3
+}
+
+/// How many of the slots that wait have a home without a slot. The loads of this loop overlap, and
+/// the entries are near then.
+fn count_vacant(entries: &[Entry], waiting: &[Waiting]) -> usize
+    requires { 0 < length entries.now }
+{
+    let mut vacant: usize = 0;
+    for next in waiting {
+        if entries[home_of(next.hash, entries.len())].slot == NONE {
+            vacant = vacant.saturating_add(1);
+        }
+    }
+    vacant
+}
+
 /// How many entries there are to be where these don't suffice, of which so many have a slot. Where
 /// half have none, it is enough that those go whose slots were taken out.
 fn next_len(len: usize, live: usize) -> usize
@@ -236,6 +259,18 @@ impl SlotMap {
         Ok(())
     }
 
+    /// Makes room for all slots that wait.
+    #[inline(always)]
+    pub(crate) fn make_room(&mut self, waiting: &[Waiting]) -> Result<(), OutOfMemory>
+        ensures { (h : ℕ) → slot_at self.new h ≡ slot_at self.old h }
+    {
+        let len = self.entries.len();
+        if len == 0 || self.used > limit(len).saturating_sub(count_vacant(&self.entries, waiting)) {
+            return self.grow();
+        }
+        Ok(())
+    }
+
     /// Gives a hash a slot, and hands out the one that it had. Where memory is refused, nothing
     /// changes.
     #[inline(always)]
@@ -247,7 +282,7 @@ impl SlotMap {
             (if h == hash then Some slot else slot_at self.old h)) }
         ensures err { OnErr result ((h : ℕ) → slot_at self.new h ≡ slot_at self.old h) }
     {
-        if self.used >= self.entries.len() / 4 * 3 {
+        if self.used >= limit(self.entries.len()) {
             self.grow()?;
         }
         Ok(self.put(hash, slot))
