@@ -83,6 +83,24 @@ pub(crate) fn few_have_complements(lits: &[Lit]) -> bool
     false
 }
 
+/// Marks the literals, where none is marked, up to the first one whose complement is marked by then.
+/// Tells whether there is one.
+fn mark_up_to_complement(marks: &mut Filled<bool>, lits: &[Lit]) -> bool
+    requires known { (l : ℕ) → has lits.now l ≡ true → IsSome (at marks.old l) }
+    requires clear { (l : ℕ) → is_marked (at marks.old l) ≡ false }
+    ensures yes { result ≡ is_tautology lits.now }
+    ensures some { (l : ℕ) → is_marked (at marks.new l) ≡ true → has lits.now l ≡ true }
+    ensures known { (l : ℕ) → is_some (at marks.new l) ≡ is_some (at marks.old l) }
+{
+    for l in lits {
+        if is_set(marks, l.neg()) {
+            return true;
+        }
+        set_mark(marks, *l);
+    }
+    false
+}
+
 /// Whether a literal and its complement are among these, where none is marked.
 pub(crate) fn have_complements(marks: &mut Filled<bool>, lits: &[Lit]) -> bool
     requires known { (l : ℕ) → has lits.now l ≡ true → IsSome (at marks.old l) }
@@ -91,8 +109,7 @@ pub(crate) fn have_complements(marks: &mut Filled<bool>, lits: &[Lit]) -> bool
     ensures clear { (l : ℕ) → is_marked (at marks.new l) ≡ false }
     ensures known { (l : ℕ) → is_some (at marks.new l) ≡ is_some (at marks.old l) }
 {
-    let _digest = mark_all(marks, lits, 0);
-    let is_tautology = lits.iter().any(|l| is_set(marks, l.neg()));
+    let is_tautology = mark_up_to_complement(marks, lits);
     unmark_all(marks, lits);
     is_tautology
 }

@@ -1,9 +1,6 @@
 use Rattle.std.proofs.Common.{◌≡◌, ◌∙◌, sym, ap, true, false, take}
 use Rattle.cnf_base.specs.Literals.{complement, has}
-use Rattle.cnf_base.proofs.SetLemmas.{any_from}
-use Rattle.cnf_base.proofs.SizeLemmas.{has_at}
-use Rattle.cnf_base.proofs.WalkLemmas.{has_take}
-use Rattle.clause_db.proofs.StoreLemmas.Tautologies.{none_so_far}
+use Rattle.clause_db.proofs.StoreLemmas.Tautologies.{both_there, none_so_far}
 use Rattle.clause_db.proofs.store.marks.few_have_complements.Goals as goal
 
 pub loop-i-preserved : goal.loop-i-preserved
@@ -22,6 +19,4 @@ returns-then-is_among c =
     let x = c.index-lits-i.result in
     let before : has (take i lits) (complement x) ≡ true =
     ap (has (take i lits)) (sym c.neg.ensures) ∙ sym c.is_among.ensures ∙ c.if-is_among.true in
-    sym (any_from (λ l. has lits (complement l)) lits x
-    (has_at lits i x c.loop-i-test.true c.index-lits-i.is)
-    (has_take lits i (complement x) before))
+    sym (both_there lits i c.loop-i-test.true x c.index-lits-i.is before)

@@ -1,0 +1,13 @@
+use Rattle.std.proofs.Common.{◌≡◌, ℕ, false, is_some, take}
+use Rattle.cnf_base.specs.Literals.{has}
+use Rattle.clause_db.specs.Code.LiteralMarks.{is_marked}
+use Rattle.clause_db.specs.Store.{is_tautology}
+use Rattle.tables.specs.Filled.{at}
+use Rattle.clause_db.proofs.store.marks.mark_up_to_complement.Given as goal
+
+abbrev pub invariant-loop-l : goal.invariant-loop-l
+invariant-loop-l l = record {
+  marked : (k : ℕ) → is_marked (at l.marks k) ≡ has (take l.l-index l.lits) k;
+  known : (k : ℕ) → is_some (at l.marks k) ≡ is_some (at l.fn.marks k);
+  none : is_tautology (take l.l-index l.lits) ≡ false;
+}
