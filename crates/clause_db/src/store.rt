@@ -344,7 +344,7 @@ impl<M: Memory> Store<M, Index> {
         let found = find_marked(&self.memory, &self.index, &self.marks, &digest);
         unmark_all(&mut self.marks, lits);
         match found {
-            Some(slot) => Some(Slot::at(slot)),
+            Some(slot) => Some(Slot::at(slot as usize)),
             None => None,
         }
     }

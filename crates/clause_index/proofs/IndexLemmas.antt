@@ -1,8 +1,11 @@
+pub mod Added
+pub mod Anew
+pub mod Chains
+pub mod Found
 pub mod Hashes
-pub mod Index
-pub mod Indexed
+pub mod Longer
+pub mod PutIn
 pub mod Results
-pub mod SlotMap
-pub mod Waiting
+pub mod TakeOut
+pub mod Walks
 pub mod Whole
-pub mod Writes

@@ -1,4 +1,3 @@
 pub mod Hashes
 pub mod Index
-pub mod Waiting
 pub mod Code

@@ -3,22 +3,22 @@
 //! LRAT names clauses by identifiers and never searches for one, so its store has none (`NoIndex`):
 //! a third less memory for clauses of three literals.
 //!
-//! To place a slot takes a load that no cache has, since the hashes lie far apart. So the slots of
-//! a formula's clauses are placed some at a time, after a loop in which these loads overlap. Until
-//! then they wait in a list, and a search goes over it too. From the first removal on, when the
-//! formula is read as a rule, each slot is placed at once.
+//! A slot's link has its hash, so that no clause is hashed again where it is deleted, or where
+//! there are to be more chains. Of copies the one that was added last is found first, so that they
+//! are deleted one after the other without a walk.
 
-ghost use Rattle.std.specs.Prelude.{◌≡◌, ℕ, ◌<◌, length, Some, None, ⊤, OnOk, OnErr, IfSome};
-ghost use Rattle.std.specs.Prelude.{IfNone, IsSome, slice_get};
+ghost use Rattle.std.specs.Prelude.{◌≡◌, ◌≢◌, ℕ, ◌<◌, ◌≤◌, length, Some, None, ⊤, OnOk, OnErr};
+ghost use Rattle.std.specs.Prelude.{IfSome, IfNone, Option, true, false};
 ghost use Rattle.std.specs.Ordering.{nat_cmp};
 ghost use Rattle.std.specs.FinMap as maps;
 ghost use Rattle.std.specs.FinMap.{FinMap};
 ghost use Rattle.cnf_base.specs.Literals.{Clause, size};
 ghost use Rattle.clause_index.specs.Hashes.{hash};
-ghost use Rattle.clause_index.specs.Waiting.{Absent, waiting_at};
 
+use crate::chains::{before, home_of, put_in};
 use crate::hash::hash_of;
-use crate::placed::Placed;
+use crate::link::{Link, NONE};
+use crate::sought::Sought;
 use cnf_base::{Lit, OutOfMemory};
 use std::alloc::Global;
 
@@ -72,51 +72,48 @@ impl Indexing for NoIndex {
     fn remove(&mut self, _slot: usize, _lits: &[Lit]) {}
 }
 
-/// A slot that isn't placed yet, with the hash of its clause.
-#[derive(Clone, Copy)]
-pub struct Waiting {
-    /// By the seed of the index.
-    pub hash: u32,
-    pub slot: u32,
-}
-
-/// How many slots wait at most.
-const MOST: usize = 64;
-
-/// The slots of the clauses by their hashes.
+/// The slots of the clauses by their hashes, in chains.
 ///
-/// A search goes over the slots that wait and those that are placed under the hash, and compares
-/// the clauses: some may be others with the same hash.
+/// A search goes over the slots of a chain, and compares the clauses that have the hash: some may
+/// be others with the same one.
 #[derive(Drop)]
 pub struct Index {
+    alloc: Global,
     /// What clauses are hashed by. Who doesn't know it can't choose clauses with one hash.
     seed: u64,
-    placed: Placed,
-    /// The slots that aren't placed yet.
-    waiting: Vec<Waiting>,
-    /// Whether a slot was removed, so that none is to wait any more.
-    at_once: bool,
-    ghost low: { (i : ℕ) → i < length waiting.items →
-        (waiting_at waiting.items i).slot < 4294967295 },
+    /// The first slot of each chain.
+    heads: Vec<u32>,
+    /// By slot what comes after it.
+    links: Vec<Link>,
+    /// The slots from this one on wait: they are in no chain yet.
+    placed: usize,
+    /// How many slots may wait.
+    waiting: usize,
+    /// How many clauses there are.
+    count: usize,
 }
 
-/// The place at which a slot waits.
-fn place_of(waiting: &[Waiting], slot: u32) -> Option<usize>
-    ensures some { IfSome result (λ i.
-        (i < length waiting.now) × ((waiting_at waiting.now i).slot ≡ slot)) }
-    ensures none { IfNone result (Absent waiting.now slot) }
+/// How many chains there are at first.
+const LEAST: usize = 1024;
+
+/// How many slots a chain has in the mean, at most.
+const LOAD: usize = 2;
+
+/// How many slots may wait until a clause is deleted. They are put into chains one after the other,
+/// so that a processor looks for several heads at once.
+const WAITING: usize = 256;
+
+/// How many chains there are to be where so many have too many slots.
+fn next_len(len: usize) -> usize
+    requires { len < 9223372036854775808 }
+    ensures { 0 < result }
 {
-    for i in 0..waiting.len() {
-        if waiting[i].slot == slot {
-            return Some(i);
-        }
-    }
-    None
+    if len == 0 { LEAST } else { len * 2 }
 }
 
 impl Index {
-    ghost use Rattle.clause_index.specs.Index.{seed_of, waiting_in};
-    ghost use Rattle.clause_index.specs.Code.Index.{Indexes};
+    ghost use Rattle.clause_index.specs.Index.{seed_of};
+    ghost use Rattle.clause_index.specs.Code.Chains.{IsIndexed, Indexes};
 
     /// What clauses are hashed by.
     #[inline(always)]
@@ -126,108 +123,194 @@ impl Index {
         self.seed
     }
 
-    /// The slots that wait to be placed, each with the hash of its clause.
+    /// The slot of a clause with this hash that is sought, if there is one. It takes no memory.
     #[inline(always)]
-    pub fn waiting(&self) -> &[Waiting]
-        ensures waiting { result.now ≡ waiting_in self.now }
-        ensures each { (live : FinMap nat_cmp Clause) (i : ℕ) →
-            ⟦<Index as Indexing>⟧.indexes self.now live → i < length result.now →
-            (c : Clause) × (maps.get live (waiting_at result.now i).slot ≡ Some c)
-            × ((waiting_at result.now i).hash ≡ hash (seed_of self.now) c) }
-    {
-        &self.waiting
-    }
-
-    /// The slots of the clauses with this hash, but for those that wait.
-    #[inline(always)]
-    pub fn placed(&self, key: u32) -> &[u32]
-        ensures all { (live : FinMap nat_cmp Clause) (s : ℕ) (c : Clause) →
+    pub fn find<T: Sought>(&self, key: u32, sought: &T) -> Option<u32>
+        requires { (live : FinMap nat_cmp Clause) × ⟦<Index as Indexing>⟧.indexes self.now live }
+        ensures found { IfSome result (λ s. T.is sought.now s ≡ true) }
+        ensures none { IfNone result ((live : FinMap nat_cmp Clause) (s : ℕ) (c : Clause) →
             ⟦<Index as Indexing>⟧.indexes self.now live → maps.get live s ≡ Some c →
-            hash (seed_of self.now) c ≡ key → Absent (waiting_in self.now) s →
-            (i : ℕ) × (slice_get result.now i ≡ Some s) }
-        ensures each { (live : FinMap nat_cmp Clause) (i s : ℕ) →
-            ⟦<Index as Indexing>⟧.indexes self.now live → slice_get result.now i ≡ Some s →
-            IsSome (maps.get live s) }
+            hash (seed_of self.now) c ≡ key →
+            T.is sought.now s ≡ false) }
     {
-        self.placed.slots(key)
-    }
-
-    /// Places the slot that waits last. Where memory is refused, it still waits.
-    #[inline(always)]
-    fn place_last(&mut self) -> Result<(), OutOfMemory>
-        requires { 0 < length self.old.waiting.items }
-        ensures same { (live : FinMap nat_cmp Clause) →
-            Indexes self.old live → Indexes self.new live }
-        ensures fewer { OnOk result
-            (length self.new.waiting.items < length self.old.waiting.items) }
-    {
-        let last = self.waiting[self.waiting.len() - 1];
-        self.placed.add(last.hash, last.slot)?;
-        self.waiting.pop();
-        Ok(())
-    }
-
-    /// Places all slots that wait. Where memory is refused, some still wait.
-    #[inline(never)]
-    fn place_all(&mut self) -> Result<(), OutOfMemory>
-        ensures same { (live : FinMap nat_cmp Clause) →
-            Indexes self.old live → Indexes self.new live }
-        ensures none { OnOk result (length self.new.waiting.items ≡ 0) }
-    {
-        self.placed.make_room(&self.waiting)?;
-        while !self.waiting.is_empty() {
-            self.place_last()?;
+        if self.heads.is_empty() {
+            return None;
         }
+        match self.find_waiting(key, sought) {
+            Some(slot) => Some(slot),
+            None => self.find_placed(key, sought),
+        }
+    }
+
+    /// A slot with this hash that waits and is sought.
+    #[inline(always)]
+    fn find_waiting<T: Sought>(&self, key: u32, sought: &T) -> Option<u32>
+        ensures found { IfSome result (λ s. T.is sought.now s ≡ true) }
+        ensures none { IfNone result ((live : FinMap nat_cmp Clause) (s : ℕ) (c : Clause) →
+            Indexes self.now live → self.now.placed ≤ s → maps.get live s ≡ Some c →
+            hash (seed_of self.now) c ≡ key →
+            T.is sought.now s ≡ false) }
+    {
+        for slot in self.placed..self.links.len().min(NONE as usize) {
+            if self.links[slot].hash == key && sought.is_at(slot as u32) {
+                return Some(slot as u32);
+            }
+        }
+        None
+    }
+
+    /// A slot with this hash that is in a chain and is sought.
+    #[inline(always)]
+    fn find_placed<T: Sought>(&self, key: u32, sought: &T) -> Option<u32>
+        requires some { 0 < length self.now.heads.items }
+        requires indexes { (live : FinMap nat_cmp Clause) × Indexes self.now live }
+        ensures found { IfSome result (λ s. T.is sought.now s ≡ true) }
+        ensures none { IfNone result ((live : FinMap nat_cmp Clause) (s : ℕ) (c : Clause) →
+            Indexes self.now live → s < self.now.placed → maps.get live s ≡ Some c →
+            hash (seed_of self.now) c ≡ key →
+            T.is sought.now s ≡ false) }
+    {
+        let mut at = self.heads[home_of(key, self.heads.len())];
+        for _step in 0..self.links.len() {
+            if at == NONE {
+                return None;
+            }
+            let link = self.links[at as usize];
+            if link.hash == key && sought.is_at(at) {
+                return Some(at);
+            }
+            at = link.next;
+        }
+        None
+    }
+
+    /// Puts the slots that wait into chains. It takes no memory.
+    fn place_all(&mut self)
+        requires some { 0 < length self.old.heads.items }
+        ensures same { (live : FinMap nat_cmp Clause) →
+            Indexes self.old live → Indexes self.new live }
+        ensures heads { length self.new.heads.items ≡ length self.old.heads.items }
+        ensures links { length self.new.links.items ≡ length self.old.links.items }
+        ensures all { length self.new.links.items ≤ self.new.placed }
+        ensures seed { self.new.seed ≡ self.old.seed }
+    {
+        for slot in self.placed..self.links.len() {
+            let link = self.links[slot];
+            if slot < NONE as usize && link.next as usize != slot {
+                put_in(&mut self.heads, &mut self.links, slot as u32, link.hash);
+            }
+            self.placed = slot + 1;
+        }
+    }
+
+    /// Makes more chains, and puts the slots into them anew. Where memory is refused, nothing
+    /// changes.
+    #[cold]
+    #[inline(never)]
+    fn grow(&mut self) -> Result<(), OutOfMemory>
+        ensures same { (live : FinMap nat_cmp Clause) →
+            Indexes self.old live → Indexes self.new live }
+        ensures some { OnOk result (0 < length self.new.heads.items) }
+        ensures seed { self.new.seed ≡ self.old.seed }
+    {
+        self.heads = vec![in self.alloc; NONE; next_len(self.heads.len())]?;
+        self.placed = 0;
+        self.place_all();
         Ok(())
     }
 
-    /// Makes room for a further slot to wait, or to be placed at once.
+    /// Makes more chains where these have too many slots.
     #[inline(always)]
     fn make_room(&mut self) -> Result<(), OutOfMemory>
-        ensures { (live : FinMap nat_cmp Clause) →
+        ensures same { (live : FinMap nat_cmp Clause) →
             Indexes self.old live → Indexes self.new live }
+        ensures some { OnOk result (0 < length self.new.heads.items) }
+        ensures seed { self.new.seed ≡ self.old.seed }
     {
-        let len = self.waiting.len();
-        if len >= MOST || (self.at_once && len > 0) {
-            return self.place_all();
+        if self.heads.is_empty() || self.count / LOAD >= self.heads.len() {
+            return self.grow();
         }
         Ok(())
+    }
+
+    /// Gives each slot up to this one a link.
+    #[inline(always)]
+    fn reach(&mut self, slot: usize) -> Result<(), OutOfMemory>
+        requires low { slot < 4294967295 }
+        ensures same { (live : FinMap nat_cmp Clause) →
+            Indexes self.old live → Indexes self.new live }
+        ensures inside { OnOk result (slot < length self.new.links.items) }
+        ensures heads { self.new.heads ≡ self.old.heads }
+        ensures placed { self.new.placed ≡ self.old.placed }
+        ensures seed { self.new.seed ≡ self.old.seed }
+    {
+        for next in self.links.len()..slot + 1 {
+            self.links.push(Link {
+                hash: 0,
+                next: next as u32,
+            })?;
+        }
+        Ok(())
+    }
+
+    /// Puts a slot into the chain of its hash, or lets it wait.
+    #[inline(always)]
+    fn put(&mut self, slot: usize, hash: u32)
+        requires some { 0 < length self.old.heads.items }
+        requires inside { slot < length self.old.links.items }
+        requires low { slot < 4294967295 }
+        ensures indexed { (held now : ℕ → Option ℕ) → IsIndexed self.old held →
+            held slot ≡ None → now slot ≡ Some hash → ((s : ℕ) → s ≢ slot → now s ≡ held s) →
+            IsIndexed self.new now }
+        ensures heads { length self.new.heads.items ≡ length self.old.heads.items }
+        ensures seed { self.new.seed ≡ self.old.seed }
+    {
+        if slot < self.placed {
+            put_in(&mut self.heads, &mut self.links, slot as u32, hash);
+        } else {
+            self.links[slot] = Link { hash, next: NONE };
+        }
     }
 }
 
 impl Indexing for Index {
-    ghost use Rattle.clause_index.specs.Code.Index.{Indexes};
+    ghost use Rattle.clause_index.specs.Code.Chains.{Indexes};
 
     ghost indexes = { Indexes };
 
     fn new(alloc: Global, seed: u64) -> Self {
         Index {
+            alloc,
             seed,
-            placed: Placed::new(alloc),
-            waiting: Vec::new(alloc),
-            at_once: false,
+            heads: Vec::new(alloc),
+            links: Vec::new(alloc),
+            placed: 0,
+            waiting: WAITING,
+            count: 0,
         }
     }
 
     fn add(&mut self, slot: usize, lits: &[Lit]) -> Result<(), OutOfMemory> {
         self.make_room()?;
-        let hash = hash_of(self.seed, lits);
-        let slot = slot as u32;
-        if self.at_once {
-            return self.placed.add(hash, slot);
+        self.reach(slot)?;
+        self.put(slot, hash_of(self.seed, lits));
+        self.count = self.count.saturating_add(1);
+        if self.links.len().saturating_sub(self.placed) > self.waiting {
+            self.place_all();
         }
-        self.waiting.push(Waiting { hash, slot })?;
         Ok(())
     }
 
-    fn remove(&mut self, slot: usize, lits: &[Lit]) {
-        self.at_once = true;
-        let slot = slot as u32;
-        match place_of(&self.waiting, slot) {
-            Some(i) => {
-                self.waiting.swap_remove(i);
-            }
-            None => self.placed.remove(hash_of(self.seed, lits), slot),
+    fn remove(&mut self, slot: usize, _lits: &[Lit]) {
+        self.waiting = 0;
+        self.place_all();
+        let link = self.links[slot];
+        let home = home_of(link.hash, self.heads.len());
+        match before(&self.links, self.heads[home], slot as u32) {
+            Some(other) => self.links[other as usize].next = link.next,
+            None => self.heads[home] = link.next,
         }
+        self.links[slot].next = slot as u32;
+        self.count = self.count.saturating_sub(1);
     }
 }

@@ -1,11 +1,12 @@
 //! The index of a store of clauses: their slots by their hashes.
 #![tactic(auto)]
 
-mod buckets;
+mod chains;
 mod hash;
 mod index;
-mod placed;
-mod slot_map;
+mod link;
+mod sought;
 
 pub use hash::{mixed, upper_half};
-pub use index::{Index, Indexing, NoIndex, Waiting};
+pub use index::{Index, Indexing, NoIndex};
+pub use sought::Sought;

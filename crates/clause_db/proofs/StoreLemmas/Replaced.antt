@@ -7,7 +7,7 @@ use Rattle.cnf_base.specs.Literals.{Clause, has}
 use Rattle.occurrences.specs.declared.by_literal.Occurrences.{Occurrences}
 use Rattle.tables.specs.declared.filled.Filled.{Filled}
 use Rattle.clause_memory.specs.Memory as memory
-use Rattle.clause_index.specs.Code.Index.{Indexes}
+use Rattle.clause_index.specs.Code.Chains.{Indexes}
 use Rattle.clause_index.specs.declared.index.Index.{Index}
 use Rattle.clause_index.proofs.IndexLemmas.Hashes.{hash_same}
 use Rattle.clause_index.proofs.IndexLemmas.Whole.{index_swapped}

@@ -5,80 +5,63 @@
 //! unmarks literals, and so takes `&mut self`. A copy of a unit clause is told by its one literal,
 //! and needs no marks.
 
-ghost use Rattle.std.specs.Prelude.{◌≡◌, ◌≢◌, ℕ, ◌<◌, ◌∷◌, [], false, true, Some, length};
-ghost use Rattle.std.specs.Prelude.{IsSome, IfSome, IfNone, slice_get};
+ghost use Rattle.std.specs.Prelude.{◌≡◌, ◌≢◌, ℕ, ◌==◌, ◌&&◌, ◌∷◌, [], not, false, true, Some};
+ghost use Rattle.std.specs.Prelude.{IfSome, IfNone};
 ghost use Rattle.std.specs.FinMap as maps;
 ghost use Rattle.cnf_base.specs.Literals.{Clause};
 ghost use Rattle.clause_index.specs.Hashes.{hash};
 ghost use Rattle.clause_index.specs.Index.{seed_of};
-ghost use Rattle.clause_index.specs.Waiting.{waiting_at};
 ghost use Rattle.clause_db.specs.Code.LiteralMarks.{is_marked};
-ghost use Rattle.clause_db.specs.Code.Matches.{is_match};
+ghost use Rattle.clause_db.specs.Code.Matches.{is_match, is_match_in, is_unit_in};
 ghost use Rattle.tables.specs.Filled.{at};
 
 use crate::store::marks::{Digest, all_marked};
-use clause_index::{Index, Indexing, Waiting, mixed, upper_half};
+use clause_index::{Index, Indexing, Sought, mixed, upper_half};
 use clause_memory::Memory;
 use cnf_base::Lit;
 use tables::Filled;
 
-/// Whether a clause has this many literals, each of them marked.
-fn matches(marks: &Filled<bool>, len: usize, lits: &[Lit]) -> bool
-    ensures { result ≡ is_match (λ l. is_marked (at marks.now l)) len lits.now }
-{
-    lits.len() == len && all_marked(marks, lits)
-}
-
-/// The first slot of the bucket that has a clause of this many literals, each of them marked.
-fn first_match<M: Memory>(
-    memory: &M,
-    bucket: &[u32],
-    marks: &Filled<bool>,
+/// The slot of a clause of so many literals, each of them marked.
+#[derive(Clone, Copy)]
+struct Marked<'a, M: Memory> {
+    memory: &'a M,
+    marks: &'a Filled<bool>,
     len: usize,
-) -> Option<usize>
-    requires { (i s : ℕ) → slice_get bucket.now i ≡ Some s →
-        IsSome (maps.get (M.seen memory.now).live s) }
-    ensures found { IfSome result (λ s. (c : Clause)
-        × (maps.get (M.seen memory.now).live s ≡ Some c)
-        × (is_match (λ l. is_marked (at marks.now l)) len c ≡ true)) }
-    ensures none { IfNone result ((i s : ℕ) (c : Clause) → slice_get bucket.now i ≡ Some s →
-        maps.get (M.seen memory.now).live s ≡ Some c →
-        is_match (λ l. is_marked (at marks.now l)) len c ≡ false) }
-{
-    for i in 0..bucket.len() {
-        let slot = bucket[i] as usize;
-        if matches(marks, len, memory.clause(slot)) {
-            return Some(slot);
-        }
-    }
-    None
 }
 
-/// The first slot that waits with the hash of the digest and has a clause of so many literals, each
-/// of them marked.
-fn first_waiting<M: Memory>(
-    memory: &M,
-    waiting: &[Waiting],
-    marks: &Filled<bool>,
-    digest: &Digest,
-) -> Option<usize>
-    requires { (i : ℕ) → i < length waiting.now →
-        IsSome (maps.get (M.seen memory.now).live (waiting_at waiting.now i).slot) }
-    ensures found { IfSome result (λ s. (c : Clause)
-        × (maps.get (M.seen memory.now).live s ≡ Some c)
-        × (is_match (λ l. is_marked (at marks.now l)) digest.now.len c ≡ true)) }
-    ensures none { IfNone result ((i : ℕ) (c : Clause) → i < length waiting.now →
-        (waiting_at waiting.now i).hash ≡ digest.now.hash →
-        maps.get (M.seen memory.now).live (waiting_at waiting.now i).slot ≡ Some c →
-        is_match (λ l. is_marked (at marks.now l)) digest.now.len c ≡ false) }
-{
-    for i in 0..waiting.len() {
-        let slot = waiting[i].slot as usize;
-        if waiting[i].hash == digest.hash && matches(marks, digest.len, memory.clause(slot)) {
-            return Some(slot);
+impl<M: Memory> Sought for Marked<'_, M> {
+    ghost is = { λ it s. is_match_in (λ l. is_marked (at it.marks.now l)) it.len
+        (maps.get (M.seen it.memory.now).live s) };
+
+    fn is_at(&self, slot: u32) -> bool {
+        match self.memory.at(slot as usize) {
+            Some(lits) => lits.len() == self.len && all_marked(self.marks, lits),
+            None => false,
         }
     }
-    None
+}
+
+/// The slot of a unit clause of this literal, other than this one.
+#[derive(Clone, Copy)]
+struct OtherUnit<'a, M: Memory> {
+    memory: &'a M,
+    literal: Lit,
+    slot: usize,
+}
+
+impl<M: Memory> Sought for OtherUnit<'_, M> {
+    ghost is = { λ it s. not (s == it.slot)
+        && is_unit_in it.literal (maps.get (M.seen it.memory.now).live s) };
+
+    fn is_at(&self, slot: u32) -> bool {
+        if slot as usize == self.slot {
+            return false;
+        }
+        match self.memory.at(slot as usize) {
+            Some([only]) => *only == self.literal,
+            _ => false,
+        }
+    }
 }
 
 /// A slot with the hash of the digest that has a clause of so many literals, each of them marked.
@@ -87,7 +70,7 @@ pub(crate) fn find_marked<M: Memory>(
     index: &Index,
     marks: &Filled<bool>,
     digest: &Digest,
-) -> Option<usize>
+) -> Option<u32>
     requires { ⟦<Index as Indexing>⟧.indexes index.now (M.seen memory.now).live }
     ensures found { IfSome result (λ s. (c : Clause)
         × (maps.get (M.seen memory.now).live s ≡ Some c)
@@ -97,59 +80,14 @@ pub(crate) fn find_marked<M: Memory>(
         hash (seed_of index.now) c ≡ digest.now.hash →
         is_match (λ l. is_marked (at marks.now l)) digest.now.len c ≡ false) }
 {
-    match first_waiting(memory, index.waiting(), marks, digest) {
-        Some(slot) => Some(slot),
-        None => first_match(memory, index.placed(digest.hash), marks, digest.len),
-    }
-}
-
-/// Whether the clause in the slot with this number has the literal, and no other.
-fn is_unit_at<M: Memory>(memory: &M, number: u32, l: Lit) -> bool
-    ensures yes { result ≡ true → maps.get (M.seen memory.now).live number ≡ Some (l ∷ []) }
-    ensures no { result ≡ false → maps.get (M.seen memory.now).live number ≢ Some (l ∷ []) }
-{
-    match memory.at(number as usize) {
-        Some([only]) => *only == l,
-        _ => false,
-    }
-}
-
-/// The first slot of the bucket but this one that has a clause of the literal alone.
-fn first_unit<M: Memory>(memory: &M, bucket: &[u32], l: Lit, slot: usize) -> Option<u32>
-    ensures other { IfSome result (λ s. s ≢ slot) }
-    ensures unit { IfSome result (λ s. maps.get (M.seen memory.now).live s ≡ Some (l ∷ [])) }
-    ensures none { IfNone result ((i s : ℕ) → slice_get bucket.now i ≡ Some s → s ≢ slot →
-        maps.get (M.seen memory.now).live s ≢ Some (l ∷ [])) }
-{
-    for number in bucket {
-        if *number as usize != slot && is_unit_at(memory, *number, l) {
-            return Some(*number);
-        }
-    }
-    None
-}
-
-/// The first slot that waits but this one that has a clause of the literal alone, with this hash.
-fn first_waiting_unit<M: Memory>(
-    memory: &M,
-    waiting: &[Waiting],
-    hash: u32,
-    l: Lit,
-    slot: usize,
-) -> Option<u32>
-    ensures other { IfSome result (λ s. s ≢ slot) }
-    ensures unit { IfSome result (λ s. maps.get (M.seen memory.now).live s ≡ Some (l ∷ [])) }
-    ensures none { IfNone result ((i : ℕ) → i < length waiting.now →
-        (waiting_at waiting.now i).hash ≡ hash → (waiting_at waiting.now i).slot ≢ slot →
-        maps.get (M.seen memory.now).live (waiting_at waiting.now i).slot ≢ Some (l ∷ [])) }
-{
-    for next in waiting {
-        let number = next.slot;
-        if next.hash == hash && number as usize != slot && is_unit_at(memory, number, l) {
-            return Some(number);
-        }
-    }
-    None
+    index.find(
+        digest.hash,
+        &Marked {
+            memory,
+            marks,
+            len: digest.len,
+        },
+    )
 }
 
 /// A slot other than this one that has a clause of the literal alone, if there is one.
@@ -160,9 +98,12 @@ pub(crate) fn find_unit<M: Memory>(memory: &M, index: &Index, l: Lit, slot: usiz
     ensures none { IfNone result ((s : ℕ) → s ≢ slot →
         maps.get (M.seen memory.now).live s ≢ Some (l ∷ [])) }
 {
-    let hash = upper_half(mixed(index.seed(), l));
-    match first_waiting_unit(memory, index.waiting(), hash, l, slot) {
-        Some(number) => Some(number),
-        None => first_unit(memory, index.placed(hash), l, slot),
-    }
+    index.find(
+        upper_half(mixed(index.seed(), l)),
+        &OtherUnit {
+            memory,
+            literal: l,
+            slot,
+        },
+    )
 }

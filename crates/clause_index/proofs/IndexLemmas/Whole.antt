@@ -1,46 +1,48 @@
--- What an index says of the clauses, those that wait among them.
-use Rattle.std.proofs.Common.{◌≡◌, ℕ, true, Option, Some, None, is_some, option_map, slice_get}
-use Rattle.std.proofs.Common.{refl, ◌∙◌, inl, inr, arith, rules}
+-- What is held, through a change of the clauses.
+use Rattle.std.proofs.Common.{◌≡◌, ◌≢◌, ℕ, ◌==◌, cond, Option, Some, None, if◌then◌else◌, option_map, refl, sym, ap, ◌∙◌, subst}
+use Rattle.std.proofs.Common.{inl, inr, eq-eqb, ne_eqb}
+use Rattle.std.proofs.lemmas.Bool.{cases_eq}
 use Rattle.std.specs.Ordering.{nat_cmp}
 use Rattle.std.specs.FinMap as maps
 use Rattle.std.specs.FinMap.{FinMap}
-use Rattle.std.proofs.lemmas.Option.{none-some}
 use Rattle.cnf_base.specs.Literals.{Clause}
 use Rattle.clause_index.specs.Hashes.{hash}
-use Rattle.clause_index.specs.Code.Index.{Indexes}
-use Rattle.clause_index.specs.Code.Placed.{noted_place, under}
-use Rattle.clause_index.specs.Waiting.{Absent}
+use Rattle.clause_index.specs.Code.Chains.{Indexes, IsIndexed, hash_in}
 use Rattle.clause_index.specs.declared.index.Index.{Index}
-use Rattle.clause_index.proofs.IndexLemmas.Index.{index_replaced}
-use Rattle.clause_index.proofs.IndexLemmas.Waiting.{placed_replaced, waiting_replaced, waits_or_not}
+use Rattle.clause_index.proofs.IndexLemmas.Anew.{placed_same}
+use Rattle.cnf_base.proofs.MapLemmas.{insert_here, insert_other, remove_here, remove_other}
+
+module _ (seed : ℕ) (live : FinMap nat_cmp Clause) (slot : ℕ) where
+  pub held_less : (s : ℕ)
+      → (if s == slot then None else hash_in seed live s) ≡ hash_in seed (maps.remove live slot) s
+  held_less s = elim (cases_eq s slot) [
+    | inl e ↦ ap (λ t. cond t None (hash_in seed live s)) (eq-eqb s slot e)
+        ∙ sym (ap (option_map (hash seed)) (remove_here live slot s e))
+    | inr ne ↦ ap (λ t. cond t None (hash_in seed live s)) (ne_eqb s slot ne)
+        ∙ sym (ap (option_map (hash seed)) (remove_other live slot s ne))
+  ]
+
+-- one more clause, in a slot that had none
+pub index_more : (index more : Index) (live : FinMap nat_cmp Clause) (slot : ℕ) (c : Clause) (key : ℕ)
+    → ((held now : ℕ → Option ℕ) → IsIndexed index held → held slot ≡ None → now slot ≡ Some key
+    → ((s : ℕ) → s ≢ slot → now s ≡ held s) → IsIndexed more now)
+    → more.seed ≡ index.seed → key ≡ hash index.seed c → Indexes index live → maps.get live slot ≡ None
+    → Indexes more (maps.insert live slot c)
+index_more index more live slot c key put seed is indexed free =
+    subst (λ n. IsIndexed more (hash_in n (maps.insert live slot c))) (sym seed)
+    (put (hash_in index.seed live) (hash_in index.seed (maps.insert live slot c)) indexed (ap (option_map (hash index.seed)) free)
+    (ap (option_map (hash index.seed)) (insert_here live slot slot c refl) ∙ ap Some (sym is))
+    (λ s ne. ap (option_map (hash index.seed)) (insert_other live slot s c ne)))
 
 module _ (index : Index) (live : FinMap nat_cmp Clause) (sound : Indexes index live) where
   -- a clause in the place of one with the same hash
   pub index_swapped : (k : ℕ) (c d : Clause) → maps.get live k ≡ Some c
       → hash index.seed d ≡ hash index.seed c → Indexes index (maps.insert live k d)
-  index_swapped k c d here alike = elim (waits_or_not index.waiting.items k) [
-    | inl w ↦ search (rules, waiting_replaced)
-    | inr none ↦ record {
-      rest = maps.insert sound.rest k d;
-      placed = index_replaced index.seed (under index.placed) (noted_place index.placed) sound.rest sound.placed k c d (sound.waiting.others k none ∙ here) alike;
-      waiting = grind (arith, placed_replaced);
-    }
-  ]
-
-  -- a slot in a bucket has a clause
-  pub placed_has : (h i s : ℕ) → slice_get (under index.placed h) i ≡ Some s
-      → is_some (maps.get live s) ≡ true
-  placed_has h i s stands =
-      by_rest (maps.get sound.rest s) refl (sound.placed.placed.back s h i stands)
+  index_swapped k c d here alike = placed_same index.links.items index.heads.items index.placed _ _ same sound
     where
-      by_rest : (o : Option Clause) → maps.get sound.rest s ≡ o
-          → option_map {U = ℕ × ℕ} (λ (d : Clause). (hash index.seed d, noted_place index.placed s))
-          o ≡ Some (h, i) → is_some (maps.get live s) ≡ true
-      by_rest None e wrong = absurd (none-some (h, i) wrong)
-      by_rest (Some c) e _ = grind arith
-
-  -- a clause whose slot doesn't wait is in the bucket of its hash
-  pub placed_all : (s : ℕ) (c : Clause) → maps.get live s ≡ Some c → Absent index.waiting.items s
-      → slice_get (under index.placed (hash index.seed c)) (noted_place index.placed s) ≡ Some s
-  placed_all s c is none =
-      sound.placed.placed.there s (hash index.seed c) (noted_place index.placed s) (grind arith)
+      same : (s : ℕ) → hash_in index.seed live s ≡ hash_in index.seed (maps.insert live k d) s
+      same s = elim (cases_eq s k) [
+        | inl e ↦ ap (option_map (hash index.seed)) (ap (maps.get live) e ∙ here) ∙ ap Some (sym alike)
+            ∙ sym (ap (option_map (hash index.seed)) (insert_here live k s d e))
+        | inr ne ↦ sym (ap (option_map (hash index.seed)) (insert_other live k s d ne))
+      ]

@@ -1,10 +1,17 @@
+use Rattle.std.proofs.Common.{◌≡◌, ℕ, None, ap, option_map, subst, sym, length, ◌<◌, ◌∙◌, arith}
+use Rattle.std.specs.Ordering.{nat_cmp}
 use Rattle.std.specs.FinMap as maps
-use Rattle.clause_index.proofs.IndexLemmas.Waiting.{none_waiting}
+use Rattle.std.proofs.lemmas.Option.{none-some}
+use Rattle.clause_index.specs.Hashes.{hash}
+use Rattle.clause_index.specs.Code.Chains.{AreChained, below, hash_in}
+use Rattle.clause_index.proofs.IndexLemmas.Anew.{above_is, chained_none}
 use Rattle.clause_index.proofs.index.IndexIndexing.new.Goals as goal
 
 pub returns : goal.returns
-returns c = record {
-  rest = maps.empty;
-  placed = c.new.ensures c.args.seed;
-  waiting = none_waiting c.args.seed _ c.new-2.ensures.items maps.empty;
-}
+returns c =
+    let none : (s : ℕ) → hash_in c.args.seed maps.empty s ≡ None = λ s. ap (option_map (hash c.args.seed)) (maps.get-empty nat_cmp s) in
+    record {
+      chained = subst (λ hs. AreChained c.new-2.result.items hs (below 0 (hash_in c.args.seed maps.empty))) (sym c.new.ensures.items) (chained_none c.new-2.result.items 0 _ (λ s. above_is (hash_in c.args.seed maps.empty) 0 s (omega arith)));
+      waiting = λ s h le e. absurd (none-some h (sym (none s) ∙ e));
+      vacant = λ s low free. let empty = c.new-2.ensures.items in absurd (let wrong : ⊥ = omega (arith, subst (λ xs. s < length xs) empty low) in wrong);
+    }

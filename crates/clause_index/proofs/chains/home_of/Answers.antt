@@ -1,0 +1,7 @@
+use Rattle.std.proofs.Common.{refl}
+use Rattle.clause_index.specs.Code.Chains.{home}
+use Rattle.clause_index.proofs.chains.home_of.Goals as goal
+
+pub returns-clause-home : goal.returns-clause-home
+unfolding home
+returns-clause-home c = refl

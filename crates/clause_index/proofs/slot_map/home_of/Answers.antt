@@ -1,7 +1,0 @@
-use Rattle.std.proofs.Common.{refl}
-use Rattle.clause_index.specs.Code.Entries.{home}
-use Rattle.clause_index.proofs.slot_map.home_of.Goals as goal
-
-pub returns-clause-home : goal.returns-clause-home
-unfolding home
-returns-clause-home c = refl
