@@ -4,8 +4,8 @@
 //! a third less memory for clauses of three literals.
 //!
 //! A slot's link has its hash, so that no clause is hashed again where it is deleted, or where
-//! there are to be more chains. Of copies the one that was added last is found first, so that they
-//! are deleted one after the other without a walk.
+//! there are to be more chains. Of copies the one that was put last into its chain is found first,
+//! so that they are deleted one after the other without a walk.
 
 ghost use Rattle.std.specs.Prelude.{◌≡◌, ◌≢◌, ℕ, ◌<◌, ◌≤◌, length, Some, None, ⊤, OnOk, OnErr};
 ghost use Rattle.std.specs.Prelude.{IfSome, IfNone, Option, true, false};

@@ -5,7 +5,8 @@
 pub(crate) struct Link {
     /// The hash of its clause.
     pub(crate) hash: u32,
-    /// The slot that comes after it, or `NONE`. A slot that is in no chain has itself.
+    /// The slot that comes after it, or `NONE`. One that nothing holds has itself, and one that
+    /// waits for its chain has `NONE`.
     pub(crate) next: u32,
 }
 

@@ -23,9 +23,6 @@ number_push : (names : List ℕ) (w v : ℕ) → has names w ≡ false → numbe
 number_push [] w v none = grind (arith, nat_tests)
 number_push (n ∷ ns) w v none = let e = number_push ns w v in grind (arith, nat_tests)
 
-has_number : (names : List ℕ) (v : ℕ) → number_or names v ≢ 0 → has names v ≡ true
-has_number names v some = grind (arith, nat_tests)
-
 has_none : (names : List ℕ) (v : ℕ) → number_or names v ≡ 0 → has names v ≡ false
 has_none names v none = grind (arith, nat_tests)
 
@@ -95,11 +92,6 @@ met_more f g w n none some from writes (suc b) to = elim (cases_eq w (suc b)) [
 ]
 
 -- ---- The code's values
-
--- room is made, and then a number is written at one variable
-all_written : (first room last : ℕ → Option ℕ) (key w n : ℕ) → key ≡ w → ((v : ℕ) → unwrap_or (room v) 0 ≡ unwrap_or (first v) 0) → ((v : ℕ) → last v ≡ cond (eqb v key) (Some n) (room v)) → (v : ℕ) →
-    unwrap_or (last v) 0 ≡ cond (eqb v w) n (unwrap_or (first v) 0)
-all_written first room last key w n is same writes v = search rules
 
 -- the number of a variable that stands among the first ones
 pub number_near : (all : ℕ → Option ℕ) (near : List ℕ) → ((k : ℕ) → k < length near → slice_get near k ≡ all k) → (v n : ℕ) → n ≡ unwrap_or (slice_get near v) 0 → n ≢ 0 → unwrap_or (all v) 0 ≡ n

@@ -1,6 +1,6 @@
 -- Entries of lists, and the slots that occur.
 use Rattle.std.proofs.Common.{◌≡◌, ◌≢◌, ℕ, ◌+◌, ◌≤◌, true, false, ◌&&◌, ◌||◌, not, cond, eqb}
-use Rattle.std.proofs.Common.{eq-eqb, eqb-true, nat_le, is_some, unwrap_or, Option, Some, None}
+use Rattle.std.proofs.Common.{eq-eqb, eqb-true, is_some, unwrap_or, Some, None}
 use Rattle.std.proofs.Common.{List, [], ◌++◌, filter, map, Result, OnOk, OnErr, ◌∙◌, arith, ◌∷◌}
 use Rattle.std.proofs.Common.{◌<◌, rules}
 use Rattle.std.proofs.lemmas.Grind.{get_or_default_zero}
@@ -59,12 +59,6 @@ put_alike births before taken after key list took put alike k = grind arith
 
 pub written_others : (old new : Table ℕ) (slot m : ℕ) → ((k : ℕ) → at new k ≡ cond (eqb k slot) (Some m) (at old k)) → (k : ℕ) → k ≢ slot → at new k ≡ at old k
 written_others old new slot m is k ne = grind arith
-
--- a larger number is noted
-pub more_known : (o p : Option ℕ) (n m b : ℕ) → o ≡ Some n → p ≡ Some m → n ≤ m
-    → (is_some o && nat_le b (unwrap_or o 0)) ≡ true
-    → (is_some p && nat_le b (unwrap_or p 0)) ≡ true
-more_known o p n m b is was le h = grind arith
 
 module _ (old new : Table ℕ) (slot : ℕ) (others : (k : ℕ) → k ≢ slot → at new k ≡ at old k) where
   -- the entries of the slot count no longer

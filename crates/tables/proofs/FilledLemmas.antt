@@ -1,12 +1,11 @@
 -- One value at the keys of literals and of their complements, written one after the other.
-use Rattle.std.proofs.Common.{◌≡◌, ℕ, ◌+◌, ◌<◌, Bool, true, false, is_some, None, Option, ◌||◌, cond, eqb, eq-eqb, List, Some}
-use Rattle.std.proofs.Common.{set, slice_get, take, get_or, length, refl, sym, ap, ◌∙◌, inl, inr, arith}
+use Rattle.std.proofs.Common.{◌≡◌, ℕ, ◌+◌, ◌<◌, Bool, true, false, is_some, None, Option, ◌||◌, cond, eqb, List, Some}
+use Rattle.std.proofs.Common.{slice_get, take, get_or, length, refl, sym, ap, ◌∙◌, inl, inr, arith}
 use Rattle.std.specs.BTreeMap as tree
 use Rattle.std.specs.Option.{option_or}
 use Rattle.std.specs.Ordering.{nat_cmp}
-use Rattle.std.proofs.lemmas.Bool.{cases_eq, cases_lt, ne_eqb, true≢false}
-use Rattle.std.proofs.lemmas.List.{get_or-set_same, get_or-set_other, length-set}
-use Rattle.std.proofs.lemmas.Option.{slice_get-get_or, slice_get_past}
+use Rattle.std.proofs.lemmas.Bool.{cases_lt, ne_eqb, true≢false}
+use Rattle.std.proofs.lemmas.Option.{slice_get_past}
 use Rattle.cnf_base.specs.Literals.{complement, has}
 use Rattle.tables.specs.Filled.{at}
 use Rattle.tables.specs.declared.filled.Filled.{Filled}
@@ -15,26 +14,6 @@ use Rattle.cnf_base.proofs.WalkLemmas.{has_more}
 
 or_nothing : (b : Bool) → (b || false) ≡ b
 or_nothing b = grind arith
-
--- an element that was written, and the others
-pub set_get : {X : Type 0} (xs : List X) (i : ℕ) (x : X) → i < length xs → (k : ℕ) →
-    slice_get (set xs i x) k ≡ cond (eqb k i) (Some x) (slice_get xs k)
-set_get xs i x inside k = elim (cases_eq k i) [
-  | inl same ↦
-      slice_get-get_or (set xs i x) k x (omega (arith, same, inside, length-set xs i x))
-      ∙ ap Some (ap (λ n. get_or (set xs i x) n x) same ∙ get_or-set_same xs i x x inside)
-      ∙ sym (ap (λ b. cond b (Some x) (slice_get xs k)) (eq-eqb k i same))
-  | inr other ↦
-      elim (cases_lt k (length xs)) [
-        | inl within ↦
-            slice_get-get_or (set xs i x) k x (omega (arith, within, length-set xs i x))
-            ∙ ap Some (get_or-set_other xs i k x x other) ∙ sym (slice_get-get_or xs k x within)
-        | inr past ↦
-            slice_get_past (set xs i x) k (omega (arith, past, length-set xs i x))
-            ∙ sym (slice_get_past xs k past)
-      ]
-      ∙ sym (ap (λ b. cond b (Some x) (slice_get xs k)) (ne_eqb k i other))
-]
 
 module _ {T : Type 0} (value : T) (c : List ℕ) (i : ℕ) (inside : i < length c) (x : ℕ) (is : x ≡ get_or c i x) (was before after : ℕ → T) where
   pub written_more : ((k : ℕ) → before k

@@ -5,7 +5,7 @@
 //! the others stand in a balanced tree, where no choice of keys makes a look-up long.
 
 ghost use Rattle.std.specs.Prelude.{◌≡◌, ℕ, ◌==◌, ◌<◌, ◌≤◌, if◌then◌else◌, unwrap_or, vec_len};
-ghost use Rattle.std.specs.Prelude.{IsSome, OnOk, OnErr, Some, None, ◌≢◌, length, slice_get, take};
+ghost use Rattle.std.specs.Prelude.{IsSome, OnOk, Some, None, length, slice_get, take};
 ghost use Rattle.std.specs.Prelude.{IfSome, true};
 ghost use Rattle.std.specs.Ordering.{nat_cmp};
 ghost use Rattle.std.specs.BTreeMap as tree;
@@ -270,32 +270,6 @@ impl<T: Copy + Drop> Filled<T> {
         if !self.far.contains_key(&key) {
             self.far.insert(key, first)?;
         }
-        Ok(())
-    }
-
-    /// Writes the value at the key. Room for it may make room for others: those get `first`.
-    ///
-    /// # Errors
-    ///
-    /// Where memory runs out. No value has changed then.
-    pub fn put(&mut self, key: u32, value: T, first: T) -> Result<(), OutOfMemory>
-        ensures ok { OnOk result (at self.new key ≡ Some value) }
-        ensures others { OnOk result ((k : ℕ) → k ≢ key →
-            unwrap_or (at self.new k) first ≡ unwrap_or (at self.old k) first) }
-        ensures err { OnErr result ((k : ℕ) →
-            unwrap_or (at self.new k) first ≡ unwrap_or (at self.old k) first) }
-        ensures kept { (k : ℕ) → IsSome (at self.old k) → IsSome (at self.new k) }
-    {
-        if key as usize >= self.near.len() {
-            match len_for(key, self.near.len(), self.far.len()) {
-                Some(len) => self.widen(len, first)?,
-                None => {
-                    self.far.insert(key, value)?;
-                    return Ok(());
-                }
-            }
-        }
-        self.near[key as usize] = value;
         Ok(())
     }
 }

@@ -81,6 +81,8 @@ impl<T: Copy + Drop> Table<T> {
         ensures err { OnErr result ((k : ℕ) → at self.new k ≡ at self.old k) }
     {
         let entry = Some(value);
-        self.values.put(key, entry, None)
+        self.values.reserve(key, None)?;
+        self.values.set(key, entry);
+        Ok(())
     }
 }

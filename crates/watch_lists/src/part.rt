@@ -6,8 +6,8 @@ ghost use Rattle.watch_lists.specs.Code.Part.{is_in};
 use cnf_base::Lit;
 use tables::key;
 
-/// How many literals a part has. A processor's caches and its page tables have room for the lists
-/// of as many, where they have none for those of all literals.
+/// How many literals a part has. A processor's caches and its buffer of page addresses have room
+/// for the lists of as many, where they have none for those of all literals.
 const LITERALS: usize = 262144;
 
 /// How many parts there are at most, since all clauses are gone over for each.

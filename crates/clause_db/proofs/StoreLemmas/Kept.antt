@@ -1,6 +1,6 @@
 -- The occurrences of literals in the clauses, through a change.
-use Rattle.std.proofs.Common.{◌≡◌, ℕ, ◌<◌, nat_lt, Bool, true, false, ◌&&◌, ◌||◌, not, eqb, Option}
-use Rattle.std.proofs.Common.{Some, None, is_some, List, [], ◌∷◌, refl, sym, ◌∙◌, arith, rules}
+use Rattle.std.proofs.Common.{◌≡◌, ℕ, ◌<◌, Bool, true, false, ◌&&◌, ◌||◌, not, eqb, Option}
+use Rattle.std.proofs.Common.{Some, None, List, [], ◌∷◌, refl, sym, ◌∙◌, arith, rules}
 use Rattle.std.specs.List.{list_any}
 use Rattle.std.specs.Ordering.{nat_cmp}
 use Rattle.std.specs.FinMap as maps
@@ -28,9 +28,6 @@ and_true b = grind arith
 and_false : (b : Bool) → (b && false) ≡ false
 and_false b = grind arith
 
-or_false : (b : Bool) → (b || false) ≡ b
-or_false b = grind arith
-
 pub of_with : (old new : Occurrences) (live : FinMap nat_cmp Clause) (k : ℕ) (c : Clause)
     → AreOf old live → maps.get live k ≡ None → k < 4294967296
     → ((l s : ℕ) → occurs new l s ≡ (occurs old l s || (has c l && eqb s k)))
@@ -48,23 +45,6 @@ pub kept_replaced : (kept : Option Occurrences) (live : FinMap nat_cmp Clause) (
     → AreKept kept (maps.insert live k d)
 kept_replaced kept live k c d here alike are = grind (arith, insert_here, insert_other)
 
--- ---- Notes of all clauses
-
-module _ (live : FinMap nat_cmp Clause) (slot : ℕ) where
-  pub noted_some : (c : Clause) → maps.get live slot ≡ Some c → (before : Bool) (l s : ℕ)
-      → (before || (has c l && eqb s slot)) ≡ (before || (eqb s slot && has_in (maps.get live s) l))
-  noted_some c here before l s = grind arith
-
-  pub noted_none : maps.get live slot ≡ None → (before : Bool) (l s : ℕ)
-      → before ≡ (before || (eqb s slot && has_in (maps.get live s) l))
-  noted_none none before l s = grind arith
-
-pub all_noted : (live : FinMap nat_cmp Clause) (n : ℕ) (o : Occurrences)
-    → ((s : ℕ) → is_some (maps.get live s) ≡ true → s < n)
-    → ((l s : ℕ) → occurs o l s ≡ (nat_lt s n && has_in (maps.get live s) l))
-    → ((s : ℕ) → is_some (maps.get live s) ≡ true → s < 4294967295) → AreOf o live
-all_noted live n o all is low = grind arith
-
 -- ---- A slot whose clause has one of the literals
 
 none_has : (lits : List Literal) → list_any (λ l. has_in None l) lits ≡ false
@@ -79,7 +59,3 @@ touched_from live lits s h = by_clause (maps.get live s) refl h
         → list_any (λ l. has_in o (complement l)) lits ≡ true → IsTouchedAt live lits s
     by_clause None is any = absurd (false≢true (sym (none_has lits) ∙ any))
     by_clause (Some c) is any = record { clause = c; at = is; touched = any }
-
-pub from_touched : (live : FinMap nat_cmp Clause) (lits : List Literal) (s : ℕ)
-    → IsTouchedAt live lits s → list_any (λ l. has_in (maps.get live s) (complement l)) lits ≡ true
-from_touched live lits s w = grind arith

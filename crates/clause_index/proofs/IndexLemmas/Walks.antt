@@ -56,16 +56,6 @@ pub record IsSearched (links : List Link) (chain : List ℕ) (Tested : ℕ → T
   pub few : step + length left ≤ length chain
   pub past : (s : ℕ) → has chain s ≡ true → has left s ≡ false → Tested s
 
-pub search_begins : (links : List Link) (chain : List ℕ) (Tested : ℕ → Type 0) (first : ℕ)
-    → AreLinked links first chain → IsSearched links chain Tested 0 first
-search_begins links chain Tested first linked = record {
-  left = chain;
-  linked = linked;
-  within = λ s h. h;
-  few = omega arith;
-  past = λ s h n. absurd (false≢true (sym n ∙ h));
-}
-
 module _ (links : List Link) (chain : List ℕ) (Tested : ℕ → Type 0) (step at : ℕ) (so_far : IsSearched links chain Tested step at) where
   pub found_in : at ≢ 4294967295 → has chain at ≡ true
   found_in some = so_far.within at (first_in links so_far.left at so_far.linked some)

@@ -1,8 +1,8 @@
 -- The lines of a cache.
 use Rattle.std.proofs.Common.{◌≡◌, ◌≢◌, ℕ, ◌<◌, cond, eqb, eq-eqb, ne_eqb, List, length, get_or}
 use Rattle.std.proofs.Common.{set, sym, ap, ◌∙◌, arith, inl, inr, get_or-set_same, get_or-set_other}
-use Rattle.std.proofs.Common.{replicate, bit_and, ◌+◌, if◌then◌else◌, nat_lt}
-use Rattle.std.proofs.lemmas.Bool.{cases_eq, cases_lt, lt-ltb, le-ltb}
+use Rattle.std.proofs.Common.{replicate, bit_and, if◌then◌else◌, nat_lt}
+use Rattle.std.proofs.lemmas.Bool.{cases_eq, cases_lt, lt-ltb}
 use Rattle.std.proofs.lemmas.Nat.{and_le_r}
 use Rattle.std.proofs.lemmas.List.{get_or_past, get_or_default, get_or-replicate, length-replicate}
 use Rattle.ids.specs.Code.Cache.{page_of, page_among}
@@ -88,26 +88,6 @@ module _ (lines : List Line) (mask number : ℕ) (has : mask < length lines) (li
 -- what a number has there
 abbrev pub moved_to : List Line → ℕ → ℕ → ℕ → ℕ
 moved_to lines mask i k = if nat_lt (bit_and k mask) i then page_among lines mask k else 0
-
-module _ (lines : List Line) (mask i : ℕ) (line : Line) (low : i < length lines) (read : line ≡ get_or lines i line) (cached : ℕ → ℕ) (moved : (k : ℕ) → cached k ≡ moved_to lines mask i k) where
-  at_line : (k : ℕ) → bit_and k mask ≡ i → page_among lines mask k ≡ page_of line k
-  at_line k at = ap (λ p. page_of (get_or lines p free) k) at ∙ ap (λ (l : Line). page_of l k) (sym (read ∙ get_or_default lines i line free low))
-
-  before_it : (k : ℕ) → bit_and k mask ≡ i → cached k ≡ 0
-  before_it k at = moved k ∙ ap (λ b. cond b (page_among lines mask k) 0) (le-ltb (bit_and k mask) i (omega arith))
-
-  same_test : (k : ℕ) → bit_and k mask ≢ i → nat_lt (bit_and k mask) i ≡ nat_lt (bit_and k mask) (i + 1)
-  same_test k apart = grind (arith, cases_lt, lt-ltb, le-ltb)
-
-  moved_other : (k : ℕ) → bit_and k mask ≢ i → cached k ≡ moved_to lines mask (i + 1) k
-  moved_other k apart = moved k ∙ ap (λ b. cond b (page_among lines mask k) 0) (same_test k apart)
-
-  here : (k : ℕ) → bit_and k mask ≡ i → moved_to lines mask (i + 1) k ≡ page_of line k
-  here k at = ap (λ b. cond b (page_among lines mask k) 0) (lt-ltb (bit_and k mask) (i + 1) (omega arith)) ∙ at_line k at
-
-  -- the line has none of its own
-  pub not_moved : (line.page ≢ 0 → bit_and line.number mask ≢ i) → (k : ℕ) → cached k ≡ moved_to lines mask (i + 1) k
-  not_moved none k = grind (arith, cases_eq, before_it, here, page_of-unless, moved_other)
 
 pub moved_all : (lines : List Line) (mask i k : ℕ) → mask < i → moved_to lines mask i k ≡ page_among lines mask k
 moved_all lines mask i k past = let most = and_le_r k mask in ap (λ b. cond b (page_among lines mask k) 0) (lt-ltb (bit_and k mask) i (omega arith))

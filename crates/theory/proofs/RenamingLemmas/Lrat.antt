@@ -12,7 +12,7 @@ use Rattle.theory.specs.{Sets.conflicts, Lrat.without_ids, Lrat.deletion_refusal
 use Rattle.theory.specs.Lrat.{ChainEnd, conflict, open_with, unknown, not_unit, look_at, chain}
 use Rattle.theory.specs.Lrat.{Group, LratStep, add, delete, with_candidate, chain_refusal}
 use Rattle.theory.specs.Lrat.{group_refusal, groups_refusal, is_unsettled, is_left_out}
-use Rattle.theory.specs.Lrat.{AnswersGroups, AnswersChain, AnswersLrat, with_clause, without_id}
+use Rattle.theory.specs.Lrat.{AnswersGroups, AnswersChain, AnswersLrat, without_id}
 use Rattle.theory.proofs.RenamingLemmas.Clauses.{AreAmong, Renames, all_mapped, equal_is}
 use Rattle.theory.proofs.RenamingLemmas.Clauses.{has_opposite, complements_mapped, without_mapped}
 use Rattle.theory.proofs.RenamingLemmas.Clauses.{open_mapped, conflicts_mapped, complements_among}
@@ -169,9 +169,6 @@ module _ (there back : Literal → Literal) (among : Literal → Type 0) (r : Re
     without_mapped_id,
     (deletion_mapped ids (without_id live id) (without_id other id) (search rules)),
   )
-
-  pub with_mapped : (live other : Live) → AreRenamed there live other → (id : ℕ) (c : Clause) → AreRenamed there (with_clause live id c) (with_clause other id (map there c))
-  with_mapped live other mapped id c k = search rules
 
   pub without_all_mapped : (ids : List ℕ) (live other : Live) → AreRenamed there live other → AreRenamed there (without_ids live ids) (without_ids other ids)
   without_all_mapped [] live other mapped = mapped

@@ -1,13 +1,9 @@
 -- The variables that were reserved, read off a table by variable.
-use Rattle.std.proofs.Common.{◌≡◌, ℕ, zero, suc, ◌+◌, ◌≤◌, ◌∷◌, [], length, false, cond, eqb, ◌||◌}
-use Rattle.std.proofs.Common.{◌&&◌, nat_le, Option, Some, None, is_some, refl, arith, List}
-use Rattle.std.proofs.{lemmas.Bool.Decides.nat_tests, Common.Bool, Common.rules}
+use Rattle.std.proofs.Common.{◌≡◌, ℕ, zero, suc, ◌+◌, ◌≤◌, [], length, false, cond, eqb, ◌||◌}
+use Rattle.std.proofs.Common.{◌&&◌, nat_le, Option, Some, None, is_some, refl, arith}
+use Rattle.std.proofs.{lemmas.Bool.Decides.nat_tests, Common.rules}
 use Rattle.cnf_base.specs.Literals.{has}
 use Rattle.trail.specs.Code.Values.{seen_up_to}
-
--- what a table says of a variable at the head of the list
-abbrev with_head : Bool → ℕ → List ℕ → List ℕ
-with_head b v vs = cond b (v ∷ vs) vs
 
 module _ {T : Type 0} (seen : ℕ → Option T) where
   pub seen_has : (n v : ℕ) → has (seen_up_to seen n) v

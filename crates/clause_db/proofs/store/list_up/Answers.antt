@@ -10,12 +10,6 @@ use Rattle.clause_db.proofs.StoreLemmas.Kept.{insert_undone}
 use Rattle.cnf_base.proofs.MapLemmas.{insert_here}
 use Rattle.clause_db.proofs.store.list_up.Goals as goal
 
-pub count_in-requires-clause-few : goal.count_in-requires-clause-few
-count_in-requires-clause-few g c = let w = c.requires.free in (w.0, w.2, w.4)
-
-pub note-requires-clause-free : goal.note-requires-clause-free
-note-requires-clause-free g c = let w = c.requires.free in (w.0, w.1, w.3)
-
 -- ---- Counts that are taken back
 
 module _ (slot : ℕ) (lits : Clause) (old with : Option (Filled ℕ))

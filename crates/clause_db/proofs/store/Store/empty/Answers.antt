@@ -13,6 +13,3 @@ invariant_of-result g c =
       tt,
       tt,
     )
-
-pub returns : goal.returns
-returns g c = λ t. record { live = c.new.ensures.live t; slots = c.new.ensures.slots t; stored = c.new.ensures.stored t }

@@ -1,12 +1,7 @@
 use Rattle.std.proofs.Common.{sym, ap, ◌∙◌}
-use Rattle.std.specs.FinMap as maps
 use Rattle.clause_db.specs.Store.{literals_in}
 use Rattle.clause_db.proofs.StoreLemmas.Fields.{live_alone}
 use Rattle.clause_db.proofs.store.Store.recall_invariant.Goals as goal
-
-pub returns-clause-different : goal.returns-clause-different
-returns-clause-different g c s d is =
-    c.self.invariant.0.different s d (ap (λ v. maps.get v.live s) c.self.view_is ∙ is)
 
 pub returns-clause-live_alone : goal.returns-clause-live_alone
 returns-clause-live_alone g c =

@@ -7,13 +7,6 @@ use Rattle.clause_db.specs.Code.Kept.{AreKept}
 use Rattle.clause_db.proofs.StoreLemmas.Fields.{live_alone, sound_without, within_sum}
 use Rattle.clause_db.proofs.store.Store.remove.Goals as goal
 
-pub clause-lits-requires : goal.clause-lits-requires
-clause-lits-requires g c =
-    ap (λ v. is_some (maps.get v.live c.number-number.result)) c.self.view_is ∙ ap (λ s. is_some (maps.get c.args.self.now.live s)) c.number-number.ensures ∙ c.requires
-
-pub count_out-requires-clause-different : goal.count_out-requires-clause-different
-count_out-requires-clause-different g c = c.self.invariant.0.different c.number-number.result c.clause-lits.result.now (sym c.clause-lits.ensures)
-
 pub count_out-requires-clause-there : goal.count_out-requires-clause-there
 count_out-requires-clause-there g c = ((g.M.Memory.seen c.self.inside.memory).live, c.number-number.result, c.self.invariant.3, sym c.clause-lits.ensures)
 
@@ -22,17 +15,11 @@ overflow_sub-self g c =
     let i = c.self.inside in
     within_sum (g.M.Memory.seen i.memory).live (g.M.Memory.seen i.memory).stored i.marks i.sum c.self.invariant.0 c.number-number.result c.clause-lits.result.now (sym c.clause-lits.ensures)
 
-pub remove-requires-clause-different : goal.remove-requires-clause-different
-remove-requires-clause-different g c = c.self.invariant.0.different c.number-number.result c.clause-lits.result.now (sym c.clause-lits.ensures)
-
 pub remove-requires-clause-there : goal.remove-requires-clause-there
 remove-requires-clause-there g c = ((g.M.Memory.seen c.self.inside.memory).live, c.self.invariant.1, sym c.clause-lits.ensures)
 
 pub forget-requires : goal.forget-requires
 forget-requires g c = ((g.M.Memory.seen c.self.inside.memory).live, c.self.invariant.2, ap is_some (sym c.clause-lits.ensures))
-
-pub remove-requires-2 : goal.remove-requires-2
-remove-requires-2 g c = ap is_some (sym c.clause-lits.ensures)
 
 pub invariant_of-self : goal.invariant_of-self
 invariant_of-self g c =

@@ -1,15 +1,9 @@
 use Rattle.std.proofs.Common.{◌-◌, ap, ◌∙◌}
-use Rattle.std.specs.List.{swap}
 use Rattle.std.specs.FinMap as maps
 use Rattle.clause_db.proofs.StoreLemmas.Fields.{live_alone}
 use Rattle.clause_db.proofs.StoreLemmas.Replaced.{all_replaced}
 use Rattle.clause_db.proofs.StoreLemmas.Swap.{has_rewatched, length_rewatched}
 use Rattle.clause_db.proofs.store.Store.rewatch.Goals as goal
-
-pub rewatch-requires : goal.rewatch-requires
-rewatch-requires c =
-    let w = c.requires in
-    (w.0, w.1, ap (maps.get c.self.inside.memory.live) c.number.ensures ∙ ap (λ v. maps.get v.live c.args.slot) c.self.view_is ∙ w.2, w.3, w.4, w.5, w.6, w.7, w.8)
 
 pub invariant_of-self : goal.invariant_of-self
 invariant_of-self c =
@@ -24,16 +18,6 @@ invariant_of-self c =
     all_replaced i.index i.occurrences i.counts i.marks i.sum i.memory.live c.rewatch.new.self.live
     i.memory.stored c.rewatch.new.self.stored c.number.result x _ c.self.invariant here alike
     as_long live c.rewatch.ensures.live_alone
-
-pub returns-clause-live : goal.returns-clause-live
-returns-clause-live c x from here low is_l is_other =
-    let i = c.self.inside in
-    let there = ap (maps.get i.memory.live) c.number.ensures
-    ∙ ap (λ v. maps.get v.live c.args.slot) c.self.view_is ∙ here in
-    let y = swap (swap x 0 (1 - from)) 1 c.args.to in
-    c.rewatch.ensures.live x from there low is_l is_other
-    ∙ ap (λ s. maps.insert i.memory.live s y) c.number.ensures
-    ∙ ap (λ v. maps.insert v.live c.args.slot y) c.self.view_is
 
 pub returns-clause-live_alone : goal.returns-clause-live_alone
 returns-clause-live_alone c = live_alone c.rewatch.new.self.live c.rewatch.new.self.stored c.self.inside.marks _ (invariant_of-self c).0

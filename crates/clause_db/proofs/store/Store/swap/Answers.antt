@@ -7,11 +7,6 @@ use Rattle.clause_db.proofs.StoreLemmas.Replaced.{all_replaced}
 use Rattle.clause_db.proofs.StoreLemmas.Swap.{has_swapped}
 use Rattle.clause_db.proofs.store.Store.swap.Goals as goal
 
-pub swap-requires : goal.swap-requires
-swap-requires c =
-    let w = c.requires in
-    (w.0, ap (maps.get c.self.inside.memory.live) c.number.ensures ∙ ap (λ v. maps.get v.live c.args.slot) c.self.view_is ∙ w.1, w.2, w.3)
-
 pub invariant_of-self : goal.invariant_of-self
 invariant_of-self c =
     let i = c.self.inside in
@@ -25,15 +20,6 @@ invariant_of-self c =
     all_replaced i.index i.occurrences i.counts i.marks i.sum i.memory.live c.swap.new.self.live
     i.memory.stored c.swap.new.self.stored c.number.result x y c.self.invariant here alike as_long
     (c.swap.ensures.live x here) c.swap.ensures.live_alone
-
-pub returns-clause-live : goal.returns-clause-live
-returns-clause-live c x here =
-    let i = c.self.inside in
-    let there = ap (maps.get i.memory.live) c.number.ensures
-    ∙ ap (λ v. maps.get v.live c.args.slot) c.self.view_is ∙ here in
-    c.swap.ensures.live x there ∙ ap (λ s. maps.insert i.memory.live s (swap x c.args.a c.args.b))
-    c.number.ensures ∙ ap (λ v. maps.insert v.live c.args.slot (swap x c.args.a c.args.b))
-    c.self.view_is
 
 pub returns-clause-live_alone : goal.returns-clause-live_alone
 returns-clause-live_alone c = live_alone c.swap.new.self.live c.swap.new.self.stored c.self.inside.marks _ (invariant_of-self c).0

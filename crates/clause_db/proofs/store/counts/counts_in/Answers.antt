@@ -7,11 +7,6 @@ pub loop-slot-init : goal.loop-slot-init
 loop-slot-init g c l =
     count_none (g.M.Memory.seen c.args.memory.now).live l _ (ap count_of (c.new-counts.ensures l))
 
-pub count_slot-requires-clause-few : goal.count_slot-requires-clause-few
-count_slot-requires-clause-few g c some l =
-    let low = c.recall_invariant.ensures.low c.loop-slot.slot some in
-    let few = (c.loop-slot.invariant l).few in omega arith
-
 pub loop-slot-preserved : goal.loop-slot-preserved
 loop-slot-preserved g c l = count_next (g.M.Memory.seen c.args.memory.now).live c.loop-slot.slot l _ _ (c.loop-slot.invariant l) (c.in_ok-count_slot.ensures l)
 

@@ -1,16 +1,9 @@
-use Rattle.std.proofs.Common.{◌≡◌, true, false, take, refl, sym, ap, ◌∙◌}
+use Rattle.std.proofs.Common.{◌≡◌, true, false, take, sym, ap, ◌∙◌}
 use Rattle.cnf_base.specs.Literals.{complement, has}
 use Rattle.cnf_base.proofs.WalkLemmas.{has_take}
 use Rattle.clause_db.proofs.StoreLemmas.Marks.{mark_more}
 use Rattle.clause_db.proofs.StoreLemmas.Tautologies.{both_there, none_so_far}
 use Rattle.clause_db.proofs.store.marks.mark_up_to_complement.Goals as goal
-
-pub loop-l-init : goal.loop-l-init
-loop-l-init c = record {
-  marked = c.requires.clear;
-  known = λ k. refl;
-  none = refl;
-}
 
 pub loop-l-preserved : goal.loop-l-preserved
 loop-l-preserved c =
