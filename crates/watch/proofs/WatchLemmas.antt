@@ -2,14 +2,9 @@
 pub mod Shown
 pub mod Visits
 pub mod Moves
-pub mod PropagatesTo
 pub mod Follow
-pub mod Entries
-pub mod Cursor
 pub mod Visited
 pub mod Arrange
 pub mod Assumed
-pub mod Lists
 pub mod State
-pub mod Turned
-pub mod Gather
+pub mod Reordered

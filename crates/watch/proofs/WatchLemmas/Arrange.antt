@@ -1,12 +1,11 @@
 -- Clauses whose literals that are not false are brought to the front.
-use Rattle.std.proofs.Common.{◌≡◌, ℕ, ◌<◌, ◌≤◌, true, false, Some, List, [], ◌∷◌, length, get_or}
-use Rattle.std.proofs.Common.{set, swap, refl, sym, ap, ◌∙◌, subst, arith, inl, inr}
+use Rattle.std.proofs.Common.{◌≡◌, ℕ, ◌<◌, ◌≤◌, true, false, Some, List, length, get_or, swap, refl}
+use Rattle.std.proofs.Common.{sym, ap, ◌∙◌, subst, arith, inl, inr}
 use Rattle.std.specs.Ordering.{nat_cmp}
 use Rattle.std.specs.FinMap as maps
 use Rattle.std.specs.FinMap.{FinMap}
 use Rattle.std.proofs.lemmas.Bool.{cases_eq, true≢false, false≢true}
-use Rattle.std.proofs.lemmas.Grind.{get_or-set_at, get_or_default_zero}
-use Rattle.std.proofs.lemmas.List.{get_or-set_other, get_or-set_same, length-set}
+use Rattle.std.proofs.lemmas.List.Edits.{length-swap, swapped_from_swap}
 use Rattle.std.proofs.lemmas.Option.{same_Some}
 use Rattle.cnf_base.specs.Literals.{Literal, complement, Clause, has}
 use Rattle.root_literals.specs.Roots.{IsArranged, IsBrought}
@@ -15,40 +14,19 @@ use Rattle.cnf_base.proofs.MemberLemmas.{has_place, place_of}
 use Rattle.cnf_base.proofs.MapLemmas.{insert_here}
 use Rattle.clause_db.proofs.StoreLemmas.Swap.{has_swapped}
 
-swap_first : (c : Clause) (i j : ℕ) → i ≤ j → j < length c → get_or (swap c i j) i 0 ≡ get_or c j 0
-swap_first [] i j low inside = absurd (omega (arith, inside))
-swap_first (d ∷ ys) i j low inside =
-    let c = d ∷ ys in
-    let first = set c i (get_or c j d) in
-    let i_inside : i < length c = omega (arith, low, inside) in
-    let j_inside : j < length first = let n = length-set c i (get_or c j d) in omega (arith, inside, n) in
-    elim (cases_eq i j) [
-      | inl e ↦ get_or-set_at first j i (get_or c i d) 0 e j_inside ∙ ap (λ k. get_or c k d) e ∙ get_or_default_zero c j d inside
-      | inr ne ↦ get_or-set_other first j i (get_or c i d) 0 ne ∙ get_or-set_same c i (get_or c j d) 0 i_inside ∙ get_or_default_zero c j d inside
-    ]
-
-swap_before : (c : Clause) (i j k : ℕ) → k < i → k < j → get_or (swap c i j) k 0 ≡ get_or c k 0
-swap_before [] i j k first second = refl
-swap_before (d ∷ ys) i j k first second =
-    let c = d ∷ ys in
-    get_or-set_other (set c i (get_or c j d)) j k (get_or c i d) 0 (λ e. omega (arith, second, e)) ∙ get_or-set_other c i k (get_or c j d) 0 (λ e. omega (arith, first, e))
-
-swap_length : (c : Clause) (i j : ℕ) → length (swap c i j) ≡ length c
-swap_length [] i j = refl
-swap_length (d ∷ ys) i j = let c = d ∷ ys in length-set (set c i (get_or c j d)) j (get_or c i d) ∙ length-set c i (get_or c j d)
-
 module _ (live : FinMap nat_cmp Clause) (slot : ℕ) (trues : List Literal) (place : ℕ) (c : Clause) (here : maps.get live slot ≡ Some c) where
   pub brought : (after : FinMap nat_cmp Clause) (found : ℕ) → place ≤ found → found < length c → has trues (complement (get_or c found 0)) ≡ false → after ≡ maps.insert live slot (swap c place found) →
       (d : Clause) → maps.get live slot ≡ Some d → (e : Clause) × (maps.get after slot ≡ Some e) × IsBrought trues d e place true
   brought after found low inside is_open is d there =
-      let same = same_Some c d (sym here ∙ there) in (
+      let same = same_Some c d (sym here ∙ there) in
+      let w = swapped_from_swap c (swap c place found) place found 0 (omega (arith, low, inside)) inside refl in (
         swap c place found,
         ap (λ m. maps.get m slot) is ∙ insert_here live slot slot (swap c place found) refl,
         subst (λ x. IsBrought trues x (swap c place found) place true) same
             (record {
               alike = has_swapped c (swap c place found) place found (omega (arith, low, inside)) inside refl;
-              before = λ k front. swap_before c place found k front (omega (arith, front, low));
-              found = λ _. (let n = swap_length c place found in omega (arith, n, low, inside), ap (λ x. has trues (complement x)) (swap_first c place found low inside) ∙ is_open);
+              before = λ k front. w.2 k (λ e. omega (arith, front, e)) (λ e. omega (arith, front, low, e));
+              found = λ _. (let n = length-swap c place found in omega (arith, n, low, inside), ap (λ x. has trues (complement x)) w.0 ∙ is_open);
               none = λ e. absurd (true≢false e);
             }),
       )

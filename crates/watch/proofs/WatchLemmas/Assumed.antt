@@ -1,6 +1,6 @@
 -- Assumptions of a part of a clause.
-use Rattle.std.proofs.Common.{◌≡◌, ℕ, ◌/◌, Bool, true, false, filter, is_some, unwrap_or, Some}
-use Rattle.std.proofs.Common.{List, [], refl, sym, ap, ◌∙◌}
+use Rattle.std.proofs.Common.{◌≡◌, ℕ, Bool, true, false, filter, is_some, unwrap_or, List, [], refl}
+use Rattle.std.proofs.Common.{sym, ap, ◌∙◌}
 use Rattle.std.specs.Ordering.{nat_cmp}
 use Rattle.std.specs.FinMap as maps
 use Rattle.std.specs.FinMap.{FinMap}
@@ -23,44 +23,29 @@ use Rattle.propagation.specs.declared.clause_source.ClauseSource.{ClauseSource}
 use Rattle.root_literals.proofs.RootLemmas.Order.{alive_alike, alive_clause, has-in_order}
 use Rattle.root_literals.proofs.RootLemmas.Order.{part_alike, seen_there, there_seen}
 
-module _ (live : FinMap nat_cmp Clause) (slot : ℕ) where
+module _ (live : FinMap nat_cmp Clause) where
   -- there is a clause, if there is one that is shown
-  pub stored_there : (shown : FinMap nat_cmp Clause) → each_in_order live ≡ shown → is_some (maps.get shown slot) ≡ true → is_some (maps.get live slot) ≡ true
-  stored_there shown same alive = sym (alive_alike live slot) ∙ ap (λ m. is_some (maps.get m slot)) same ∙ alive
+  pub source_there : (source : ClauseSource) (shown : FinMap nat_cmp Clause) → each_in_order live ≡ shown → IsThere shown source → IsThere live source
+  source_there (Given lits) shown same there = tt
+  source_there (Stored slot) shown same there = sym (alive_alike live slot) ∙ ap (λ m. is_some (maps.get m slot)) same ∙ there
 
   -- and room for it
-  pub stored_room : (reserved : List ℕ) → HasRoomForAll reserved (maps.get (each_in_order live)) → is_some (maps.get live slot) ≡ true → (l : Literal) → has (unwrap_or (maps.get live slot) []) l ≡ true → has reserved (l / 2) ≡ true
-  stored_room reserved room alive l member =
-      let d = alive_clause live slot alive in
+  pub source_room : (source : ClauseSource) (reserved : List ℕ) → HasRoomForAll reserved (maps.get (each_in_order live)) → IsThere live source → HasRoomGiven reserved source → HasRoom reserved (clause_of live source)
+  source_room (Given lits) reserved room there given = given
+  source_room (Stored slot) reserved room there given = λ l member.
+      let d = alive_clause live slot there in
       room.each slot (in_order d.0) (seen_there live slot d.0 d.1) l (has-in_order d.0 l ∙ ap (λ o. has (unwrap_or o []) l) (sym d.1) ∙ member)
 
   -- what is assumed of it is assumed of the clause that is shown
-  pub assuming_stored : {E : Type 0} (before after : Propagation) (held last : AssumptionsState) (keeps : Literal → Bool) (clause : Clause) (r : Result Answer E) →
-      each_in_order live ≡ before.live → maps.get before.live slot ≡ Some clause → held.assumptions ≡ before.assumptions → before.has_refused ≡ false → after.live ≡ each_in_order live → after.stored ≡ literals_in after.live → after.assumptions ≡ last.assumptions → after.has_refused ≡ is_err r →
-      AssumesOn (each_in_order live) held last (complements (filter keeps (unwrap_or (maps.get live slot) []))) r → Assuming before after (complements (filter keeps clause)) r
-  assuming_stored before after held last keeps clause r same here held_is none live_is alone after_is refused assumed =
-      let w = there_seen live slot clause (ap (λ m. maps.get m slot) same ∙ here) in
-      assuming_alike before after (complements (filter keeps w.0)) (complements (filter keeps clause)) r (part_alike keeps w.0 clause (λ l. sym (w.2 l)))
-      (assuming_from before after (each_in_order live) held last _ (complements (filter keeps w.0)) r same held_is (ap (λ o. complements (filter keeps (unwrap_or o []))) w.1) none live_is alone after_is refused assumed)
-
--- ---- A clause that is given or stored
-
-module _ (live : FinMap nat_cmp Clause) where
-  pub source_there : (source : ClauseSource) (shown : FinMap nat_cmp Clause) → each_in_order live ≡ shown → IsThere shown source → IsThere live source
-  source_there (Given lits) shown same there = tt
-  source_there (Stored slot) shown same there = stored_there live slot shown same there
-
-  pub source_room : (source : ClauseSource) (reserved : List ℕ) → HasRoomForAll reserved (maps.get (each_in_order live)) → IsThere live source → HasRoomGiven reserved source → HasRoom reserved (clause_of live source)
-  source_room (Given lits) reserved room there given = given
-  source_room (Stored slot) reserved room there given = stored_room live slot reserved room there
-
   pub assuming_source : {E : Type 0} (source : ClauseSource) (before after : Propagation) (held last : AssumptionsState) (keeps : Literal → Bool) (r : Result Answer E) →
       each_in_order live ≡ before.live → held.assumptions ≡ before.assumptions → before.has_refused ≡ false → after.live ≡ each_in_order live → after.stored ≡ literals_in after.live → after.assumptions ≡ last.assumptions → after.has_refused ≡ is_err r →
       AssumesOn (each_in_order live) held last (complements (filter keeps (clause_of live source))) r → AssumingFrom before after source keeps r
   assuming_source (Given lits) before after held last keeps r same held_is none live_is alone after_is refused assumed =
       assuming_from before after (each_in_order live) held last _ (complements (filter keeps lits.now)) r same held_is refl none live_is alone after_is refused assumed
-  assuming_source (Stored slot) before after held last keeps r same held_is none live_is alone after_is refused assumed =
-      λ clause here. assuming_stored live slot before after held last keeps clause r same here held_is none live_is alone after_is refused assumed
+  assuming_source (Stored slot) before after held last keeps r same held_is none live_is alone after_is refused assumed = λ clause here.
+      let w = there_seen live slot clause (ap (λ m. maps.get m slot) same ∙ here) in
+      assuming_alike before after (complements (filter keeps w.0)) (complements (filter keeps clause)) r (part_alike keeps w.0 clause (λ l. sym (w.2 l)))
+      (assuming_from before after (each_in_order live) held last _ (complements (filter keeps w.0)) r same held_is (ap (λ o. complements (filter keeps (unwrap_or o []))) w.1) none live_is alone after_is refused assumed)
 
 -- ---- Where memory was refused
 

@@ -1,16 +1,24 @@
 -- Visits of the clauses in a list, one after the other.
 use Rattle.std.proofs.Common.{◌≡◌, ◌≢◌, ℕ, ◌+◌, ◌<◌, ◌≤◌, Bool, true, false, cond, eqb, eq-eqb}
-use Rattle.std.proofs.Common.{eqb-true, ne_eqb, Option, Some, None, List, [], length, get_or, take}
-use Rattle.std.proofs.Common.{refl, sym, ap, ◌∙◌, subst, arith, inl, inr}
+use Rattle.std.proofs.Common.{ne_eqb, Option, Some, None, List, [], length, get_or, set, take, drop}
+use Rattle.std.proofs.Common.{refl, suc, sym, ap, ◌∙◌, arith, inl, inr}
+use Rattle.std.specs.List.{remove}
+use Rattle.std.specs.Ordering.{nat_cmp}
+use Rattle.std.specs.FinMap as maps
+use Rattle.std.specs.FinMap.{FinMap}
 use Rattle.std.proofs.lemmas.Bool.{cases_eq}
-use Rattle.std.proofs.lemmas.List.{take_all}
+use Rattle.std.proofs.lemmas.List.{get_or-set_same, length-set, length-take-le, set-get_or}
+use Rattle.std.proofs.lemmas.List.{take_all, take-append-le, take-set, take-take}
+use Rattle.std.proofs.lemmas.List.Edits.{length-remove}
 use Rattle.std.proofs.lemmas.List.Sums.{sum_by_more, sum_by_more_le}
 use Rattle.cnf_base.specs.Literals.{Literal, Clause}
 use Rattle.theory.specs.Propagation.{Live}
+use Rattle.watch_lists.specs.Cursor.{CursorState}
 use Rattle.watch_lists.specs.Lists.{entries_of, unfit_entries}
 use Rattle.root_literals.specs.Watched.{IsPart, IsMet}
 use Rattle.watch_lists.specs.Watched.{watches, entries_for, IsListed}
 use Rattle.watch_lists.specs.declared.watcher.Watcher.{Watcher}
+use Rattle.watch.specs.Code.Visits.{AreMet, entries_left}
 use Rattle.root_literals.proofs.RootLemmas.Watched.{met_more, met_unwatched}
 
 entries_one : (o : Option Clause) (l : Literal) → entries_for o l ≤ 1
@@ -24,7 +32,7 @@ entries_one (Some c) l = by_test (watches c l)
 -- ---- The list that is in hand
 
 module _ (live : Live) (lists : Literal → List Watcher) (l : Literal) (list : List Watcher) (listed : IsListed live (λ k. cond (eqb k l) list (lists k))) where
-  in_list : (s : ℕ) → entries_of s list ≡ entries_for (live s) l
+  pub in_list : (s : ℕ) → entries_of s list ≡ entries_for (live s) l
   in_list s = ap (λ b. entries_of s (cond b list (lists l))) (sym (eq-eqb l l refl)) ∙ listed.watched l s
 
   -- the slots before a place are others than the one at it
@@ -37,41 +45,17 @@ module _ (live : Live) (lists : Literal → List Watcher) (l : Literal) (list : 
       let wrong : ⊥ = omega (arith, more, one, some, most, least) in
       wrong
 
-  -- where all clauses of the list have a true literal, all that watch the literal have
-  pub all_met : (trues : List Literal) (place : ℕ) → length list ≤ place → ((s : ℕ) → 0 < entries_of s (take place list) → (c : Clause) → live s ≡ Some c → IsMet c l trues) →
-      (s : ℕ) (c : Clause) → live s ≡ Some c → IsMet c l trues
-  all_met trues place past visited s c is = by_watch (watches c l) refl
-    where
-      by_watch : (b : Bool) → watches c l ≡ b → IsMet c l trues
-      by_watch true e =
-          let count = in_list s ∙ ap (λ o. entries_for o l) is ∙ ap (λ b. cond {A = ℕ} b 1 0) e in
-          let all = ap (entries_of s) (take_all place list past) in
-          visited s (omega (arith, count, all)) c is
-      by_watch false e = met_unwatched c l trues e
-
--- ---- One visit
-
-module _ (live after : Live) (l : Literal) (trues more : List Literal) (part : IsPart trues more) (list : List Watcher) (place slot : ℕ)
-    (visited : (s : ℕ) → 0 < entries_of s (take place list) → (c : Clause) → live s ≡ Some c → IsMet c l trues) (others : (s : ℕ) → s ≢ slot → after s ≡ live s) (left : List Watcher) (front : take place left ≡ take place list) where
-  pub visited_here : ((s : ℕ) → 0 < entries_of s (take place list) → s ≢ slot) → (s : ℕ) → 0 < entries_of s (take place left) → (c : Clause) → after s ≡ Some c → IsMet c l more
-  visited_here apart s there c is =
-      let was = subst (λ xs. 0 < entries_of s xs) front there in
-      met_more c l trues more part (visited s was c (sym (others s (apart s was)) ∙ is))
-
-  pub visited_further : (d : Watcher) → place < length left → (get_or left place d).slot ≡ slot → ((c : Clause) → after slot ≡ Some c → IsMet c l more) →
-      (s : ℕ) → 0 < entries_of s (take (place + 1) left) → (c : Clause) → after s ≡ Some c → IsMet c l more
-  visited_further d inside here met s there =
-      elim (cases_eq s slot) [
-        | inl same ↦ λ c is. met c (ap after (sym same) ∙ is)
-        | inr ne ↦ λ c is. met_more c l trues more part (visited s (before ne) c (sym (others s ne) ∙ is))
-      ]
-    where
-      before : s ≢ slot → 0 < entries_of s (take place list)
-      before ne =
-          let split = sum_by_more (λ w. cond (eqb w.slot s) 1 0) left place d inside in
-          let none : cond {A = ℕ} (eqb (get_or left place d).slot s) 1 0 ≡ 0 = ap (λ b. cond {A = ℕ} b 1 0) (ne_eqb (get_or left place d).slot s (λ e. ne (sym e ∙ here))) in
-          let same = ap (entries_of s) front in
-          omega (arith, split, none, same, there)
+-- where all clauses of its list have a true literal, all that watch the literal have
+pub all_met : (live : Live) (l : Literal) (list : List Watcher) → ((s : ℕ) → entries_of s list ≡ entries_for (live s) l) → (trues : List Literal) (place : ℕ) → length list ≤ place →
+    ((s : ℕ) → 0 < entries_of s (take place list) → (c : Clause) → live s ≡ Some c → IsMet c l trues) → (s : ℕ) (c : Clause) → live s ≡ Some c → IsMet c l trues
+all_met live l list in_list trues place past visited s c is = by_watch (watches c l) refl
+  where
+    by_watch : (b : Bool) → watches c l ≡ b → IsMet c l trues
+    by_watch true e =
+        let count = in_list s ∙ ap (λ o. entries_for o l) is ∙ ap (λ b. cond {A = ℕ} b 1 0) e in
+        let all = ap (entries_of s) (take_all place list past) in
+        visited s (omega (arith, count, all)) c is
+    by_watch false e = met_unwatched c l trues e
 
 -- ---- Entries before a place
 
@@ -86,18 +70,60 @@ listed_alike live first second alike listed = record { watched = λ l s. ap (ent
 
 -- a literal without a list
 pub none_met : (live : Live) (lists : Literal → List Watcher) (l : Literal) → lists l ≡ [] → IsListed live lists → (trues : List Literal) (s : ℕ) (c : Clause) → live s ≡ Some c → IsMet c l trues
-none_met live lists l none listed trues s c is = by_watch (watches c l) refl
-  where
-    by_watch : (b : Bool) → watches c l ≡ b → IsMet c l trues
-    by_watch true e =
-        let count = ap (entries_of s) (sym none) ∙ listed.watched l s ∙ ap (λ o. entries_for o l) is ∙ ap (λ b. cond {A = ℕ} b 1 0) e in
-        absurd (omega (arith, count))
-    by_watch false e = met_unwatched c l trues e
+none_met live lists l none listed trues = all_met live l [] (λ s. ap (entries_of s) (sym none) ∙ listed.watched l s) trues 0 (omega arith) (λ s some. absurd (omega (arith, some)))
 
 -- the list that is taken out is in hand
 pub hand_taken : (lists after : Literal → List Watcher) (l : Literal) (list : List Watcher) → list ≡ lists l → ((k : Literal) → after k ≡ cond (eqb k l) [] (lists k)) → (k : Literal) → cond (eqb k l) list (after k) ≡ lists k
-hand_taken lists after l list is others k = by_test (eqb k l) refl
-  where
-    by_test : (b : Bool) → eqb k l ≡ b → cond b list (after k) ≡ lists k
-    by_test true e = is ∙ ap lists (sym (eqb-true k l e))
-    by_test false e = others k ∙ ap (λ b. cond b [] (lists k)) e
+hand_taken lists after l list is others k = elim (cases_eq k l) [
+  | inl e ↦ ap (λ b. cond b list (after k)) (eq-eqb k l e) ∙ is ∙ ap lists (sym e)
+  | inr ne ↦ simp (ne_eqb k l ne, others k)
+]
+
+-- ---- The list after an entry was kept or taken out
+
+pub same_cursor : (after : CursorState) (xs : List Watcher) (n : ℕ) → after.entries ≡ xs → after.visited ≡ n → after ≡ record { entries = xs; visited = n }
+same_cursor after xs n entries visited = λ i. record { entries = entries i; visited = visited i }
+
+-- an entry is put where it is
+pub put_same : (list : List Watcher) (place : ℕ) (w : Watcher) → w ≡ get_or list place w → set list place w ≡ list
+put_same list place w is = ap (set list place) is ∙ set-get_or list place w
+
+front_removed : (list : List Watcher) (place : ℕ) → place < length list → take place (remove list place) ≡ take place list
+front_removed list place inside =
+    let front = length-take-le place list (omega (arith, inside)) in
+    take-append-le place (take place list) (drop (suc place) list) (omega (arith, front)) ∙ take-take place place list (omega arith)
+
+module _ (live after : FinMap nat_cmp Clause) (l : Literal) (trues more : List Literal) (part : IsPart trues more) (cursor now : CursorState) (slot : ℕ) (inside : cursor.visited < length cursor.entries)
+    (met : AreMet live cursor l trues) (others : (s : ℕ) → s ≢ slot → maps.get after s ≡ maps.get live s) where
+  still_met : (s : ℕ) → 0 < entries_of s (take cursor.visited cursor.entries) → s ≢ slot → (c : Clause) → maps.get after s ≡ Some c → IsMet c l more
+  still_met s there ne c is = met_more c l trues more part (met s there c (sym (others s ne) ∙ is))
+
+  -- the next entry is kept
+  pub kept_met : (w : Watcher) → w.slot ≡ slot → now.entries ≡ set cursor.entries cursor.visited w → now.visited ≡ cursor.visited + 1 → ((c : Clause) → maps.get after slot ≡ Some c → IsMet c l more) → AreMet after now l more
+  kept_met w of_slot entries visited here s there = elim (cases_eq s slot) [
+    | inl same ↦ λ c is. here c (ap (maps.get after) (sym same) ∙ is)
+    | inr ne ↦
+        let list = set cursor.entries cursor.visited w in
+        let len = length-set cursor.entries cursor.visited w in
+        let split = sum_by_more (λ x. cond (eqb x.slot s) 1 0) list cursor.visited w (omega (arith, inside, len)) in
+        let none : cond {A = ℕ} (eqb (get_or list cursor.visited w).slot s) 1 0 ≡ 0 = ap (λ b. cond {A = ℕ} b 1 0) (ne_eqb (get_or list cursor.visited w).slot s (λ e. ne (sym e ∙ ap (λ x. x.slot) (get_or-set_same cursor.entries cursor.visited w w inside) ∙ of_slot))) in
+        let same = ap (entries_of s) (take-set cursor.entries cursor.visited w) in
+        let some = simp (entries, visited) at there in
+        still_met s (omega (arith, split, none, same, some)) ne
+  ]
+
+  -- it is taken out
+  pub taken_met : now ≡ record { entries = remove cursor.entries cursor.visited; visited = cursor.visited } → ((s : ℕ) → 0 < entries_of s (take cursor.visited cursor.entries) → s ≢ slot) → AreMet after now l more
+  taken_met is apart s there = let some = simp (is, front_removed cursor.entries cursor.visited inside) at there in still_met s some (apart s some)
+
+module _ (cursor now : CursorState) (inside : cursor.visited < length cursor.entries) where
+  pub kept_fewer : (w : Watcher) → now.entries ≡ set cursor.entries cursor.visited w → now.visited ≡ cursor.visited + 1 → entries_left now + 1 ≡ entries_left cursor
+  kept_fewer w entries visited =
+      let len = ap length entries ∙ length-set cursor.entries cursor.visited w in
+      omega (arith, inside, len, visited)
+
+  pub taken_fewer : now ≡ record { entries = remove cursor.entries cursor.visited; visited = cursor.visited } → entries_left now + 1 ≡ entries_left cursor
+  taken_fewer is =
+      let left = ap entries_left is in
+      let len = length-remove cursor.entries cursor.visited inside in
+      omega (arith, inside, len, left)

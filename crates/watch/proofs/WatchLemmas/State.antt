@@ -2,7 +2,7 @@
 use Rattle.std.proofs.Common.{◌≡◌, ℕ, ◌+◌, ◌*◌, ◌/◌, ◌<◌, ◌≤◌, Bool, true, false, ◌&&◌, ◌||◌, not}
 use Rattle.std.proofs.Common.{cond, eqb, Option, Some, None, is_some, nat_le, option_map, drop}
 use Rattle.std.proofs.Common.{slice_index, List, [], ◌∷◌, length, take, refl, sym, ap, ◌∙◌, subst}
-use Rattle.std.proofs.Common.{arith}
+use Rattle.std.proofs.Common.{arith, IsSome}
 use Rattle.std.specs.Ordering.{nat_cmp}
 use Rattle.std.specs.FinMap as maps
 use Rattle.std.specs.FinMap.{FinMap}
@@ -10,21 +10,19 @@ use Rattle.std.proofs.lemmas.Bool.{false≢true}
 use Rattle.std.proofs.lemmas.Option.{none-some}
 use Rattle.cnf_base.specs.Literals.{Literal, Clause, has, size, variable}
 use Rattle.propagation.specs.Assumptions.{Assumption, AssumptionsState, Propagation, roots_in}
-use Rattle.propagation.specs.Code.Exact.{AreExact}
 use Rattle.propagation.specs.Code.Scan.{IsHeld}
 use Rattle.theory.specs.Sets.{SameSet}
 use Rattle.trail.specs.Trail.{HasRoomForAll}
 use Rattle.watch_lists.specs.Lists.{entries_in, entries_of, list_at, unfit_entries, times_in}
-use Rattle.root_literals.specs.History.{IsHistory, sure_of}
 use Rattle.root_literals.specs.Order.{each_in_order, in_order}
-use Rattle.root_literals.specs.Roots.{IsKept, IsKnown, IsStanding, is_up_to_date}
+use Rattle.root_literals.specs.Roots.{IsKept, IsStanding, is_up_to_date}
 use Rattle.propagation.specs.Code.Closure.{AreForced}
 use Rattle.watch.specs.Code.State.{AddsRoom, AreLists, HaveReasons, IsWatch}
+use Rattle.watch_lists.specs.Watched.{HasAll, AreUnchanged, HasEntry, IsListed, AddsFitting}
+use Rattle.watch_lists.specs.Watched.{IsUnitList, IsTautologyList, is_unit_or_empty, is_unwatched}
+use Rattle.watch_lists.specs.Watched.{tautology_for, unit_for, watched_clauses}
 use Rattle.root_literals.specs.Code.Propagated.{PropagatesTo}
 use Rattle.root_literals.specs.Watched.{IsPart, AreWatched, IsWatched}
-use Rattle.watch_lists.specs.Watched.{AreUnchanged, HasEntry, IsListed, AddsFitting, IsUnitList}
-use Rattle.watch_lists.specs.Watched.{IsTautologyList, is_unit_or_empty, is_unwatched, tautology_for}
-use Rattle.watch_lists.specs.Watched.{unit_for, watched_clauses}
 use Rattle.clause_db.specs.Store.{is_tautology}
 use Rattle.propagation.specs.Slots.{unit_or_empty_clauses}
 use Rattle.propagation.specs.declared.answer.Answer.{Answer}
@@ -37,8 +35,8 @@ use Rattle.propagation.proofs.PropagationLemmas.Exact.{begins_on, longer_from}
 use Rattle.trail.proofs.TrailLemmas.Longer.{has_begun}
 use Rattle.propagation.proofs.PropagationLemmas.Scan.{held_reserved}
 use Rattle.root_literals.proofs.RootLemmas.Watched.{front_part}
-use Rattle.watch_lists.proofs.WatchListsLemmas.Made.{added, is_counted, removed}
-use Rattle.watch.proofs.WatchLemmas.Lists.{lists_added, lists_removed, lists_same, unit_weight}
+use Rattle.watch_lists.proofs.WatchListsLemmas.Made.{added, is_counted, removed, all_added}
+use Rattle.watch_lists.proofs.WatchListsLemmas.Made.{all_removed, long_is, low_added, low_left}
 use Rattle.root_literals.proofs.RootLemmas.Carried.{kept_carried, kept_forced, roots_alone}
 use Rattle.root_literals.proofs.RootLemmas.Carried.{roots_part}
 use Rattle.root_literals.proofs.RootLemmas.Kept.{kept_nothing, seen_same}
@@ -69,6 +67,47 @@ watched_alike before after same = sym (watched_shown after) ∙ ap watched_claus
 pub units_alike : (before after : FinMap nat_cmp Clause) → each_in_order after ≡ each_in_order before → unit_or_empty_clauses after ≡ unit_or_empty_clauses before
 units_alike before after same = sym (units_shown after) ∙ ap unit_or_empty_clauses same ∙ units_shown before
 
+-- ---- The lists as clauses come and go, and before they are made
+
+unit_weight : (c : Clause) → size c ≡ length c → cond {A = ℕ} (nat_le 2 (size c)) 0 1 ≡ cond (is_unit_or_empty c) 1 0
+unit_weight c different = ap (λ b. cond b 0 1) (long_is c different) ∙ by_test (is_unit_or_empty c)
+  where
+    by_test : (b : Bool) → cond {A = ℕ} (not b) 0 1 ≡ cond b 1 0
+    by_test true = refl
+    by_test false = refl
+
+pub lists_low : (loading : Bool) (live : FinMap nat_cmp Clause) (lists : WatchLists) → AreLists loading live lists → (s : ℕ) → IsSome (maps.get live s) → s < 2147483648
+lists_low true live lists was = was.low
+lists_low false live lists was = was.each.low
+
+pub loaded_all : (loading : Bool) (live : FinMap nat_cmp Clause) (lists : WatchLists) → loading ≡ false → AreLists loading live lists → HasAll live lists
+loaded_all loading live lists is = subst (λ b. AreLists b live lists) is
+
+-- with the same entries
+lists_same : (loading : Bool) (live : FinMap nat_cmp Clause) (lists after : WatchLists) → ((l s : ℕ) → entries_of s (list_at after l) ≡ entries_of s (list_at lists l)) →
+    ((l s : ℕ) (c : Clause) → maps.get live s ≡ Some c → unfit_entries s c l (list_at after l) ≤ unfit_entries s c l (list_at lists l)) → entries_in after ≡ entries_in lists → AreLists loading live lists → AreLists loading live after
+lists_same true live lists after times fewer entries was = record { none = entries ∙ was.none; low = was.low }
+lists_same false live lists after times fewer entries was = record {
+  each = record { watched = λ l s. times l s ∙ was.each.watched l s; low = was.each.low; fitting = λ l s c is. let none = was.each.fitting l s c is in let left = fewer l s c is in omega (arith, none, left) };
+  two_each = entries ∙ was.two_each;
+}
+
+-- with one clause more or less
+module _ (live after : FinMap nat_cmp Clause) (slot : ℕ) (c : Clause) where
+  lists_added : maps.get live slot ≡ None → after ≡ maps.insert live slot c → size c ≡ length c → slot < 2147483648 → (lists lists2 : WatchLists) (loading : Bool) → (loading ≡ false → HasEntry c slot lists2 lists) → AddsFitting c slot lists lists2 →
+      entries_in lists2 ≡ entries_in lists + cond (loading || is_unwatched c) 0 2 → AreLists loading live lists → AreLists loading after lists2
+  lists_added free is different low lists lists2 true times fewer entries was =
+      let none = was.none in
+      record { none = omega (arith, entries, none); low = low_added live after slot c free is low was.low }
+  lists_added free is different low lists lists2 false times fewer entries was = all_added live after slot c free is different low lists lists2 (times refl) fewer entries was
+
+  lists_removed : maps.get live slot ≡ Some c → after ≡ maps.remove live slot → size c ≡ length c → (lists lists2 : WatchLists) (loading : Bool) → (loading ≡ false → HasEntry c slot lists lists2) → AddsFitting c slot lists lists2 →
+      entries_in lists2 + cond (loading || is_unwatched c) 0 2 ≡ entries_in lists → AreLists loading live lists → AreLists loading after lists2
+  lists_removed there is different lists lists2 true times fewer entries was =
+      let none = was.none in
+      record { none = omega (arith, entries, none); low = low_left live after slot c there is was.low }
+  lists_removed there is different lists lists2 false times fewer entries was = all_removed live after slot c there is different lists lists2 (times refl) fewer entries was
+
 -- ---- Levels
 
 are_kept : (a b : FinMap nat_cmp Clause) (x y : AssumptionsState) (r t : Literal → Option ℕ) → PropagatesTo a b x y r t → (lits : List Literal) → IsPart lits x.trail.lits → (assumptions : List Assumption) (starts : List ℕ) →
@@ -77,14 +116,6 @@ are_kept a b x y r t carried lits part [] starts watched = tt
 are_kept a b x y r t carried lits part (last ∷ rest) [] watched = tt
 are_kept a b x y r t carried lits part (last ∷ rest) (start ∷ starts) watched =
     (λ quiet. carried.kept [] lits lits part part (watched.0 quiet), are_kept a b x y r t carried (take start lits) (λ l h. part l (front_part start lits l h)) rest starts watched.1)
-
--- ---- The literals that are true with nothing assumed
-
-same_roots : (before after : AssumptionsState) → after.trail.lits ≡ before.trail.lits → after.assumptions ≡ before.assumptions → after.starts ≡ before.starts →
-    roots_in after.trail.lits after.assumptions after.starts ≡ roots_in before.trail.lits before.assumptions before.starts
-same_roots before after lits_are assumptions_are starts_are =
-    ap (λ ls. roots_in ls after.assumptions after.starts) lits_are ∙ ap (λ xs. roots_in before.trail.lits xs after.starts) assumptions_are
-    ∙ ap (roots_in before.trail.lits before.assumptions) starts_are
 
 -- ---- One more assumption
 
@@ -124,15 +155,9 @@ module _ (live live2 : FinMap nat_cmp Clause) (lists lists2 : WatchLists) (units
       IsWatch false live2 lists2 units roots2 last
   watch_answered up last answer all trail stand starts quiet reserved scan =
       watch_with last reserved scan
-      (subst (λ t. AreWatched (maps.get live2) t.lits last.assumptions last.starts) (sym trail)
-      (subst (λ xs. AreWatched (maps.get live2) found.trail.lits xs last.starts) (sym stand)
-      (subst (λ ns. AreWatched (maps.get live2) found.trail.lits (record { answer = answer; assumed = all } ∷ before.assumptions) ns) (sym starts)
-      (quiet, subst (λ ls. AreWatched (maps.get live2) ls before.assumptions before.starts) (sym begins_found) below))))
-      (subst (λ t. IsKept live2 roots2 (roots_in t.lits last.assumptions last.starts)) (sym trail)
-      (subst (λ xs. IsKept live2 roots2 (roots_in found.trail.lits xs last.starts)) (sym stand)
-      (subst (λ ns. IsKept live2 roots2 (roots_in found.trail.lits (record { answer = answer; assumed = all } ∷ before.assumptions) ns)) (sym starts)
-      (subst (λ ls. IsKept live2 roots2 (roots_in ls before.assumptions before.starts)) (sym begins_found) roots_below))))
-      (subst (λ xs. IsStanding roots2.kept xs) (sym stand) (ap is_up_to_date as_known ∙ up))
+      (simp (trail, stand, starts, begins_found) (quiet, below))
+      (simp (trail, stand, starts, begins_found) roots_below)
+      (simp (stand, as_known) up)
 
   -- it is taken back
   pub watch_undone : (last : AssumptionsState) (all : Assumption) → found.assumptions ≡ all ∷ before.assumptions → found.starts ≡ length before.trail.lits ∷ before.starts → last.assumptions ≡ drop 1 found.assumptions →
@@ -143,74 +168,43 @@ module _ (live live2 : FinMap nat_cmp Clause) (lists lists2 : WatchLists) (units
       let same_lits = lits_are ∙ ap (λ ns. take (slice_index ns 0) found.trail.lits) starts ∙ begins_found in
       watch_with last reserved
       (held_reserved (each_in_order live) (AreForced (maps.get (each_in_order live))) before last same_lits same_assumptions same_starts (λ v h. reserved v ∙ h) watch.scan)
-      (subst (λ ls. AreWatched (maps.get live2) ls last.assumptions last.starts) (sym same_lits)
-      (subst (λ xs. AreWatched (maps.get live2) before.trail.lits xs last.starts) (sym same_assumptions)
-      (subst (λ ns. AreWatched (maps.get live2) before.trail.lits before.assumptions ns) (sym same_starts) below)))
-      (subst (IsKept live2 roots2) (sym (same_roots before last same_lits same_assumptions same_starts)) roots_below)
-      (subst (IsStanding roots2.kept) (sym same_assumptions) (subst (λ k. IsStanding k before.assumptions) (sym as_known) watch.standing))
+      (simp (same_lits, same_assumptions, same_starts) below)
+      (simp (same_lits, same_assumptions, same_starts) roots_below)
+      (simp (same_assumptions, as_known) watch.standing)
 
 -- ---- Where nothing changes but room and order
-
-watch_reserved : (loading : Bool) (live : FinMap nat_cmp Clause) (lists : WatchLists) (units : List ℕ) (roots : Roots) (before after : AssumptionsState) → after.trail.lits ≡ before.trail.lits → after.assumptions ≡ before.assumptions → after.starts ≡ before.starts →
-    ((v : ℕ) → has before.trail.reserved v ≡ true → has after.trail.reserved v ≡ true) → HaveReasons after.trail.reserved (at roots.reasons) → IsWatch loading live lists units roots before → IsWatch loading live lists units roots after
-watch_reserved loading live lists units roots before after lits_are assumptions_are starts_are within noted watch = record {
-  scan = held_reserved (each_in_order live) (AreForced (maps.get (each_in_order live))) before after lits_are assumptions_are starts_are within watch.scan;
-  listed = watch.listed;
-  rest = watch.rest;
-  watched =
-      subst (λ ls. AreWatched (maps.get live) ls after.assumptions after.starts) (sym lits_are)
-      (subst (λ xs. AreWatched (maps.get live) before.trail.lits xs after.starts) (sym assumptions_are)
-      (subst (λ ns. AreWatched (maps.get live) before.trail.lits before.assumptions ns) (sym starts_are) watch.watched));
-  one_each = watch.one_each;
-  kept = subst (IsKept live roots) (sym (same_roots before after lits_are assumptions_are starts_are)) watch.kept;
-  standing = subst (IsStanding roots.kept) (sym assumptions_are) watch.standing;
-  noted = noted;
-}
-
--- more room for reasons
-watch_noted : (loading : Bool) (live : FinMap nat_cmp Clause) (lists : WatchLists) (units : List ℕ) (roots after : Roots) (held : AssumptionsState) → after.kept ≡ roots.kept → after.history ≡ roots.history → after.uses.counted ≡ roots.uses.counted → ((k : Literal) → times after.uses k ≡ times roots.uses k) →
-    ((l : Literal) → is_some (at roots.reasons l) ≡ true → at after.reasons l ≡ at roots.reasons l) → IsWatch loading live lists units roots held → IsWatch loading live lists units after held
-watch_noted loading live lists units roots after held kept_is history_is counted_is times_are old watch = record {
-  scan = watch.scan;
-  listed = watch.listed;
-  rest = watch.rest;
-  watched = watch.watched;
-  one_each = watch.one_each;
-  kept = record {
-    noted = record { each = λ s c is l member. let was = watch.kept.noted.each s c is l member in ap is_some (old l was) ∙ was };
-    reasoned = let lits = roots_in held.trail.lits held.assumptions held.starts in
-        let live_shown = maps.get (each_in_order live) in
-        reasoned_same live_shown (at roots.reasons) lits watch.kept.reasoned (at after.reasons) (λ l h. old l (reasoned_some live_shown (at roots.reasons) lits watch.kept.reasoned l h));
-    known = subst (λ k. IsKnown live k (roots_in held.trail.lits held.assumptions held.starts)) (sym kept_is) watch.kept.known;
-    history = subst (λ h. IsHistory (sure_of h.doubts.items (maps.get live)) h (roots_in held.trail.lits held.assumptions held.starts)) (sym history_is) watch.kept.history;
-    visited = seen_same (maps.get live) roots after (roots_in held.trail.lits held.assumptions held.starts) kept_is history_is watch.kept.visited;
-    counted = let lits = roots_in held.trail.lits held.assumptions held.starts in
-        let live_shown = maps.get (each_in_order live) in
-        counted_same (maps.get live) (at after.reasons) lits roots.uses after.uses counted_is times_are
-        (counted_in_order live live (at roots.reasons) (at after.reasons) lits roots.uses refl (λ l h. old l (reasoned_some live_shown (at roots.reasons) lits watch.kept.reasoned l h)) watch.kept.counted);
-  };
-  standing = subst (λ k. IsStanding k held.assumptions) (sym kept_is) watch.standing;
-  noted = λ l h. let was = watch.noted l h in ap is_some (old l was) ∙ was;
-}
 
 -- more room for variables, and for the reasons of their literals
 pub watch_room : {loading : Bool} {live : FinMap nat_cmp Clause} {lists : WatchLists} {units : List ℕ} {roots roots2 : Roots} {held held2 : AssumptionsState} → AddsRoom held held2 roots roots2 →
     HaveReasons held2.trail.reserved (at roots2.reasons) → IsWatch loading live lists units roots held → IsWatch loading live lists units roots2 held2
-watch_room {loading} {live} {lists} {units} {roots} {roots2} {held} {held2} more noted watch =
-    watch_reserved loading live lists units roots2 held held2 more.lits more.assumptions more.starts more.reserved noted (watch_noted loading live lists units roots roots2 held more.kept more.history more.counted more.times more.reasons watch)
+watch_room {live = live} {roots = roots} {roots2} {held} {held2} more noted watch =
+    let lits = roots_in held.trail.lits held.assumptions held.starts in
+    let shown = maps.get (each_in_order live) in
+    let kept = watch.kept in
+    let old = λ (l : Literal) (h : has lits l ≡ true). more.reasons l (reasoned_some shown (at roots.reasons) lits kept.reasoned l h) in record {
+      scan = held_reserved (each_in_order live) (AreForced shown) held held2 more.lits more.assumptions more.starts more.reserved watch.scan;
+      listed = watch.listed;
+      rest = watch.rest;
+      watched = simp (more.lits, more.assumptions, more.starts) watch.watched;
+      one_each = watch.one_each;
+      kept = simp (more.lits, more.assumptions, more.starts) (record {
+        noted = record { each = λ s c is l member. let was = kept.noted.each s c is l member in ap is_some (more.reasons l was) ∙ was };
+        reasoned = reasoned_same shown (at roots.reasons) lits kept.reasoned (at roots2.reasons) old;
+        known = simp more.kept kept.known;
+        history = simp more.history kept.history;
+        visited = seen_same (maps.get live) roots roots2 lits more.kept more.history kept.visited;
+        counted =
+            counted_same (maps.get live) (at roots2.reasons) lits roots.uses roots2.uses more.counted more.times
+            (counted_in_order live live (at roots.reasons) (at roots2.reasons) lits roots.uses refl old kept.counted);
+      });
+      standing = simp (more.assumptions, more.kept) watch.standing;
+      noted = noted;
+    }
 
 pub watch_same : (loading : Bool) (live : FinMap nat_cmp Clause) (lists after : WatchLists) (units : List ℕ) (roots : Roots) (held : AssumptionsState) → ((l s : ℕ) → entries_of s (list_at after l) ≡ entries_of s (list_at lists l)) →
     ((l s : ℕ) (c : Clause) → maps.get live s ≡ Some c → unfit_entries s c l (list_at after l) ≤ unfit_entries s c l (list_at lists l)) → entries_in after ≡ entries_in lists → IsWatch loading live lists units roots held → IsWatch loading live after units roots held
-watch_same loading live lists after units roots held times fewer entries watch = record {
-  scan = watch.scan;
-  listed = lists_same loading live lists after times fewer entries watch.listed;
-  rest = watch.rest;
-  watched = watch.watched;
-  one_each = watch.one_each;
-  kept = watch.kept;
-  standing = watch.standing;
-  noted = watch.noted;
-}
+watch_same loading live lists after units roots held times fewer entries watch =
+    search (lists_same loading live lists after times fewer entries watch.listed)
 
 -- the lists were taken out and put back
 pub watch_put_back : (loading : Bool) (live : FinMap nat_cmp Clause) (lists after : WatchLists) (units : List ℕ) (roots : Roots) (held : AssumptionsState) → AreUnchanged lists after → IsWatch loading live lists units roots held → IsWatch loading live after units roots held
@@ -225,14 +219,14 @@ pub watch_alone : (loading : Bool) (live : FinMap nat_cmp Clause) (lists : Watch
 watch_alone loading live lists units roots held nothing room listed rest one_each kept noted = record {
   scan = record {
     room = room;
-    exact = subst (λ xs. AreExact (maps.get (each_in_order live)) (AreForced (maps.get (each_in_order live))) held.trail.lits xs held.starts) (sym nothing) (kept_forced live roots held.trail.lits kept);
+    exact = simp nothing (kept_forced live roots held.trail.lits kept);
   };
   listed = listed;
   rest = rest;
-  watched = subst (λ xs. AreWatched (maps.get live) held.trail.lits xs held.starts) (sym nothing) tt;
+  watched = simp nothing tt;
   one_each = one_each;
   kept = subst (IsKept live roots) (sym (roots_alone held.trail.lits held.assumptions held.starts nothing)) kept;
-  standing = subst (IsStanding roots.kept) (sym nothing) tt;
+  standing = simp nothing tt;
   noted = noted;
 }
 

@@ -99,17 +99,11 @@ module _ {a b : FinMap nat_cmp Clause} {lists lists_b : WatchLists} {list list_b
     propagates = propagates_on a b c x y z r s t first.propagates second.propagates;
   }
 
--- they begin at these entries, which are those
-pub visited_from : {a b : FinMap nat_cmp Clause} {lists lists_b : WatchLists} {list list_a list_b : List Watcher} {x y : AssumptionsState} {r s : Literal → Option ℕ} {l : Literal} → list ≡ list_a →
-    Visited a b lists lists_b list list_b x y r s l → Visited a b lists lists_b list_a list_b x y r s l
-visited_from {a} {b} {lists} {lists_b} {list} {list_a} {list_b} {x} {y} {r} {s} {l} = subst (λ xs. Visited a b lists lists_b xs list_b x y r s l)
-
 -- what was found of the clause of the next entry
 pub found_next : {live : FinMap nat_cmp Clause} {cursor : CursorState} {seen trues : List Literal} {o : Option FoundAt} → IsFoundAfter live cursor seen o →
     {f : FoundAt} {found : Found} → o ≡ Some f → f.found ≡ found → seen ≡ trues → IsFoundNext live cursor trues f.entry found
 found_next {live} {cursor} {seen} {trues} found_in {f} {found} is found_is same =
-    let here = subst (IsFoundAfter live cursor seen) is found_in in
-    subst (λ ls. IsFoundNext live cursor ls f.entry found) same (subst (IsFoundNext live cursor seen f.entry) found_is here)
+    simp same at (subst (IsFoundNext live cursor seen f.entry) found_is (simp is at found_in))
 
 -- there is room for a literal that is found to follow after visits
 pub room_found : {a b d : FinMap nat_cmp Clause} {lists lists_b lists_d : WatchLists} {list list_b list_d : List Watcher} {x y z : AssumptionsState} {r s t : Literal → Option ℕ} {l : Literal} → CanVisit a lists list x r l →

@@ -1,11 +1,7 @@
-use Rattle.std.proofs.Common.{rules, [], refl, ◌++◌, drop, filter, take, length, sym, ◌∙◌, ap}
-use Rattle.std.proofs.Common.{subst}
-use Rattle.std.specs.Bool.{OnFalse}
+use Rattle.std.proofs.Common.{rules, [], refl, drop, filter, take, length, sym, ◌∙◌, ap}
 use Rattle.std.specs.FinMap as maps
 use Rattle.cnf_base.specs.Literals.{complements, has}
-use Rattle.propagation.specs.Assumptions.{assumed_by, roots_in}
-use Rattle.propagation.specs.Code.Exact.{IsExact}
-use Rattle.theory.specs.Sets.{SameSet}
+use Rattle.propagation.specs.Assumptions.{roots_in}
 use Rattle.root_literals.specs.Order.{each_in_order}
 use Rattle.propagation.specs.Code.Closure.{AreForced}
 use Rattle.watch.specs.Code.ClauseSource.{clause_of}
@@ -60,8 +56,8 @@ returns-in-Ok g c =
     let f = p.followed in
     let extends = f.propagates.extends in
     let all = e.assumed.0 in
-    let same = subst (λ b. OnFalse b (SameSet after.trail.lits (before.trail.lits ++ added))) c.if-branch.false e.added in
-    let alike = subst (λ b. OnFalse b (SameSet all (assumed_by before.assumptions ++ added))) c.if-branch.false e.assumed.2 in
+    let same = simp c.if-branch.false at e.added in
+    let alike = simp c.if-branch.false at e.assumed.2 in
     let stand = c.answer.ensures.assumptions _ _ (extends.assumptions ∙ e.assumed.1) in
     let starts = c.answer.ensures.starts ∙ extends.starts ∙ e.starts in
     let begins = begins_on before.trail.lits after.trail.lits found.trail.lits e.begins (longer_from before.trail.lits after.trail.lits e.begins) extends.begins in record {
@@ -75,7 +71,7 @@ returns-in-Ok g c =
           (λ v. ap (λ t. has t.reserved v) c.answer.ensures.trail ∙ extends.reserved v ∙ e.reserved v)
           (scan_after shown (AreForced (maps.get shown)) (λ ls forced. forced) before after added c.requires.may c.requires.watch.scan last answer all stand starts
           (ap (λ t. take (length before.trail.lits) t.lits) c.answer.ensures.trail ∙ begins) (λ v. ap (λ t. has t.reserved v) c.answer.ensures.trail ∙ extends.reserved v ∙ e.reserved v)
-          (λ quiet. subst (λ t. IsExact (maps.get shown) all t.lits) (sym c.answer.ensures.trail)
+          (λ quiet. simp c.answer.ensures.trail
           (part_exact shown (AreForced (maps.get shown)) (λ ls forced. forced) before after added c.requires.may c.requires.watch.scan same all found.trail.lits alike extends.begins f.propagates.sound (p.closed quiet))));
       same = f.propagates.same;
       slots = c.run.ensures.slots;

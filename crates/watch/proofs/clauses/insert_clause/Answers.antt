@@ -1,31 +1,25 @@
-use Rattle.std.proofs.Common.{is_some, sym, ap, ◌∙◌, subst}
+use Rattle.std.proofs.Common.{is_some, sym, ap, ◌∙◌}
 use Rattle.std.specs.FinMap as maps
 use Rattle.clause_db.specs.Store.{literals_in}
-use Rattle.propagation.specs.Closure.{IsClosure}
-use Rattle.root_literals.specs.Order.{each_in_order}
 use Rattle.cnf_base.proofs.MapLemmas.{removed_back}
 use Rattle.watch.proofs.WatchLemmas.Shown.{closure_held, closure_shown}
 use Rattle.watch.proofs.clauses.insert_clause.Goals as goal
 
-pub enter-requires-clause-alive : goal.enter-requires-clause-alive
-enter-requires-clause-alive c = ap is_some c.in_ok-slot.ensures.stored.1
-
 pub enter-requires-clause-closure : goal.enter-requires-clause-closure
 enter-requires-clause-closure c =
     let live = c.args.store.now.live in
-    let kept = c.args.closure.now in
-    subst (λ m. IsClosure (maps.get m) kept) (sym (removed_back live c.insert.new.self.live c.in_ok-slot.slot c.in_ok-slot.ensures.free c.in_ok-slot.ensures.others)) (closure_held live kept c.requires)
+    simp (removed_back live c.insert.new.self.live c.in_ok-slot.slot c.in_ok-slot.ensures.free c.in_ok-slot.ensures.others) (closure_held live c.args.closure.now c.requires)
 
 pub remove_clause-requires-clause-alive : goal.remove_clause-requires-clause-alive
 remove_clause-requires-clause-alive c = ap (λ s. is_some (maps.get s.live c.in_ok-slot.slot)) c.enter.ensures.same ∙ ap is_some c.in_ok-slot.ensures.stored.1
 
 pub remove_clause-requires-clause-closure : goal.remove_clause-requires-clause-closure
 remove_clause-requires-clause-closure c =
-    subst (λ s. IsClosure (maps.get (each_in_order s.live)) c.enter.new.self) (sym c.enter.ensures.same) (closure_shown c.insert.new.self.live c.enter.new.self c.enter.ensures.closure)
+    simp c.enter.ensures.same (closure_shown c.insert.new.self.live c.enter.new.self c.enter.ensures.closure)
 
 pub returns-in-Ok-clause-closure : goal.returns-in-Ok-clause-closure
 returns-in-Ok-clause-closure c =
-    subst (λ s. IsClosure (maps.get (each_in_order s.live)) c.enter.new.self) (sym c.enter.ensures.same) (closure_shown c.insert.new.self.live c.enter.new.self c.enter.ensures.closure)
+    simp c.enter.ensures.same (closure_shown c.insert.new.self.live c.enter.new.self c.enter.ensures.closure)
 
 pub returns-in-Err-clause-err_live : goal.returns-in-Err-clause-err_live
 returns-in-Err-clause-err_live c =

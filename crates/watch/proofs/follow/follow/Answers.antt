@@ -1,9 +1,7 @@
-use Rattle.std.proofs.Common.{[], cond, eq-eqb, length, ◌+◌, refl, sym, ap, ◌∙◌, subst}
+use Rattle.std.proofs.Common.{[], cond, eq-eqb, length, ◌+◌, refl, ap, ◌∙◌}
 use Rattle.std.specs.FinMap as maps
-use Rattle.tables.specs.Filled.{at}
 use Rattle.watch_lists.specs.Lists.{entries_in, list_at}
-use Rattle.watch.specs.Code.Visits.{CanVisit, with_list}
-use Rattle.watch_lists.specs.Watched.{IsListed}
+use Rattle.watch.specs.Code.Visits.{with_list}
 use Rattle.watch.proofs.WatchLemmas.Follow.{none_met, hand_taken, listed_alike}
 use Rattle.watch.proofs.WatchLemmas.Visited.{followed_none}
 use Rattle.watch.proofs.follow.follow.Goals as goal
@@ -17,7 +15,7 @@ visit_all-found-requires c =
     let e = c.take_out.ensures in
     record {
       front = c.over-cursor.ensures.visited;
-      can = subst (λ xs. CanVisit c.args.store.now.live taken xs c.args.assumptions.now (at c.args.reasons.now) l) (sym c.over-cursor.ensures.entries) (record {
+      can = simp c.over-cursor.ensures.entries (record {
         hand = record {
           known = e.known l ∙ c.has_list.ensures.yes c.if-not-has_list.false;
           taken = e.others l ∙ ap (λ b. cond b [] (lists l)) (eq-eqb l l refl);
@@ -43,7 +41,7 @@ returns-clause-followed c =
     let same = c.into_list.ensures in record {
       listed =
           listed_alike (maps.get c.visit_all-found.new.store.live) (with_list c.visit_all-found.new.lists l list) (list_at c.put_back.new.self)
-          c.put_back.ensures.lists (subst (λ xs. IsListed (maps.get c.visit_all-found.new.store.live) (with_list c.visit_all-found.new.lists l xs)) (sym same) visited.hand.listed);
+          c.put_back.ensures.lists (simp same visited.hand.listed);
       entries = c.put_back.ensures.entries ∙ ap (λ xs. entries_in c.visit_all-found.new.lists + length xs) same ∙ visited.entries ∙ ap (λ xs. entries_in c.take_out.new.self + length xs) c.over-cursor.ensures.entries ∙ c.take_out.ensures.entries;
       propagates = visited.propagates;
     }

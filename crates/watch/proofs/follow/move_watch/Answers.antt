@@ -1,27 +1,25 @@
-use Rattle.std.proofs.Common.{◌+◌, ◌++◌, ◌∷◌, [], cond, eqb, false, ne_eqb, refl, sym, ap, ◌∙◌}
-use Rattle.std.proofs.Common.{length, subst, arith}
+use Rattle.std.proofs.Common.{◌+◌, ◌++◌, ◌∷◌, [], cond, eqb, false, ne_eqb, refl, ap, ◌∙◌}
+use Rattle.std.proofs.Common.{length, arith}
 use Rattle.std.specs.List.{remove, swap}
 use Rattle.std.specs.FinMap as maps
 use Rattle.std.proofs.lemmas.List.Edits.{length-remove, length-swap}
 use Rattle.clause_db.proofs.StoreLemmas.Swap.{has_swapped}
-use Rattle.cnf_base.proofs.MapLemmas.{insert_here, insert_other}
+use Rattle.cnf_base.proofs.MapLemmas.{insert_other}
 use Rattle.cnf_base.specs.Literals.{Literal}
 use Rattle.watch_lists.specs.Lists.{list_at}
 use Rattle.watch.specs.Code.Visits.{IsInHand, with_list}
-use Rattle.root_literals.specs.Code.Propagated.{PropagatesTo}
-use Rattle.watch_lists.specs.Watched.{IsListed}
 use Rattle.watch_lists.specs.declared.watcher.Watcher.{Watcher}
-use Rattle.watch.proofs.WatchLemmas.Cursor.{same_cursor}
-use Rattle.watch.proofs.WatchLemmas.Follow.{listed_alike}
+use Rattle.watch.proofs.WatchLemmas.Follow.{same_cursor, listed_alike}
 use Rattle.watch_lists.proofs.WatchListsLemmas.Lists.{entries_removed, unfit_removed}
-use Rattle.watch.proofs.WatchLemmas.Entries.{longer_fits}
+use Rattle.watch.proofs.WatchLemmas.Visits.{longer_fits}
 use Rattle.watch.proofs.WatchLemmas.Moves.{entries_moved, exchanged_back, listed_moved}
 use Rattle.watch.proofs.WatchLemmas.Moves.{places_apart, times_moved, unfit_moved}
-use Rattle.watch.proofs.WatchLemmas.PropagatesTo.{propagates_moved}
 use Rattle.root_literals.proofs.RootLemmas.Propagated.{propagates_on}
-use Rattle.watch.proofs.WatchLemmas.Turned.{exchange_member, turned_at, turned_clause}
-use Rattle.watch.proofs.WatchLemmas.Turned.{turned_listed, turned_live, turned_moved}
-use Rattle.watch.proofs.WatchLemmas.Turned.{turned_propagates}
+use Rattle.watch.proofs.WatchLemmas.Reordered.{exchange_member, second_inside, to_inside}
+use Rattle.watch.proofs.WatchLemmas.Reordered.{exchanged, moved, moved_there, propagates_moved}
+use Rattle.watch.proofs.WatchLemmas.Reordered.{turned_at, turned_clause}
+use Rattle.watch.proofs.WatchLemmas.Reordered.{turned_listed, turned_live}
+use Rattle.watch.proofs.WatchLemmas.Reordered.{turned_propagates}
 use Rattle.watch.proofs.follow.move_watch.Goals as goal
 
 pub rewatch-requires : goal.rewatch-requires
@@ -33,16 +31,7 @@ rewatch-requires c =
 pub swap-requires : goal.swap-requires
 swap-requires c =
     let was = c.requires.exchange in
-    let here = ap (maps.get c.args.store.now.live) c.at-at.ensures ∙ was.at in
-    let after = c.rewatch.new.self.live in
-    let moved = turned_moved was after c.at-at.result c.at-at.ensures (c.rewatch.ensures.live was.clause was.exchange.from here was.exchange.from_low was.exchange.from_is was.exchange.other_is) in
-    let w = turned_at was in
-    let to = c.args.exchange.to in
-    let past = w.exchange.to_high in
-    let inside = w.exchange.to_inside in
-    let d = swap w.clause 1 to in
-    let len = length-swap w.clause 1 to in
-    (d, ap (maps.get after) c.at-at.ensures ∙ ap (λ m. maps.get m c.args.slot) moved ∙ insert_here (turned_live was) c.args.slot c.args.slot d refl, omega (arith, len, inside), omega (arith, len, past, inside))
+    (exchanged was, moved_there was c.rewatch.new.self.live c.at-at.result c.at-at.ensures c.rewatch.ensures.live, to_inside was, second_inside was)
 
 pub returns-in-Ok : goal.returns-in-Ok
 returns-in-Ok c =
@@ -64,31 +53,29 @@ returns-in-Ok c =
     let past = w.exchange.to_high in
     let within = w.exchange.to_inside in
     let other = places_apart w.clause 1 x.to l x.next w.different (omega (arith, past)) within w.exchange.from_is w.exchange.to_is in
-    let d = swap w.clause 1 x.to in
-    let here = ap (maps.get before) c.at-at.ensures ∙ was.at in
-    let moved = turned_moved was c.rewatch.new.self.live c.at-at.result c.at-at.ensures (c.rewatch.ensures.live was.clause was.exchange.from here was.exchange.from_low was.exchange.from_is was.exchange.other_is) in
+    let d = exchanged was in
+    let put_there = moved was c.rewatch.new.self.live c.at-at.result c.at-at.ensures c.rewatch.ensures.live in
     let taken = entries_removed list place slot entry inside c.requires.next.1 in
     let fewer = unfit_removed list place entry inside in
     let hand : IsInHand c.rewatch.new.self.live c.push.new.self left l = record {
       known = c.push.ensures.known l c.requires.hand.known;
       taken = put l ∙ ap (λ b. cond b (lists l ++ entry ∷ []) (lists l)) (ne_eqb l x.next other) ∙ c.requires.hand.taken;
-      listed = subst (λ m. IsListed (maps.get m) (with_list c.push.new.self l left)) (sym moved)
-          (listed_moved live slot w.clause d w.at l x.next (entries_moved l x.next w.clause 1 x.to w.apart w.different w.exchange.from_low w.exchange.from_is past within w.exchange.to_is)
+      listed = simp put_there
+          (listed_moved live slot w.clause d w.at (has_swapped w.clause d 1 x.to (omega (arith, past, within)) within refl) (length-swap w.clause 1 x.to)
+          l x.next (entries_moved l x.next w.clause x.to w.apart w.different w.exchange.from_is past within w.exchange.to_is)
           (with_list c.args.lists.now l list) (with_list c.push.new.self l left) (turned_listed was (with_list c.args.lists.now l list) c.requires.hand.listed)
           (times_moved lists pushed l x.next entry other put list left taken)
-          (has_swapped w.clause d 1 x.to (omega (arith, past, within)) within refl) (length-swap w.clause 1 x.to)
           (unfit_moved lists pushed l x.next entry other put list left taken w.clause (longer_fits w.clause x.next x.other (exchange_member w.exchange) (omega (arith, past, within))) fewer));
     } in
     let shorter = length-remove list place inside in record {
       visited = λ held reason_of is_open. record {
-        hand = subst (λ xs. IsInHand c.rewatch.new.self.live c.push.new.self xs l) (sym c.take_out.ensures.entries) hand;
+        hand = simp c.take_out.ensures.entries hand;
         entries = let more = c.in-Ok.ensures.more in let len = ap length c.take_out.ensures.entries in omega (arith, more, shorter, len);
-        propagates = subst (λ m. PropagatesTo before m held held reason_of reason_of) (sym moved)
-            (propagates_on before live (maps.insert live slot d) held held held reason_of reason_of reason_of (turned_propagates was held reason_of)
-            (propagates_moved live held slot w.clause w.at 1 x.to l x.next w.apart w.different w.exchange.from_low w.exchange.from_is past within w.exchange.to_is is_open reason_of));
+        propagates = propagates_on before live c.rewatch.new.self.live held held held reason_of reason_of reason_of (turned_propagates was held reason_of)
+            (simp put_there (propagates_moved live held slot w.clause w.at x.to l x.next w.apart w.different w.exchange.from_is past within w.exchange.to_is is_open reason_of));
       };
       taken = same_cursor c.take_out.new.self (remove list place) place c.take_out.ensures.entries c.take_out.ensures.visited;
-      others = λ s ne. ap (λ m. maps.get m s) moved ∙ insert_other live slot s d ne ∙ insert_other before slot s (turned_clause was) ne;
+      others = λ s ne. ap (λ m. maps.get m s) put_there ∙ insert_other live slot s d ne ∙ insert_other before slot s (turned_clause was) ne;
       slots = c.rewatch.ensures.slots;
     }
 
@@ -101,21 +88,21 @@ returns-in-Err c =
     let was = c.requires.exchange in
     let w = turned_at was in
     let x = c.args.exchange in
-    let here = ap (maps.get before) c.at-at.ensures ∙ was.at in
-    let moved = turned_moved was after c.at-at.result c.at-at.ensures (c.rewatch.ensures.live was.clause was.exchange.from here was.exchange.from_low was.exchange.from_is was.exchange.other_is) in
+    let low = second_inside was in
+    let len = length-swap w.clause 1 x.to in
     let back =
-    exchanged_back (turned_live was) after c.swap.new.self.live c.args.slot 1 x.to w.clause w.at w.exchange.from_low w.exchange.to_high w.exchange.to_inside moved
+    exchanged_back (turned_live was) after c.swap.new.self.live c.args.slot 1 x.to w.clause w.at (omega (arith, low, len)) w.exchange.to_inside (moved was c.rewatch.new.self.live c.at-at.result c.at-at.ensures c.rewatch.ensures.live)
     (λ d there. c.swap.ensures.live d (ap (maps.get after) c.at-at.ensures ∙ there) ∙ ap (λ s. maps.insert after s (swap d x.to 1)) c.at-at.ensures) in record {
       visited = λ held reason_of is_open. record {
         hand = record {
           known = c.push.ensures.known l c.requires.hand.known;
           taken = c.in-Err.ensures.err l ∙ c.requires.hand.taken;
-          listed = subst (λ m. IsListed (maps.get m) (with_list c.push.new.self l list)) (sym back)
+          listed = simp back
               (listed_alike (maps.get (turned_live was)) (with_list c.args.lists.now l list) (with_list c.push.new.self l list) (λ y. ap (cond (eqb y l) list) (c.in-Err.ensures.err y))
               (turned_listed was (with_list c.args.lists.now l list) c.requires.hand.listed));
         };
         entries = ap (λ n. n + length list) c.in-Err.ensures.as_many;
-        propagates = subst (λ m. PropagatesTo before m held held reason_of reason_of) (sym back) (turned_propagates was held reason_of);
+        propagates = simp back (turned_propagates was held reason_of);
       };
       taken = tt;
       others = λ s ne. ap (λ m. maps.get m s) back ∙ insert_other before c.args.slot s (turned_clause was) ne;

@@ -1,9 +1,5 @@
-use Rattle.std.proofs.Common.{◌≡◌, ◌+◌, None, IfNone, [], refl, sym, ◌∙◌, subst, arith}
-use Rattle.std.specs.FinMap as maps
-use Rattle.trail.specs.Trail.{HasRoomForAll}
-use Rattle.watch.specs.Code.Visits.{IsInHand, Visited, entries_left}
-use Rattle.watch.proofs.WatchLemmas.Visited.{room_for_blocking, visited_from, visited_none}
-use Rattle.watch.proofs.WatchLemmas.Visited.{visited_on}
+use Rattle.std.proofs.Common.{None, [], refl, sym, ◌∙◌, arith}
+use Rattle.watch.proofs.WatchLemmas.Visited.{room_for_blocking, visited_none, visited_on}
 use Rattle.watch_lists.proofs.WatchListsLemmas.Lists.{entry_past}
 use Rattle.watch.proofs.follow.next_found_by.Goals as goal
 
@@ -18,7 +14,7 @@ visit-requires-clause-can g c =
     let so_far = c.loop-entry.invariant.can in
     let e = c.next_unblocked.ensures in record {
       room = so_far.room;
-      hand = subst (λ xs. IsInHand c.loop-entry.store.live c.loop-entry.lists xs c.args.l) (sym e.entries) so_far.hand;
+      hand = simp e.entries so_far.hand;
       is_false = so_far.is_false;
       met = e.met c.loop-entry.store.live c.loop-entry.lists c.args.l so_far.hand so_far.met;
     }
@@ -26,12 +22,12 @@ visit-requires-clause-can g c =
 pub returns-in_err-found-clause-visited : goal.returns-in_err-found-clause-visited
 returns-in_err-found-clause-visited g c held reason_of same =
     visited_on (c.loop-entry.invariant.visited held reason_of same)
-    (visited_from c.next_unblocked.ensures.entries (c.visit.ensures.visited held reason_of same))
+    (simp c.next_unblocked.ensures.entries at (c.visit.ensures.visited held reason_of same))
 
 pub returns-in-Some-2-clause-visited : goal.returns-in-Some-2-clause-visited
 returns-in-Some-2-clause-visited g c held reason_of same =
     visited_on (c.loop-entry.invariant.visited held reason_of same)
-    (visited_from c.next_unblocked.ensures.entries (c.visit.ensures.visited held reason_of same))
+    (simp c.next_unblocked.ensures.entries at (c.visit.ensures.visited held reason_of same))
 
 pub loop-entry-preserved : goal.loop-entry-preserved
 loop-entry-preserved g c =
@@ -39,15 +35,15 @@ loop-entry-preserved g c =
     let so_far = c.loop-entry.invariant in
     let visited = c.visit.ensures.visited (record { trail = trail; assumptions = []; starts = [] }) (λ _. None) refl in record {
       can = record {
-        room = subst (λ m. HasRoomForAll trail.reserved (maps.get m)) (sym visited.propagates.same) so_far.can.room;
+        room = simp visited.propagates.same so_far.can.room;
         hand = visited.hand;
         is_false = so_far.can.is_false;
         met = c.in_ok-found.ensures.met;
       };
       visited = λ held reason_of same. visited_on (so_far.visited held reason_of same)
-          (visited_from c.next_unblocked.ensures.entries (c.visit.ensures.visited held reason_of same));
+          (simp c.next_unblocked.ensures.entries at (c.visit.ensures.visited held reason_of same));
       no_more =
-          let fewer = subst (λ o. IfNone o (entries_left c.visit.new.cursor + 1 ≡ entries_left c.next_unblocked.new.cursor)) c.in_default-2.is c.in_ok-found.ensures.fewer in
+          let fewer = simp c.in_default-2.is at c.in_ok-found.ensures.fewer in
           let passed = c.next_unblocked.ensures.no_more in
           let earlier = so_far.no_more in
           omega (arith, fewer, passed, earlier);
@@ -61,5 +57,4 @@ returns-clause-found g c =
 
 pub returns-clause-visited : goal.returns-clause-visited
 returns-clause-visited g c held reason_of same =
-    subst (λ xs. Visited c.args.store.now.live c.loop-entry.store.live c.args.lists.now c.loop-entry.lists c.args.cursor.now.entries xs held held reason_of reason_of c.args.l)
-    (sym c.next_unblocked.ensures.entries) (c.loop-entry.invariant.visited held reason_of same)
+    simp c.next_unblocked.ensures.entries (c.loop-entry.invariant.visited held reason_of same)

@@ -1,9 +1,8 @@
-use Rattle.std.proofs.Common.{refl, sym, ap, ◌∙◌, subst, arith}
+use Rattle.std.proofs.Common.{refl, sym, ap, ◌∙◌, arith}
 use Rattle.std.proofs.lemmas.Bool.{and_parts}
 use Rattle.std.proofs.lemmas.Option.{same_Some}
 use Rattle.cnf_base.specs.Literals.{has}
-use Rattle.watch.specs.Code.Visits.{IsInHand}
-use Rattle.watch.proofs.WatchLemmas.Cursor.{kept_fewer, kept_met, put_same}
+use Rattle.watch.proofs.WatchLemmas.Follow.{kept_fewer, kept_met, put_same}
 use Rattle.watch.proofs.WatchLemmas.Visited.{next_entry}
 use Rattle.watch_lists.proofs.WatchListsLemmas.Lists.{entry_at}
 use Rattle.watch.proofs.follow.next_unblocked.Goals as goal
@@ -20,7 +19,7 @@ loop-entry-preserved g c =
     let satisfied = ap (has trues) (sym c.blocking.ensures) ∙ sym c.is_true_under.ensures ∙ c.if-not-is_true_under.false in record {
       entries = kept.ensures.entries ∙ put_same cursor.entries cursor.visited e r.1 ∙ so_far.entries;
       met = λ live lists l hand met.
-          let w = next_entry cursor e next (subst (λ xs. IsInHand live lists xs l) (sym so_far.entries) hand) in
+          let w = next_entry {lists = lists} {l = l} cursor e next (simp so_far.entries hand) in
           kept_met live live l trues trues (λ l h. h) cursor kept.new.self e.slot r.0 (so_far.met live lists l hand met)
           (λ s ne. refl) e refl kept.ensures.entries kept.ensures.visited
           (λ x there _. (

@@ -1,10 +1,6 @@
-use Rattle.std.proofs.Common.{◌≡◌, ◌<◌, Some, IfNone, length, false, ℕ, refl, ap, ◌∙◌, subst, arith}
-use Rattle.std.specs.FinMap as maps
-use Rattle.cnf_base.specs.Literals.{Clause, complement}
+use Rattle.std.proofs.Common.{◌<◌, length, refl, ap, ◌∙◌, arith}
 use Rattle.tables.specs.Filled.{at}
-use Rattle.theory.specs.Sets.{conflicts}
 use Rattle.trail.proofs.TrailLemmas.MakesFalse.{no_conflict}
-use Rattle.root_literals.specs.Watched.{IsMet}
 use Rattle.root_literals.proofs.RootLemmas.Grown.{visited_more}
 use Rattle.watch.proofs.WatchLemmas.Visited.{can_follow_on, false_at, fits_on, followed_none}
 use Rattle.watch.proofs.WatchLemmas.Visited.{followed_on, read_at}
@@ -44,14 +40,14 @@ loop-done-preserved c =
     let shown = c.lits.ensures.value ∙ ap (λ t. t.lits) c.trail-in-loop-done.ensures in
     let inside : c.loop-done.done < length c.loop-done.assumptions.trail.lits = let low = c.loop-done-test.true in let n = c.len.ensures.value ∙ ap (λ t. length t.lits) c.trail.ensures in omega arith in
     let read = read_at trues inside shown c.index-lits-done.is in
-    let partners = subst (λ o. IfNone o ((s : ℕ) (d : Clause) → maps.get c.follow.new.store.live s ≡ Some d → IsMet d c.neg-l.result after)) c.in-None.is e.met in record {
+    let partners = simp c.in-None.is at e.met in record {
       inside = let longer = step.extends.longer in omega (arith, inside, longer);
       watched =
           visited_more before.store.live c.follow.new.store.live before.assumptions c.follow.new.assumptions (at before.reasons) (at c.follow.new.reasons) step before.done inside so_far.watched
-          (λ s d is. subst (λ p. IsMet d p after) (c.neg-l.ensures ∙ ap complement read) (partners s d is));
+          (λ s d is. simp (c.neg-l.ensures, read) at (partners s d is));
       followed = followed_on so_far.followed e.followed;
       slots = c.follow.ensures.slots ∙ so_far.slots;
     }
 
 pub returns-clause-quiet : goal.returns-clause-quiet
-returns-clause-quiet c = subst (λ t. conflicts t.lits ≡ false) c.trail.ensures (no_conflict c.trail.result.now.lits c.len.ensures.different)
+returns-clause-quiet c = simp c.trail.ensures at (no_conflict c.trail.result.now.lits c.len.ensures.different)

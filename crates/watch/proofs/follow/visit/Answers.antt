@@ -1,23 +1,19 @@
-use Rattle.std.proofs.Common.{set, length, refl, sym, ap, ◌∙◌, ◌+◌, subst, ◌≡◌, false}
+use Rattle.std.proofs.Common.{set, length, refl, sym, ap, ◌∙◌, ◌+◌}
 use Rattle.std.specs.FinMap as maps
 use Rattle.std.proofs.lemmas.List.{length-set}
 use Rattle.std.proofs.lemmas.Option.{same_Some}
-use Rattle.cnf_base.specs.Literals.{complement, has}
+use Rattle.cnf_base.specs.Literals.{has}
 use Rattle.watch_lists.specs.Lists.{entries_in, fits, list_at}
-use Rattle.watch.specs.Code.Visits.{IsInHand}
 use Rattle.watch_lists.specs.declared.watcher.Watcher.{Watcher}
 use Rattle.watch_lists.proofs.WatchListsLemmas.Watched.{watched_apart}
-use Rattle.watch.proofs.WatchLemmas.Entries.{kept_fits}
-use Rattle.watch.proofs.WatchLemmas.Cursor.{kept_fewer, kept_met, taken_fewer, taken_met}
+use Rattle.watch.proofs.WatchLemmas.Visits.{kept_fits}
+use Rattle.watch.proofs.WatchLemmas.Follow.{kept_fewer, kept_met, taken_fewer, taken_met}
 use Rattle.watch.proofs.WatchLemmas.Follow.{front_apart}
 use Rattle.root_literals.proofs.RootLemmas.Propagated.{propagates_none}
 use Rattle.watch_lists.proofs.WatchListsLemmas.Lists.{entry_at, slot_is}
 use Rattle.watch.proofs.WatchLemmas.Moves.{listed_written}
 use Rattle.watch.proofs.WatchLemmas.Visited.{found_at, next_entry, visited_none}
 use Rattle.watch.proofs.follow.visit.Goals as goal
-
-pub look_at-requires-clause-room : goal.look_at-requires-clause-room
-look_at-requires-clause-room g c = c.requires.can.room
 
 pub look_at-requires-clause-entry : goal.look_at-requires-clause-entry
 look_at-requires-clause-entry g c = next_entry c.args.cursor.now c.args.entry c.requires.next c.requires.can.hand
@@ -36,12 +32,12 @@ move_watch-requires-clause-exchange g c =
 pub returns-in_ok-move_watch-in-Moves-clause-visited : goal.returns-in_ok-move_watch-in-Moves-clause-visited
 returns-in_ok-move_watch-in-Moves-clause-visited g c held reason_of same =
     let w = next_entry c.args.cursor.now c.args.entry c.requires.next c.requires.can.hand in
-    c.move_watch.ensures.visited held reason_of (subst (λ t. has t.lits (complement c.in-Moves.exchange.next) ≡ false) (sym same) (c.in-Moves.ensures.visit w.clause w.at).1)
+    c.move_watch.ensures.visited held reason_of (simp same (c.in-Moves.ensures.visit w.clause w.at).1)
 
 pub returns-in_err-move_watch-in-Moves-clause-visited : goal.returns-in_err-move_watch-in-Moves-clause-visited
 returns-in_err-move_watch-in-Moves-clause-visited g c held reason_of same =
     let w = next_entry c.args.cursor.now c.args.entry c.requires.next c.requires.can.hand in
-    c.move_watch.ensures.visited held reason_of (subst (λ t. has t.lits (complement c.in-Moves.exchange.next) ≡ false) (sym same) (c.in-Moves.ensures.visit w.clause w.at).1)
+    c.move_watch.ensures.visited held reason_of (simp same (c.in-Moves.ensures.visit w.clause w.at).1)
 
 pub returns-in_ok-move_watch-in-Moves-clause-met : goal.returns-in_ok-move_watch-in-Moves-clause-met
 returns-in_ok-move_watch-in-Moves-clause-met g c =
@@ -78,7 +74,7 @@ returns-in-Stays g c =
     let fitting = kept_fits trues c.in-Stays.ensures.different w.clause c.args.l e.blocking other e.is_binary w.fitting c.requires.can.is_false stays.0 stays.1 in
     let hand = c.requires.can.hand in record {
       visited = λ held reason_of _. record {
-        hand = subst (λ xs. IsInHand c.args.store.now.live c.args.lists.now xs c.args.l) (sym entries) (record {
+        hand = simp entries (record {
           known = hand.known;
           taken = hand.taken;
           listed = listed_written live (list_at c.args.lists.now) c.args.l list hand.listed cursor.visited e entry r.0 r.1 refl

@@ -1,15 +1,11 @@
-use Rattle.std.proofs.Common.{◌&&◌, cond, eqb, Some, length, refl, sym, ap, ◌∙◌, ◌+◌}
-use Rattle.std.proofs.Common.{subst, arith}
+use Rattle.std.proofs.Common.{◌&&◌, cond, eqb, Some, length, refl, sym, ap, ◌∙◌, ◌+◌, arith}
 use Rattle.std.specs.FinMap as maps
 use Rattle.std.proofs.lemmas.Option.{same_Some}
 use Rattle.tables.specs.Filled.{at}
 use Rattle.cnf_base.specs.Literals.{has}
 use Rattle.watch_lists.specs.Lists.{entries_in, list_at}
-use Rattle.root_literals.specs.Order.{each_in_order}
-use Rattle.root_literals.specs.Roots.{IsFalseAt}
-use Rattle.watch.specs.Code.Visits.{AreMet, CanLook, IsFoundAfter, IsInHand}
-use Rattle.watch.proofs.WatchLemmas.Cursor.{kept_fewer, kept_met, put_same}
-use Rattle.watch.proofs.WatchLemmas.Follow.{all_met, none_before}
+use Rattle.watch.proofs.WatchLemmas.Follow.{kept_fewer, kept_met, put_same, all_met, in_list}
+use Rattle.watch.proofs.WatchLemmas.Follow.{none_before}
 use Rattle.root_literals.proofs.RootLemmas.Propagated.{clashes, propagates_unit}
 use Rattle.watch.proofs.WatchLemmas.Visited.{can_visit_on, found_next, room_found, visited_none}
 use Rattle.watch.proofs.WatchLemmas.Visited.{visited_on}
@@ -29,8 +25,7 @@ pub next_found-requires : goal.next_found-requires
 next_found-requires c =
     let visited = c.loop-at.invariant.visited in
     let can = can_visit_on c.requires.can visited in
-    subst (λ t. CanLook c.loop-at.store.live c.loop-at.lists c.loop-at.cursor t c.args.l) (sym c.trail.ensures)
-    (record { room = can.can_set.room; hand = visited.hand; is_false = can.is_false; met = c.loop-at.invariant.met })
+    simp c.trail.ensures (record { room = can.can_set.room; hand = visited.hand; is_false = can.is_false; met = c.loop-at.invariant.met })
 
 pub returns-in_err-at-clause-visited : goal.returns-in_err-at-clause-visited
 returns-in_err-at-clause-visited c = visited_on c.loop-at.invariant.visited (c.next_found.ensures.visited c.loop-at.assumptions (at c.loop-at.reasons) (sym c.trail.ensures))
@@ -71,7 +66,7 @@ loop-at-preserved c =
     let m = c.in-Unit.m in
     let f = found_next c.in_ok-at.ensures.found c.in-Some.is c.in-Unit.is (ap (λ t. t.lits) c.trail.ensures) in
     let visited = c.next_found.ensures.visited held (at before.reasons) (sym c.trail.ensures) in
-    let met = subst (λ t. AreMet live cursor c.args.l t.lits) c.trail.ensures c.in_ok-at.ensures.met in
+    let met = simp c.trail.ensures at c.in_ok-at.ensures.met in
     let r = entry_at cursor.entries cursor.visited _ f.next in
     let s = c.set_by.ensures in
     let kept = c.keep in
@@ -80,7 +75,7 @@ loop-at-preserved c =
     propagates_unit live held _ f.clause f.at m f.holds.0 f.holds.2 now c.set_by.result s.was_open s.lits s.reserved s.assumptions s.starts (at before.reasons) (at c.set_by.new.reasons)
     (λ k. s.reasons k ∙ ap (λ n. cond (c.set_by.result && eqb k m) (Some n) (at before.reasons k)) c.slot.ensures.value) in record {
       visited = visited_on (visited_on before.invariant.visited visited) (record {
-        hand = subst (λ xs. IsInHand live lists xs c.args.l) (sym same) visited.hand;
+        hand = simp same visited.hand;
         entries = ap (λ xs. entries_in lists + length xs) same;
         propagates = propagates;
       });
@@ -95,7 +90,7 @@ returns-in-Clash-clause-clash c =
     let live = c.next_found.new.store.live in
     let held = c.loop-at.assumptions in
     let f = found_next c.in_ok-at.ensures.found c.in-Some.is c.in-Clash.is (ap (λ t. t.lits) c.trail.ensures) in
-    subst (λ n. IsFalseAt (maps.get (each_in_order live)) n held.trail.lits) (sym c.slot-in-Clash.ensures.value) (clashes live held _ f.clause f.at f.holds)
+    simp c.slot-in-Clash.ensures.value (clashes live held _ f.clause f.at f.holds)
 
 pub returns-in-Clash-clause-visited : goal.returns-in-Clash-clause-visited
 returns-in-Clash-clause-visited c = visited_on c.loop-at.invariant.visited (c.next_found.ensures.visited c.loop-at.assumptions (at c.loop-at.reasons) (sym c.trail.ensures))
@@ -109,6 +104,7 @@ returns-clause-met c =
     let now = c.next_found.new in
     let trues = before.assumptions.trail.lits in
     let visited = c.next_found.ensures.visited before.assumptions (at before.reasons) (sym c.trail.ensures) in
-    let end = subst (IsFoundAfter now.store.live now.cursor c.trail.result.now.lits) c.in_default.is c.in_ok-at.ensures.found in
-    let met = subst (λ t. AreMet now.store.live now.cursor c.args.l t.lits) c.trail.ensures c.in_ok-at.ensures.met in
-    all_met (maps.get now.store.live) (list_at now.lists) c.args.l now.cursor.entries visited.hand.listed trues now.cursor.visited end met
+    let end = simp c.in_default.is at c.in_ok-at.ensures.found in
+    let met = simp c.trail.ensures at c.in_ok-at.ensures.met in
+    let live = maps.get now.store.live in
+    all_met live c.args.l now.cursor.entries (in_list live (list_at now.lists) c.args.l now.cursor.entries visited.hand.listed) trues now.cursor.visited end met

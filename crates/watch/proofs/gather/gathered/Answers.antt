@@ -1,8 +1,9 @@
 -- One clause more, or none in a slot without one.
-use Rattle.std.proofs.Common.{rules, arith}
+use Rattle.std.proofs.Common.{rules, arith, sym, ◌∙◌}
 use Rattle.propagation.proofs.PropagationLemmas.Gather.{gathered_all, gathered_next, gathered_none}
-use Rattle.propagation.proofs.PropagationLemmas.Gather.{gathered_nothing}
-use Rattle.watch.proofs.WatchLemmas.Gather.{same_in_order}
+use Rattle.propagation.proofs.PropagationLemmas.Gather.{gathered_nothing, is_copy, same_copy}
+use Rattle.root_literals.proofs.RootLemmas.Order.{same-in_order, sum_ordered}
+use Rattle.root_literals.specs.Order.{in_order}
 use Rattle.watch.proofs.gather.gathered.Goals as goal
 use Rattle.watch.proofs.gather.gathered.Goals.{in-Some+in_ok-insert, in_default}
 
@@ -22,5 +23,6 @@ loop-number-preserved c =
 
 pub returns-clause-live : goal.returns-clause-live
 returns-clause-live c =
-    same_in_order _ c.args.store.now.live
-    (gathered_all (λ s some. let below = c.end-number-end.ensures.past s some in omega (arith, below)) c.loop-number.invariant)
+    let all = gathered_all (λ s some. let below = c.end-number-end.ensures.past s some in omega (arith, below)) c.loop-number.invariant in record {
+      copies = λ e. all.copies e ∙ sym (sum_ordered (is_copy e) (is_copy e) (λ d. same_copy e (in_order d) d (same-in_order d)) c.args.store.now.live);
+    }

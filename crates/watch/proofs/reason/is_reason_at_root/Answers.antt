@@ -4,9 +4,7 @@ use Rattle.std.proofs.lemmas.Option.{same_Some}
 use Rattle.cnf_base.specs.Literals.{has}
 use Rattle.theory.specs.Propagation.{IsRootReason}
 use Rattle.trail.specs.Left.{is_one_at_most}
-use Rattle.trail.specs.Trail.{HasNoVariableTwice}
 use Rattle.propagation.proofs.PropagationLemmas.Closing.{no_reason_left, reason_left}
-use Rattle.root_literals.specs.Roots.{IsKept}
 use Rattle.root_literals.proofs.RootLemmas.Carried.{all_forced, kept_forced, roots_alone}
 use Rattle.watch.proofs.WatchLemmas.Shown.{closure_held, closure_shown, forced_held, forced_shown}
 use Rattle.watch.proofs.reason.is_reason_at_root.Goals as goal
@@ -35,12 +33,12 @@ returns-clause-no c is_none clause at =
     let kept = c.clause-clause.result.now in
     let here = c.clause-clause.ensures.clause in
     let alone = roots_alone held.trail.lits held.assumptions held.starts c.requires.nothing_assumed in
-    let apart = subst (λ t. HasNoVariableTwice t.lits) c.trail-trail.ensures c.len-different.ensures.different in
+    let apart = simp c.trail-trail.ensures at c.len-different.ensures.different in
     subst (λ d. ¬ IsRootReason (maps.get live) d) (same_Some kept clause (here ∙ at))
     (no_reason_left (maps.get live) c.trail-trail.result.now.lits c.args.slot kept (sym here)
     (λ l forced.
     ap (λ t. has t.lits l) c.trail-trail.ensures
     ∙ ap (λ ls. has ls l) (sym alone)
     ∙ all_forced live c.args.roots.now held.trail.lits held.assumptions held.starts c.recall_invariant.ensures.different apart
-    (subst (IsKept live c.args.roots.now) (sym alone) c.requires.kept) c.requires.up_to_date (sym c.has_clash.ensures ∙ c.if-has_clash.false) l (forced_shown live l forced))
+    (simp alone c.requires.kept) c.requires.up_to_date (sym c.has_clash.ensures ∙ c.if-has_clash.false) l (forced_shown live l forced))
     (sym (c.is_one_at_most.ensures ∙ ap (λ left. is_one_at_most left kept) c.left.ensures) ∙ is_none))

@@ -1,14 +1,11 @@
-use Rattle.std.proofs.Common.{◌≡◌, ◌+◌, ◌<◌, ◌≤◌, ◌∷◌, [], Some, IfSome, IfNone, length, take, ℕ}
-use Rattle.std.proofs.Common.{cond, refl, sym, ap, ◌∙◌, subst, arith}
+use Rattle.std.proofs.Common.{◌≡◌, ◌+◌, ◌<◌, ◌≤◌, ◌∷◌, [], length, take, ℕ, refl, sym, ap, ◌∙◌}
+use Rattle.std.proofs.Common.{arith}
 use Rattle.std.specs.FinMap as maps
 use Rattle.std.proofs.lemmas.Bool.{true≢false}
 use Rattle.std.proofs.lemmas.List.{length-append, take_all}
-use Rattle.cnf_base.specs.Literals.{Clause, complement}
 use Rattle.tables.specs.Filled.{at}
 use Rattle.root_literals.specs.History.{IsHistory, sure_of, visits}
-use Rattle.root_literals.specs.Order.{each_in_order}
-use Rattle.root_literals.specs.Roots.{IsFalseAt, IsKnown, has_clash, lacks_units}
-use Rattle.root_literals.specs.Watched.{IsMet, IsWatched}
+use Rattle.root_literals.specs.Roots.{has_clash}
 use Rattle.root_literals.proofs.RootLemmas.Grown.{begun_again, history_grown, kept_grown}
 use Rattle.root_literals.proofs.RootLemmas.Grown.{visited_more}
 use Rattle.root_literals.proofs.RootLemmas.Closed.{units_kept}
@@ -29,12 +26,8 @@ loop-done-init c =
       count = sym c.len-done.ensures;
       history = kept.history;
       watched =
-          let lits = c.args.assumptions.now.trail.lits in
-          let live = maps.get c.args.store.now.live in
-          let history = c.args.roots.now.history in
-          subst (λ n. IsWatched live (take n lits) lits) (sym c.len-done.ensures)
-          (subst (λ k. IsWatched (sure_of (cond (lacks_units k) history.doubts.items []) live) (take (visits history) lits) lits) c.in-WithUnits.is (kept.visited (ap has_clash c.in-WithUnits.is)));
-      begun = subst (λ n. (p : ℕ) → c.args.trues ≤ p → p ≤ length c.args.assumptions.now.trail.lits → IsWatched (sure_of c.args.roots.now.history.doubts.items (maps.get c.args.store.now.live)) (take n c.args.assumptions.now.trail.lits) (take p c.args.assumptions.now.trail.lits)) (sym c.len-done.ensures) c.requires.begun;
+          simp c.len-done.ensures (simp c.in-WithUnits.is at (kept.visited (ap has_clash c.in-WithUnits.is)));
+      begun = simp c.len-done.ensures c.requires.begun;
       followed = followed_none c.requires.can;
       uses = refl;
       slots = refl;
@@ -44,9 +37,6 @@ pub follow-requires-clause-is_false : goal.follow-requires-clause-is_false
 follow-requires-clause-is_false c =
     let inside : c.loop-done.done < length c.loop-done.assumptions.trail.lits = let low = c.loop-done-test.true in let n = c.len.ensures.value ∙ ap (λ t. length t.lits) c.trail.ensures in omega arith in
     false_at c.loop-done.assumptions.trail.lits inside (c.lits.ensures.value ∙ ap (λ t. t.lits) c.trail-in-loop-done.ensures) c.index-lits-done.is c.neg-l.ensures
-
-pub returns-in_err-begin-clause-followed : goal.returns-in_err-begin-clause-followed
-returns-in_err-begin-clause-followed c = c.loop-done.invariant.followed
 
 pub returns-in_err-slot-clause-followed : goal.returns-in_err-slot-clause-followed
 returns-in_err-slot-clause-followed c = followed_on c.loop-done.invariant.followed c.follow.ensures.followed
@@ -77,11 +67,11 @@ loop-visited c =
     let one_more = ap length pushed ∙ length-append before.roots.history.visited.items (t ∷ []) in
     let ds = before.roots.history.doubts.items in
     let most = c.max.ensures in
-    let watched = subst (λ n. (p : ℕ) → before.trues ≤ p → p ≤ length x.trail.lits → IsWatched (sure_of ds (maps.get a)) (take n x.trail.lits) (take p x.trail.lits)) (sym count) so_far.begun in
+    let watched = simp (← count) at so_far.begun in
     let begun = history_begun (sure_of ds (maps.get a)) before.roots.history c.begin.new.self x.trail.lits t (omega (arith, count, inside)) (omega (arith, count, most)) pushed c.in_ok-begin.ensures.floor (λ p low. watched p (omega (arith, low, most))) so_far.history in
     let sure = λ (n : ℕ). watched_all (maps.get a) ds (take n x.trail.lits) x.trail.lits in (
       one_more ∙ ap (λ n. n + 1) count,
-      subst (λ v. IsHistory (sure_of v.items (maps.get b)) c.begin.new.self y.trail.lits) (sym c.in_ok-begin.ensures.doubts)
+      simp c.in_ok-begin.ensures.doubts
           (history_grown a b x y (at before.roots.reasons) (at c.follow.new.reasons) step ds c.begin.new.self before.done (omega (arith, one_more, count)) (sure before.done so_far.watched) begun),
     )
 
@@ -97,8 +87,8 @@ loop-done-preserved c =
     let inside : c.loop-done.done < length c.loop-done.assumptions.trail.lits = let low = c.loop-done-test.true in let n = c.len.ensures.value ∙ ap (λ t. length t.lits) c.trail.ensures in omega arith in
     let shown = c.lits.ensures.value ∙ ap (λ t. t.lits) c.trail-in-loop-done.ensures in
     let read = read_at x.trail.lits inside shown c.index-lits-done.is in
-    let partners = subst (λ o. IfNone o ((s : ℕ) (d : Clause) → maps.get b s ≡ Some d → IsMet d c.neg-l.result y.trail.lits)) c.in-None.is e.met in
-    let watched = visited_more before.store.live b x y (at before.roots.reasons) (at c.follow.new.reasons) e.followed.propagates before.done inside so_far.watched (λ s d is. subst (λ p. IsMet d p y.trail.lits) (c.neg-l.ensures ∙ ap complement read) (partners s d is)) in record {
+    let partners = simp c.in-None.is at e.met in
+    let watched = visited_more before.store.live b x y (at before.roots.reasons) (at c.follow.new.reasons) e.followed.propagates before.done inside so_far.watched (λ s d is. simp (c.neg-l.ensures, read) at (partners s d is)) in record {
       count = visited.0;
       history = visited.1;
       watched = watched;
@@ -115,7 +105,7 @@ returns-in-Some-clause-kept c =
     let e = c.in_ok-slot.ensures in
     let visited = loop-visited (goal.at.returns-in-Some-clause-kept c).In_ok-slot in
     kept_grown c.args.store.now.live b c.args.assumptions.now y c.args.roots.now _ (followed_on c.loop-done.invariant.followed e.followed).propagates c.requires.kept
-    (subst (λ o. IfSome o (λ k. IsFalseAt (maps.get (each_in_order b)) k y.trail.lits)) c.in-Some.is e.clash) visited.1 (λ quiet. absurd (true≢false quiet)) c.loop-done.invariant.uses
+    (simp c.in-Some.is at e.clash) visited.1 (λ quiet. absurd (true≢false quiet)) c.loop-done.invariant.uses
 
 pub returns-in-Some-clause-followed : goal.returns-in-Some-clause-followed
 returns-in-Some-clause-followed c = followed_on c.loop-done.invariant.followed c.follow.ensures.followed
@@ -129,6 +119,6 @@ returns-clause-kept c =
     let y = c.loop-done.assumptions in
     let e = so_far.followed.propagates in
     let past : length y.trail.lits ≤ c.loop-done.done = let high = c.loop-done-test.false in let n = c.len.ensures.value ∙ ap (λ t. length t.lits) c.trail.ensures in omega arith in
-    let all = subst (λ ls. IsWatched (maps.get b) ls y.trail.lits) (take_all c.loop-done.done y.trail.lits past) so_far.watched in
-    let units = units_kept a b x y (at c.args.roots.now.reasons) (at c.loop-done.roots.reasons) e (subst (λ k. IsKnown a k x.trail.lits) c.in-WithUnits.is c.requires.kept.known) in
-    kept_grown a b x y c.args.roots.now _ e c.requires.kept (all, units) so_far.history (λ _. subst (λ n. IsWatched (maps.get b) (take n y.trail.lits) y.trail.lits) (sym so_far.count) so_far.watched) so_far.uses
+    let all = simp (take_all c.loop-done.done y.trail.lits past) at so_far.watched in
+    let units = units_kept a b x y (at c.args.roots.now.reasons) (at c.loop-done.roots.reasons) e (simp c.in-WithUnits.is at c.requires.kept.known) in
+    kept_grown a b x y c.args.roots.now _ e c.requires.kept (all, units) so_far.history (λ _. simp so_far.count so_far.watched) so_far.uses

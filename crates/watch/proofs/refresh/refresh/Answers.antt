@@ -1,11 +1,6 @@
-use Rattle.std.proofs.Common.{◌≡◌, ◌/◌, is_some, length, take, refl, sym, ap, ◌∙◌, subst}
-use Rattle.std.proofs.Common.{arith}
-use Rattle.std.specs.FinMap as maps
+use Rattle.std.proofs.Common.{◌≡◌, ◌/◌, is_some, length, take, refl, sym, ap, ◌∙◌, arith}
 use Rattle.tables.specs.Filled.{at}
-use Rattle.root_literals.specs.History.{IsRewound}
-use Rattle.root_literals.specs.Order.{each_in_order}
-use Rattle.root_literals.specs.Roots.{AreNoted, IsKept}
-use Rattle.watch.specs.Code.State.{AddsRoom, HaveReasons}
+use Rattle.watch.specs.Code.State.{AddsRoom}
 use Rattle.root_literals.proofs.RootLemmas.History.{rewound_none}
 use Rattle.root_literals.proofs.RootLemmas.Kept.{kept_nothing}
 use Rattle.root_literals.proofs.RootLemmas.Grown.{begun_from}
@@ -46,8 +41,7 @@ returns-in-Ok-clause-watch c =
       counted = room.counted;
       times = room.times;
     } in
-    watch_room more
-    (subst (λ t. HaveReasons held.trail.reserved (at t)) (sym room.reasons) watch.noted) watch
+    watch_room more (simp room.reasons watch.noted) watch
 
 pub returns-in-Err-clause-watch : goal.returns-in-Err-clause-watch
 returns-in-Err-clause-watch c =
@@ -61,8 +55,7 @@ returns-in-Err-clause-watch c =
     watch_refreshed c.args.store.now.live after c.args.lists.now c.catch_up.new.lists c.args.units.now c.args.roots.now c.cut.new.self c.args.assumptions.now c.cut.new.assumptions c.requires.watch u.assumptions
     (λ v. u.reserved v ∙ p.extends.reserved v ∙ c.start.ensures.reserved v) p.same p.units e.listed e.entries
     (kept_nothing after c.cut.new.self c.cut.new.assumptions.trail.lits
-    (subst (λ t. AreNoted (maps.get (each_in_order after)) (at t)) (sym u.reasons)
-    (noted_carried c.args.store.now.live after c.start.new.assumptions c.catch_up.new.assumptions (at c.start.new.roots.reasons) (at roots.reasons) p c.start.ensures.kept.noted)) u.kept (rewound_none (subst (IsRewound roots.history c.cut.new.self.history) zero u.history)) (u.lits ∙ ap (λ n. take n c.catch_up.new.assumptions.trail.lits) zero)
+    (simp u.reasons (noted_carried c.args.store.now.live after c.start.new.assumptions c.catch_up.new.assumptions (at c.start.new.roots.reasons) (at roots.reasons) p c.start.ensures.kept.noted)) u.kept (rewound_none (simp zero at u.history)) (u.lits ∙ ap (λ n. take n c.catch_up.new.assumptions.trail.lits) zero)
     (let no_more = u.no_more in omega (arith, no_more, zero)))
     (λ l h. ap (λ t. is_some (at t l)) u.reasons ∙ p.noted l (c.start.ensures.noted l h))
 
@@ -71,5 +64,5 @@ catch_up-requires-clause-begun c p low =
     let held = c.args.assumptions.now in
     let nothing = nothing_stands c.args.roots.now.kept held.assumptions c.requires.watch.standing (sym c.is_up_to_date.ensures ∙ c.if-is_up_to_date.false) in
     let trues = c.len-trues.ensures.value ∙ ap (λ t. length t.lits) c.trail.ensures in
-    begun_from c.args.store.now.live c.args.roots.now c.start.new.roots held.trail.lits c.start.new.assumptions.trail.lits (subst (IsKept c.args.store.now.live c.args.roots.now) (roots_alone held.trail.lits held.assumptions held.starts nothing) c.requires.watch.kept)
+    begun_from c.args.store.now.live c.args.roots.now c.start.new.roots held.trail.lits c.start.new.assumptions.trail.lits (simp (roots_alone held.trail.lits held.assumptions held.starts nothing) at c.requires.watch.kept)
     (not_clash c.args.roots.now.kept (sym c.is_up_to_date.ensures ∙ c.if-is_up_to_date.false)) c.start.ensures.begun p (omega (arith, trues, low))

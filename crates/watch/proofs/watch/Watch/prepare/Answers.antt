@@ -1,20 +1,16 @@
-use Rattle.std.proofs.Common.{sym, ap, ◌∙◌, subst}
-use Rattle.std.specs.FinMap as maps
-use Rattle.propagation.specs.Closure.{IsClosure}
+use Rattle.std.proofs.Common.{sym, ap, ◌∙◌}
 use Rattle.propagation.proofs.PropagationLemmas.Reduced.{unless_refused}
 use Rattle.root_literals.proofs.RootLemmas.Order.{literals_ordered}
-use Rattle.watch_lists.specs.Watched.{IsTautologyList}
-use Rattle.watch.specs.Code.State.{IsWatch}
 use Rattle.watch.proofs.watch.Watch.prepare.Goals as goal
 
 pub invariant_of-self-2 : goal.invariant_of-self-2
 invariant_of-self-2 c =
     let e = c.refresh-refreshed in
     let loaded = ap (λ w. w.is_loading) c.self-2.view_is ∙ unless_refused c.finish_loading.result (sym c.is_err.ensures.value ∙ c.if-is_err.false) c.finish_loading.ensures.loaded in (
-      subst (λ b. IsWatch b e.new.store.live e.new.lists c.self-2.inside.units e.new.roots e.new.assumptions) (sym loaded) e.ensures.watch,
+      simp loaded e.ensures.watch,
       c.recall_invariant-2.ensures.live_alone ∙ sym (literals_ordered e.new.store.live),
-      subst (λ m. IsClosure (maps.get m) c.self-2.inside.closure) (sym e.ensures.same) c.self-2.invariant.2,
-      subst (λ m. IsTautologyList (maps.get m) c.self-2.inside.tautologies) (sym e.ensures.same) c.self-2.invariant.3,
+      simp e.ensures.same c.self-2.invariant.2,
+      simp e.ensures.same c.self-2.invariant.3,
     )
 
 pub returns-clause-live_alone : goal.returns-clause-live_alone

@@ -1,6 +1,4 @@
-use Rattle.std.proofs.Common.{ap, sym, ◌∙◌, subst}
-use Rattle.std.specs.FinMap as maps
-use Rattle.propagation.specs.Closure.{IsClosure}
+use Rattle.std.proofs.Common.{ap, sym, ◌∙◌}
 use Rattle.root_literals.specs.Order.{each_in_order}
 use Rattle.propagation.proofs.PropagationLemmas.Scan.{none_alone}
 use Rattle.root_literals.proofs.RootLemmas.Order.{literals_ordered, ordered_empty}
@@ -13,7 +11,7 @@ invariant_of-result c =
     let held = c.in_ok-new.field-0 in (
       watch_empty store.live c.new.result c.new-2.result c.new-5.result held (ap (λ s. s.live) c.in_ok-seeded.ensures) c.new.ensures.entries c.new-2.ensures c.new-5.ensures.kept c.new-5.ensures.visited c.in_ok-new.ensures.lits c.in_ok-new.ensures.reserved c.in_ok-new.ensures.nothing_assumed c.new-5.ensures.counted,
       none_alone store c.in_ok-seeded.ensures ∙ sym (literals_ordered store.live),
-      subst (IsClosure (maps.get (each_in_order store.live))) (sym c.new-6.ensures) tt,
+      simp c.new-6.ensures tt,
       tautologies_none store.live c.new-3.result (ap (λ s. s.live) c.in_ok-seeded.ensures) c.new-3.ensures,
     )
 

@@ -1,7 +1,6 @@
 use Rattle.std.proofs.Common.{◌*◌, sym, ap, ◌∙◌}
 use Rattle.watch_lists.specs.Watched.{watched_clauses}
-use Rattle.watch.proofs.WatchLemmas.Lists.{loaded_all}
-use Rattle.watch.proofs.WatchLemmas.State.{watched_shown}
+use Rattle.watch.proofs.WatchLemmas.State.{loaded_all, watched_shown}
 use Rattle.watch.proofs.watch.Watch.watch_entries.Goals as goal
 
 pub returns-clause-two_each : goal.returns-clause-two_each

@@ -1,31 +1,19 @@
-use Rattle.std.proofs.Common.{rules, refl, sym, ap, ◌∙◌, subst}
-use Rattle.std.specs.FinMap as maps
-use Rattle.propagation.specs.Closure.{IsClosure}
+use Rattle.std.proofs.Common.{rules, refl, sym, ap, ◌∙◌}
 use Rattle.propagation.proofs.PropagationLemmas.Reduced.{unless_refused}
-use Rattle.watch_lists.specs.Watched.{IsTautologyList}
 use Rattle.watch.proofs.WatchLemmas.Assumed.{assuming_source, refused_source, source_room}
 use Rattle.watch.proofs.WatchLemmas.Assumed.{source_there}
 use Rattle.root_literals.proofs.RootLemmas.Order.{literals_ordered}
-use Rattle.watch.specs.Code.State.{IsWatch}
 use Rattle.watch.proofs.WatchLemmas.State.{watch_room}
 use Rattle.watch.proofs.watch.WatchPropagate.assume_part.Goals as goal
 
 pub invariant_of-self : goal.invariant_of-self
 invariant_of-self g c =
-    let r = c.reserve_given.ensures in (
-      watch_room r.more r.noted c.self.invariant.0,
-      c.self.invariant.1,
-      c.self.invariant.2,
-      c.self.invariant.3,
-    )
+    let r = c.reserve_given.ensures in search (watch_room r.more r.noted c.self.invariant.0)
 
 pub assume_part-assumed-requires-clause-watch : goal.assume_part-assumed-requires-clause-watch
 assume_part-assumed-requires-clause-watch g c =
-    let i = c.self.inside in
     let r = c.reserve_given.ensures in
-    let loaded = ap (λ w. w.is_loading) c.self.view_is ∙ c.in_ok-prepare.ensures.loaded in
-    subst (λ b. IsWatch b i.store.live i.lists i.units c.reserve_given.new.roots c.reserve_given.new.assumptions) loaded
-    (watch_room r.more r.noted c.self.invariant.0)
+    simp (ap (λ w. w.is_loading) c.self.view_is ∙ c.in_ok-prepare.ensures.loaded) at (watch_room r.more r.noted c.self.invariant.0)
 
 pub assume_part-assumed-requires-clause-alive : goal.assume_part-assumed-requires-clause-alive
 assume_part-assumed-requires-clause-alive g c =
@@ -40,11 +28,10 @@ assume_part-assumed-requires-clause-room g c =
 
 pub invariant_of-self-2 : goal.invariant_of-self-2
 invariant_of-self-2 g c = (
-  subst (λ b. IsWatch b c.assume_part-assumed.new.store.live c.assume_part-assumed.new.lists c.self.inside.units c.assume_part-assumed.new.roots c.assume_part-assumed.new.assumptions)
-      (sym (ap (λ w. w.is_loading) c.self.view_is ∙ c.in_ok-prepare.ensures.loaded)) c.assume_part-assumed.ensures.watch,
+  simp (ap (λ w. w.is_loading) c.self.view_is ∙ c.in_ok-prepare.ensures.loaded) c.assume_part-assumed.ensures.watch,
   c.recall_invariant.ensures.live_alone ∙ sym (literals_ordered c.assume_part-assumed.new.store.live),
-  subst (λ m. IsClosure (maps.get m) c.self.inside.closure) (sym c.assume_part-assumed.ensures.same) c.self.invariant.2,
-  subst (λ m. IsTautologyList (maps.get m) c.self.inside.tautologies) (sym c.assume_part-assumed.ensures.same) c.self.invariant.3,
+  simp c.assume_part-assumed.ensures.same c.self.invariant.2,
+  simp c.assume_part-assumed.ensures.same c.self.invariant.3,
 )
 
 pub returns-in_err-prepare-clause-assumed : goal.returns-in_err-prepare-clause-assumed

@@ -5,10 +5,9 @@ use Rattle.std.proofs.lemmas.Bool.{false_from_ne_true}
 use Rattle.cnf_base.specs.Literals.{Clause, has}
 use Rattle.cnf_base.proofs.SetLemmas.{same_from, same_there, same_trans}
 use Rattle.root_literals.specs.Order.{each_in_order, in_order}
-use Rattle.root_literals.specs.Roots.{IsArranged, IsKept}
-use Rattle.watch.specs.Code.State.{IsWatch}
+use Rattle.root_literals.specs.Roots.{IsArranged}
 use Rattle.std.proofs.lemmas.Option.{none-some, same_Some}
-use Rattle.watch_lists.specs.Watched.{IsTautologyList, unit_for, tautology_for}
+use Rattle.watch_lists.specs.Watched.{unit_for, tautology_for}
 use Rattle.clause_db.specs.Store.{literals_in}
 use Rattle.propagation.proofs.PropagationLemmas.Scan.{room_added}
 use Rattle.propagation.specs.Closure.{IsClosure}
@@ -19,9 +18,6 @@ use Rattle.root_literals.proofs.RootLemmas.Order.{same-in_order, seen_there}
 use Rattle.watch.proofs.WatchLemmas.State.{alone_kept, same_state, tautologies_added}
 use Rattle.watch.proofs.WatchLemmas.State.{tautologies_there, watch_added, watch_room, watch_same}
 use Rattle.watch.proofs.watch.WatchPropagate.insert.Goals as goal
-
-pub arrange-arranged-requires : goal.arrange-arranged-requires
-arrange-arranged-requires c = record { alive = ap is_some c.in_ok-slot.ensures.stored.1 }
 
 pub add_entries-requires-clause-alive : goal.add_entries-requires-clause-alive
 add_entries-requires-clause-alive c =
@@ -51,8 +47,7 @@ enter-requires-clause-kept c =
     let live = i.store.live in
     let r = c.reserve_room.ensures in
     let watch = watch_room r.more r.noted c.self.invariant.0 in
-    subst (λ m. IsKept m c.reserve_room.new.roots c.reserve_room.new.assumptions.trail.lits)
-    (sym (removed_back live c.arrange-arranged.new.store.live c.in_ok-slot.slot c.in_ok-slot.ensures.free (λ s ne. c.arrange-arranged.ensures.others s ne ∙ c.in_ok-slot.ensures.others s ne)))
+    simp (removed_back live c.arrange-arranged.new.store.live c.in_ok-slot.slot c.in_ok-slot.ensures.free (λ s ne. c.arrange-arranged.ensures.others s ne ∙ c.in_ok-slot.ensures.others s ne))
     (alone_kept i.is_loading live i.lists i.units c.reserve_room.new.roots c.reserve_room.new.assumptions watch (r.more.assumptions ∙ ap (λ w. w.propagation.assumptions) c.self.view_is ∙ c.requires))
 
 pub enter-requires-clause-reasons : goal.enter-requires-clause-reasons
@@ -118,12 +113,10 @@ invariant_of-self-in-Err c =
     let w = c.arrange-arranged.ensures.arranged d.0 d.1 in
     let fewer = λ (l s : ℕ) (x : Clause) (is : maps.get live s ≡ Some x). e.fitting w.0 w.1 l s x (λ same. absurd (none-some x (sym (ap (maps.get live) same ∙ c.in_ok-slot.ensures.free) ∙ is))) in
     let back = c.remove_clause.ensures.live ∙ removed_back live c.arrange-arranged.new.store.live c.in_ok-slot.slot c.in_ok-slot.ensures.free (λ s ne. c.arrange-arranged.ensures.others s ne ∙ c.in_ok-slot.ensures.others s ne) in (
-      subst (λ m. IsWatch i.is_loading m c.add_entries.new.lists c.add_entries.new.units roots held) (sym back)
-          (subst (λ xs. IsWatch i.is_loading live c.add_entries.new.lists xs roots held) (sym e.err_rest) (watch_same i.is_loading live i.lists c.add_entries.new.lists i.units roots held e.err_watched fewer e.err_entries watch)),
+      simp (back, e.err_rest) (watch_same i.is_loading live i.lists c.add_entries.new.lists i.units roots held e.err_watched fewer e.err_entries watch),
       c.remove_clause.ensures.live_alone ∙ sym (literals_ordered c.remove_clause.new.store.live),
       c.remove_clause.ensures.closure,
-      subst (λ m. IsTautologyList (maps.get (each_in_order m)) c.add_entries.new.tautologies) (sym back)
-          (subst (IsTautologyList (maps.get (each_in_order live))) (sym e.err_tautologies) c.self.invariant.3),
+      simp (back, e.err_tautologies) c.self.invariant.3,
     )
 
 pub returns-in-Ok-clause-free : goal.returns-in-Ok-clause-free
@@ -160,21 +153,16 @@ returns-in-Err-clause-err c =
 
 pub invariant_of-self : goal.invariant_of-self
 invariant_of-self c =
-    let r = c.reserve_room.ensures in (
-      watch_room r.more r.noted c.self.invariant.0,
-      c.self.invariant.1,
-      c.self.invariant.2,
-      c.self.invariant.3,
-    )
+    let r = c.reserve_room.ensures in search (watch_room r.more r.noted c.self.invariant.0)
 
 pub invariant_of-self-in_err-slot : goal.invariant_of-self-in_err-slot
 invariant_of-self-in_err-slot c =
     let i = c.self.inside in
     let r = c.reserve_room.ensures in
     let watch = watch_room r.more r.noted c.self.invariant.0 in
-    let same = sym c.in_err-slot.ensures.err_live in (
-      subst (λ m. IsWatch i.is_loading m i.lists i.units c.reserve_room.new.roots c.reserve_room.new.assumptions) same watch,
-      c.in_err-slot.ensures.err_stored ∙ c.self.invariant.1 ∙ ap (λ m. literals_in (each_in_order m)) same,
+    let same = c.in_err-slot.ensures.err_live in (
+      simp same watch,
+      c.in_err-slot.ensures.err_stored ∙ c.self.invariant.1 ∙ ap (λ m. literals_in (each_in_order m)) (sym same),
       c.insert_clause.ensures.closure,
-      subst (λ m. IsTautologyList (maps.get (each_in_order m)) i.tautologies) same c.self.invariant.3,
+      simp same c.self.invariant.3,
     )

@@ -1,13 +1,11 @@
-use Rattle.std.proofs.Common.{◌/◌, is_some, sym, ap, ◌∙◌, subst}
+use Rattle.std.proofs.Common.{◌/◌, is_some, sym, ap, ◌∙◌}
 use Rattle.std.specs.FinMap as maps
 use Rattle.root_literals.specs.Order.{each_in_order}
-use Rattle.root_literals.specs.Roots.{IsKept}
 use Rattle.propagation.proofs.PropagationLemmas.Scan.{room_removed}
 use Rattle.root_literals.proofs.RootLemmas.Order.{alive_alike, alive_clause, literals_ordered}
 use Rattle.root_literals.proofs.RootLemmas.Order.{ordered_remove}
-use Rattle.watch.proofs.WatchLemmas.Lists.{lists_low, loaded_all}
-use Rattle.watch.proofs.WatchLemmas.State.{alone_kept, tautologies_removed, tautologies_there}
-use Rattle.watch.proofs.WatchLemmas.State.{watch_put_back, watch_removed}
+use Rattle.watch.proofs.WatchLemmas.State.{lists_low, loaded_all, alone_kept, tautologies_removed}
+use Rattle.watch.proofs.WatchLemmas.State.{tautologies_there, watch_put_back, watch_removed}
 use Rattle.watch.proofs.watch.WatchPropagate.remove.Goals as goal
 
 pub remove_entries-requires-clause-alive : goal.remove_entries-requires-clause-alive
@@ -57,7 +55,7 @@ invariant_of-self c =
     let room = room_removed i.assumptions.trail.reserved (each_in_order live) (each_in_order after) slot gone watch.scan.room in (
       watch_removed i.is_loading live after c.leave.new.lists c.remove_entries.new.lists i.units c.remove_entries.new.units i.roots c.leave.new.self i.assumptions held watch left.assumptions
           slot d.0 (e.different d.0 d.1) (record { each = λ k x here l member. left.reserved (l / 2) ∙ room.each k x here l member })
-          (subst (λ m. IsKept m c.leave.new.self held.trail.lits) (sym c.remove_clause.ensures.live) left.kept)
+          (simp c.remove_clause.ensures.live left.kept)
           (λ l h. left.noted l (watch.noted l (sym (left.reserved (l / 2)) ∙ h)))
           d.1 c.remove_clause.ensures.live (e.watched d.0 d.1) (e.fitting d.0 d.1) (e.rest d.0 d.1) (e.fewer d.0 d.1) (e.shorter d.0 d.1),
       c.remove_clause.ensures.live_alone ∙ sym (literals_ordered after),
