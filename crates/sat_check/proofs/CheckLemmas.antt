@@ -1,37 +1,188 @@
--- A check, step by step.
-use Rattle.cnf_base.specs.declared.fault.Fault.TheVariants.{Binary, ReadFailed, Text}
+-- A check, step by step, and how far it reads a proof.
 use Rattle.cnf_base.proofs.SeenLemmas.{Seen-fact, Seen-nothing, Seen-run}
 use Rattle.cnf_base.proofs.StreamLemmas.{Along-map, Along-none, Along-then, Along-within}
-use Rattle.cnf_base.specs.{Seen.IsSeen, Seen.Seen, Stream.Along, Stream.Input}
+use Rattle.cnf_base.specs.{Literals.Clause, Seen.IsSeen, Seen.Seen, Stream.Along, Stream.Input}
 use Rattle.cnf_base.specs.Stream.{Reader, Stream, Suffix, bytes_read, from_start, unread_stream}
 use Rattle.cnf_base.specs.declared.fault.Fault.{Fault, TheVariants.OutOfMemory}
 use Rattle.dimacs.specs.Formula.{formula_of}
-use Rattle.proofs.specs.Reading.{GivesStep, IsFaulty, PassesNoEnd, Proof, ProofReading, with_step}
-use Rattle.proofs.specs.{Steps.Step, declared.step_end.StepEnd.StepEnd}
-use Rattle.report.specs.declared.status.Status.TheVariants.{Malformed}
-use Rattle.report.specs.declared.status.Status.TheVariants.{NotVerified, OutOfMemory as NoMemory}
-use Rattle.sat_check.proofs.OutcomeLemmas.{Outcome-after, Writes-all, Writes-still, text_of-append}
-use Rattle.sat_check.proofs.ReachLemmas.{LeavesRest-broken, LeavesRest-decided, LeavesRest-none}
-use Rattle.sat_check.proofs.ReachLemmas.{LeavesRest-step, TellsFault-none, TellsLoss-none}
-use Rattle.sat_check.proofs.{ReachLemmas.no_verdict, ReadLemmas.unread_fault}
-use Rattle.sat_check.proofs.{ReportLemmas.some_report, RestLemmas.Rest-clean, RestLemmas.Rest-fault}
-use Rattle.sat_check.proofs.{RestLemmas.Rest-some, RestLemmas.Rest-step, ShownLemmas.traced_same}
-use Rattle.sat_check.specs.Code.Checking.{AllReports, GoesOn, IsRefused, LeavesProof, LeavesRest}
-use Rattle.sat_check.specs.Code.Checking.{Rest, RunsInto, Standing, Stops, counted, end_report}
-use Rattle.sat_check.specs.Code.{Checking.traced, Reach.IsVerdict, Writer.LeavesWriter}
+use Rattle.proofs.specs.Reading.{GivesStep, IsFaulty, PassesNoEnd, PlacedStep, Proof, ProofReading}
+use Rattle.proofs.specs.{Reading.with_step, Steps.Step, declared.step_end.StepEnd.StepEnd}
+use Rattle.report.specs.declared.status.Status.{Status}
+use Rattle.report.specs.declared.status.Status.TheVariants.{Malformed, NotVerified}
+use Rattle.report.specs.declared.status.Status.TheVariants.{OutOfMemory as NoMemory, WriteFailed}
+use Rattle.sat_check.proofs.{FormulaLemmas.unread_fault, OutcomeLemmas.Outcome-after}
+use Rattle.sat_check.proofs.OutcomeLemmas.{Writes-all, Writes-still, no_verdict, text_of-append}
+use Rattle.sat_check.proofs.ReportLemmas.{Rest-clean, Rest-fault, Rest-some, Rest-step, some_report}
+use Rattle.sat_check.proofs.ReportLemmas.{traced_same}
+use Rattle.sat_check.specs.Code.Checking.{AllReports, GoesOn, IsLoaded, IsRefused, IsTold}
+use Rattle.sat_check.specs.Code.Checking.{LeavesProof, LeavesRest, Loads, Rest, RunsInto}
+use Rattle.sat_check.specs.Code.Checking.{Standing, Stops, counted, end_report, traced}
+use Rattle.sat_check.specs.Code.{Reach.IsVerdict, Writer.LeavesWriter}
 use Rattle.sat_check.specs.FormulaReach.{ReadsNoFurtherThanFault}
-use Rattle.sat_check.specs.Reach.{ReadsNoFurther, TellsFault, TellsWhy}
-use Rattle.sat_check.specs.Report.{Outcome, Report, Reports, text_of, with_lines}
-use Rattle.sat_check.specs.declared.checked.Checked.{Checked}
-use Rattle.std.proofs.Common.{Bool, List, None, Option, Some, [], ap, append_assoc, arith, false}
-use Rattle.std.proofs.Common.{inr, refl, rules, subst, sym, true, ℕ, ◌++◌, ◌+◌, ◌∙◌, ◌≡◌, ◌≤◌}
-use Rattle.std.specs.Prelude.{Err, Ok, Result}
+use Rattle.sat_check.specs.Reach.{ReadsNoFurther, TellsFault, TellsLoss, deciding_step, refused_end}
+use Rattle.sat_check.specs.Report.{Outcome, Report, Reports, bare_steps, is_cut_short, text_of}
+use Rattle.sat_check.specs.{Report.with_lines, declared.checked.Checked.Checked}
+use Rattle.std.proofs.Common.{Bool, Err, IsSome, List, None, Ok, Option, Some, [], ap}
+use Rattle.std.proofs.Common.{append_assoc, arith, false, inr, is_some, refl, rules, subst, sym}
+use Rattle.std.proofs.Common.{true, ℕ, ◌++◌, ◌+◌, ◌↔◌, ◌∙◌, ◌∷◌, ◌≡◌, ◌≤◌, ◌⊎◌}
+use Rattle.std.proofs.lemmas.{Bool.MatchBool-at_false, Bool.false≢true, Option.none-some}
+use Rattle.std.specs.{List.list_any, Prelude.IsTrue, Prelude.Result}
 use Rattle.steps.specs.ProofSession.{View, is_over}
 use Rattle.theory.proofs.LawLemmas.Existence.{after_finite, same_finite}
-use Rattle.theory.specs.Losses.{LostBySteps}
-use Rattle.theory.specs.{Rules.IsFinite, Rules.Rule, Rules.after, Rules.sum_of, Verdicts.system_of}
+use Rattle.theory.proofs.LawLemmas.{Losses.lost_same, Rules.answer_unique, Verdicts.ends_same}
+use Rattle.theory.proofs.LratLemmas.{LiveSets.SameClauses-sym, Steps.ok_err, Steps.ok_is}
+use Rattle.theory.specs.{Losses.HasLost, Losses.LostBySteps, Losses.StepLoses, Rules.Answers}
+use Rattle.theory.specs.Rules.{IsFinite, Rule, Same, State, after, by_copies, by_ids, start, sum_of}
+use Rattle.theory.specs.Verdicts.{Ending, Ends, Verdict, is_empty, is_last, system_of}
+use Rattle.theory.specs.{Verdicts.verified, declared.accepted.Accepted.Accepted}
 use Rattle.writers.{proofs.LineLemmas.Writes-then, specs.Lines.Sink, specs.Lines.Writes}
 use Rattle.sat_check.specs.declared.input_fault.InputFault.TheVariants as of
+
+same_sym : (s t : State) → Same s t → Same t s
+same_sym (by_ids s) (by_ids t) same = (SameClauses-sym _ _ same.0, sym same.1)
+same_sym (by_copies a x) (by_copies b y) same = search rules
+same_sym s t same = absurd same
+
+-- ---- The steps of a proof
+
+-- so its end wasn't passed where no step's was
+pub not_passed : (p : Proof) (rest : Suffix) → PassesNoEnd p rest → (words : List Accepted) (ending : Ending) (last : PlacedStep)
+    → deciding_step p.steps words ending ≡ Some last → rest.offset ≤ last.offset
+not_passed p rest reach words ending last d = search rules
+
+-- no fault is told where no input is malformed
+pub TellsFault-none : (formula second : Option Fault) (checked : Checked) → checked.fault ≡ None → (checked.status ≡ Malformed → ⊥) → TellsFault formula second checked
+TellsFault-none formula second checked none not = record { malformed = λ m. absurd (not m); only = λ _. none }
+
+-- nor a loss where no step was refused
+no_loss : (checked : Checked) (X : Type 0) → checked.refused ≡ None → checked.literal_lost ≡ false → IsTrue checked.literal_lost ↔ (IsSome checked.refused × X)
+no_loss checked X none quiet = search rules
+
+pub TellsLoss-none : (rule : Rule) (fault : Option Fault) (clauses : List Clause) (p : Proof) (checked : Checked) → checked.refused ≡ None → checked.literal_lost ≡ false → TellsLoss (system_of rule) (LostBySteps rule) fault clauses p checked
+TellsLoss-none rule fault clauses p checked none quiet = search (rules, no_loss, none, quiet)
+
+-- no input is malformed where a run was cut short, or a verdict was written
+pub cut_short_not : (s : Status) → is_cut_short s ≡ true → s ≡ Malformed → ⊥
+cut_short_not s cut m = false≢true (sym (ap is_cut_short m) ∙ cut)
+
+pub concluded_not : (given result : Status) (X : Type 0) → (result ≡ given) ⊎ (result ≡ NoMemory) ⊎ ((result ≡ WriteFailed) × X) → (given ≡ Malformed → ⊥) → result ≡ Malformed → ⊥
+concluded_not given result X h h2 h3 = search rules
+
+pub told_not : (s : Status) (now : Sink) → IsTold s now → s ≡ Malformed → ⊥
+told_not s now told m = let P : Status → Type 0 = λ x. IsTold x now in subst P m told
+
+-- no step decides where none is to come
+pub LeavesRest-none : (s : View) (fault : Option Fault) (end : Option ℕ) (rest : Suffix) (checked : Checked) → checked.refused ≡ None → checked.literal_lost ≡ false → TellsFault None fault checked
+    → PassesNoEnd (record { steps = []; fault = fault; fault_end = end }) rest → LeavesRest s (record { steps = []; fault = fault; fault_end = end }) rest checked
+LeavesRest-none s fault end rest checked none quiet tells reach =
+    search (rules, none, no_loss, none-some)
+
+-- no verdict was answered
+pub LeavesRest-broken : (s : View) (p : Proof) (rest : Suffix) (checked : Checked) → checked.refused ≡ None → checked.literal_lost ≡ false → (IsVerdict checked.status → ⊥) → TellsFault None p.fault checked → PassesNoEnd p rest
+    → LeavesRest s p rest checked
+LeavesRest-broken s p rest checked none quiet broken tells reach = search rules
+
+module _ (s : View) (step : Step) (end : StepEnd) (offset : ℕ) (p : Proof) (rest : Suffix) (checked : Checked) where
+  abbrev here : PlacedStep
+  here = record { step = step; end = end; offset = offset }
+
+  -- the check ended with this step, which was refused or not
+  pub LeavesRest-decided : (checked.status ≡ NotVerified → IsRefused s.state step)
+      → (checked.status ≡ NotVerified → checked.refused ≡ Some end) → ((checked.status ≡ NotVerified → ⊥) → checked.refused ≡ None)
+      → (checked.status ≡ NotVerified → checked.literal_lost ≡ s.has_lost_literal) → ((checked.status ≡ NotVerified → ⊥) → checked.literal_lost ≡ false) → TellsFault None p.fault checked
+      → PassesNoEnd (with_step step end offset p) rest → LeavesRest s (with_step step end offset p) rest checked
+  LeavesRest-decided refuses told only loss none_lost tells reach =
+      search (rules, not_passed, with_step, is_some, ok_err, answer_unique)
+
+  -- it was accepted, and the check went on
+  pub LeavesRest-step : (t : View) (word : Accepted) → Answers s.state step (Ok word) → is_last word ≡ false → Same t.state (after s.state step word)
+      → IsTrue t.has_lost_literal ↔ (IsTrue s.has_lost_literal ⊎ StepLoses s.state step word)
+      → LeavesRest t p rest checked → LeavesRest s (with_step step end offset p) rest checked
+  LeavesRest-step t word a not_last same loss later = record {
+    past = λ words ending last e d. let x = split words ending e in
+        later.past x.0 ending last x.2 (sym (later_step p.steps word x.0 ending x.2) ∙ (rw x.1 at d));
+    past_fault = later.past_fault;
+    refused = λ words ending v e. let x = split words ending e in
+        rw x.1 (later.refused x.0 ending v x.2 ∙ later_end word x.0 ending);
+    only = later.only;
+    lost = λ words ending v e. let x = split words ending e in
+        rw x.1 (search (rules, (over x.0), (later.lost x.0 ending v x.2)));
+    none_lost = later.none_lost;
+    malformed = later.malformed;
+  }
+    where
+      -- the same step decides among the later ones
+      later_step : (ps : List PlacedStep) (w : Accepted) (ws : List Accepted) (ending : Ending) → Ends t.state (bare_steps (record { steps = ps; fault = p.fault; fault_end = p.fault_end })) ws ending
+          → deciding_step (here ∷ ps) (w ∷ ws) ending ≡ deciding_step ps ws ending
+      later_step [] w [] verified e = absurd (cc)
+      later_step (x ∷ ps) w [] verified e = absurd (let bad = e.1 in cc)
+      later_step ps w ws ending e = refl
+
+      later_end : (w : Accepted) (ws : List Accepted) (ending : Ending) → refused_end p.steps ws ending ≡ refused_end (here ∷ p.steps) (w ∷ ws) ending
+      later_end w ws ending = search rules
+
+      -- this word came first, and the others from the state that the step left
+      split : (words : List Accepted) (ending : Ending) → Ends s.state (step ∷ bare_steps p) words ending
+          → (ws : List Accepted) × (words ≡ word ∷ ws) × Ends t.state (bare_steps p) ws ending
+      split [] ending e = absurd (ok_err word e.0 (answer_unique s.state step _ _ a e.2))
+      split (w ∷ ws) ending e = let is = ok_is w word (answer_unique s.state step _ _ e.0 a) in
+          let ends = MatchBool-at_false _ _ (ap is_last is ∙ not_last) e.1 in
+          (ws, ap (λ x. x ∷ ws) is, ends_same (bare_steps p) ws ending (after s.state step word) t.state (same_sym t.state (after s.state step word) same) (rw is at ends))
+
+      -- a literal was lost before this step, by it or after it
+      over : (ws : List Accepted) → (IsTrue t.has_lost_literal ⊎ HasLost t.state (bare_steps p) ws) ↔ (IsTrue s.has_lost_literal ⊎ HasLost s.state (step ∷ bare_steps p) (word ∷ ws))
+      over ws = search (rules, lost_same, same_sym)
+
+-- ---- A whole proof
+
+module _ (rule : Rule) (fault : Option Fault) (clauses : List Clause) (p : Proof) (reader : Reader) (rest : Suffix) (checked : Checked) (none : checked.refused ≡ None) (quiet : checked.literal_lost ≡ false) (tells : TellsFault fault p.fault checked) where
+  -- no verdict was answered, and nothing was read
+  pub LeavesProof-broken : (IsVerdict checked.status → ⊥) → LeavesProof rule fault clauses p reader reader rest checked
+  LeavesProof-broken broken = search (rules, none, TellsLoss-none)
+
+  -- some clause is empty
+  pub LeavesProof-empty : list_any is_empty clauses ≡ true → LeavesProof rule fault clauses p reader reader rest checked
+  LeavesProof-empty empty = search rules
+
+-- the steps were checked
+pub LeavesProof-checked : (rule : Rule) (s : View) (clauses : List Clause) (l : IsLoaded rule s clauses) (p : Proof) (old new : Reader) (rest : Suffix) (checked : Checked)
+    → s.is_verified ≡ false → LeavesRest s p rest checked → LeavesProof rule None clauses p old new rest checked
+LeavesProof-checked rule s clauses l p old new rest checked unverified leaves = record {
+  unread = search rules;
+  past = λ words ending last whole e d. inr (leaves.past words ending last (ends words ending e) d);
+  past_fault = λ offset e. inr (leaves.past_fault offset e);
+  told = record {
+    unread = search rules;
+    refused = λ words ending whole v e. leaves.refused words ending v (ends words ending e);
+    only = leaves.only;
+    loss = record {
+      lost = λ words ending whole v e. loaded words (leaves.lost words ending v (ends words ending e));
+      only = leaves.none_lost;
+    };
+    malformed = leaves.malformed;
+  };
+}
+  where
+    none : list_any is_empty clauses ≡ false
+    none = sym l.verified ∙ unverified
+
+    -- the clauses that were input lost none
+    loaded : (words : List Accepted) → IsTrue checked.literal_lost ↔ (IsSome checked.refused × (IsTrue s.has_lost_literal ⊎ HasLost s.state (bare_steps p) words))
+        → IsTrue checked.literal_lost ↔ (IsSome checked.refused × HasLost (start rule clauses) (bare_steps p) words)
+    loaded words h = search (rules, false≢true, lost_same, same_sym)
+
+    ends : (words : List Accepted) (ending : Ending) → Verdict rule clauses (bare_steps p) words ending → Ends s.state (bare_steps p) words ending
+    ends words ending h = search (rules, ends_same, same_sym, none)
+
+-- the formula has a fault, or memory ran out
+pub LeavesProof-fault : (rule : Rule) (s : View) (f : Fault) (i : Input) (p : Proof) (reader : Reader) (rest : Suffix) (checked : Checked) → checked.refused ≡ None → checked.literal_lost ≡ false
+    → Loads rule s (Err f) (formula_of i) → (f ≡ OutOfMemory → (IsVerdict checked.status → ⊥) × (checked.status ≡ Malformed → ⊥))
+    → (checked.status ≡ Malformed → checked.fault ≡ Some (of.Formula f)) → ((checked.status ≡ Malformed → ⊥) → checked.fault ≡ None)
+    → LeavesProof rule (formula_of i).fault (formula_of i).clauses p reader reader rest checked
+LeavesProof-fault rule s f i p reader rest checked none quiet loads broken malformed only =
+    search rules
+
+-- ---- A check, step by step
 
 abbrev pub fresh_reading : Stream → ProofReading
 fresh_reading s = record { stream = s; kept = None; step_end = None; stored = 0 }
@@ -64,10 +215,7 @@ Checking-start trace start first was whole sound finite least = record {
   count = 0;
   counts = refl;
   written = [];
-  run = Along-map _ _ _ _ (Along-none start.stream) (λ i j m e. (
-    (λ r rest. let P : Suffix → Type 0 = λ x. Rest trace first.state 0 first.peak (start.to_come x) r in subst P (sym e) rest),
-    (λ left checked leaves. let P : Suffix → Type 0 = λ x. LeavesRest first (start.to_come x) left checked in subst P (sym e) leaves),
-  ));
+  run = Along-map _ _ _ _ (Along-none start.stream) (λ i j m e. search (rules, e));
   wrote = Writes-still was;
   whole = whole;
   sound = sound;
@@ -84,6 +232,21 @@ module _ (trace : Bool) (start now new : Standing) (first session : View) (accep
   abbrev pub Ended : Checked → Sink → Suffix → Suffix → Type 0
   Ended checked last i j =
       (r : Report) × Rest trace first.state 0 first.peak (start.to_come i) r × Outcome checked.status was.held last.held r × LeavesRest first (start.to_come i) j checked
+
+  -- what is known so far of the report, and of the step that decides
+  abbrev SoFar : Suffix → Suffix → Type 0
+  SoFar i j = ((r : Report) → Rest trace session.state so_far.count session.peak (now.to_come j) r
+      → Rest trace first.state 0 first.peak (start.to_come i) (with_lines so_far.written r)) × Leaves first (start.to_come i) session (now.to_come j)
+
+  -- the rest of the report that what is to come has
+  ended : (checked : Checked) (last : Sink) (i j k : Suffix) (r : Report) → SoFar i j → Rest trace session.state so_far.count session.peak (now.to_come j) r
+      → Outcome checked.status lines.held last.held r → LeavesRest session (now.to_come j) k checked → Ended checked last i k
+  ended checked last i j k r p rest o leaves = (
+    _,
+    p.0 r rest,
+    Outcome-after checked.status was.held lines.held last.held so_far.written r (Writes-all was lines (text_of so_far.written) so_far.wrote so_far.whole) o,
+    p.1 k checked leaves,
+  )
 
   -- what a call gave, and that it passed no end
   abbrev Gave : Result Bool Fault → Option StepEnd → Step → Suffix → Suffix → Type 0
@@ -123,27 +286,9 @@ module _ (trace : Bool) (start now new : Standing) (first session : View) (accep
         → checked.fault ≡ None → (checked.status ≡ Malformed → ⊥)
         → Along start.stream new.stream (λ i j. Ended checked last i j)
     Checking-stop checked last stops refuses told only loss none_lost none not = Along-then _ _ _ _ _ _ so_far.run gives (λ i j k m p q.
-        let s = stops so_far.count k.offset q.0.0 (new.to_come k) counts so_far.least so_far.finite in (
-          with_lines so_far.written s.0,
-          p.0 s.0 (rw q.0.2 s.1),
-          Outcome-after checked.status was.held lines.held last.held so_far.written s.0 (Writes-all was lines (text_of so_far.written) so_far.wrote so_far.whole) s.2,
-          p.1 k checked (rw q.0.2 (LeavesRest-decided session step q.0.0 k.offset (new.to_come k) k checked refuses (λ v. told v ∙ q.0.1) only loss none_lost (TellsFault-none None (new.to_come k).fault checked none not) (rw (← q.0.2) q.1))),
-        ))
-
-  -- what is known so far of the report, and of the step that decides
-  abbrev SoFar : Suffix → Suffix → Type 0
-  SoFar i j = ((r : Report) → Rest trace session.state so_far.count session.peak (now.to_come j) r
-      → Rest trace first.state 0 first.peak (start.to_come i) (with_lines so_far.written r)) × Leaves first (start.to_come i) session (now.to_come j)
-
-  -- the rest of the report that what is to come has
-  ended : (checked : Checked) (last : Sink) (i j k : Suffix) (r : Report) → SoFar i j → Rest trace session.state so_far.count session.peak (now.to_come j) r
-      → Outcome checked.status lines.held last.held r → LeavesRest session (now.to_come j) k checked → Ended checked last i k
-  ended checked last i j k r p rest o leaves = (
-    with_lines so_far.written r,
-    p.0 r rest,
-    Outcome-after checked.status was.held lines.held last.held so_far.written r (Writes-all was lines (text_of so_far.written) so_far.wrote so_far.whole) o,
-    p.1 k checked leaves,
-  )
+        let s = stops so_far.count k.offset q.0.0 (new.to_come k) counts so_far.least so_far.finite in
+        ended checked last i j k s.0 p (rw q.0.2 s.1) s.2
+        (rw q.0.2 (LeavesRest-decided session step q.0.0 k.offset (new.to_come k) k checked refuses (λ v. told v ∙ q.0.1) only loss none_lost (TellsFault-none None (new.to_come k).fault checked none not) (rw (← q.0.2) q.1))))
 
   module _ (step : Step) (checked : Checked) (none : checked.refused ≡ None) (quiet : checked.literal_lost ≡ false) (last : Sink) where
     pub Checking-end : Along now.stream new.stream (Gave (Ok false) None step)
@@ -160,25 +305,20 @@ module _ (trace : Bool) (start now new : Standing) (first session : View) (accep
     pub Checking-fault : (end : Option StepEnd) (f : Fault) → Along now.stream new.stream (Gave (Err f) end step)
         → (f ≡ OutOfMemory → (r : Report) → Outcome checked.status lines.held last.held r) → ((f ≡ OutOfMemory → ⊥) → Outcome checked.status lines.held last.held (end_report (Some f)))
         → TellsOf f → Along start.stream new.stream (λ i j. Ended checked last i j)
-    Checking-fault end f gives refused other tells = by f gives refused other tells
+    Checking-fault end f gives memory other tells = Along-then _ _ _ _ _ _ so_far.run gives (λ i j k m p q. by f i j k p q memory other tells)
       where
-        met : (f : Fault) (i j k : Suffix) → SoFar i j → IsFaulty f (now.to_come j) × PassesNoEnd (now.to_come j) k → Outcome checked.status lines.held last.held (end_report (Some f)) → TellsOf f → Ended checked last i k
-        met f i j k p q o tells = let end = (now.to_come j).fault_end in
-            let e = IsFaulty-is f (now.to_come j) q.0 in
-            ended checked last i j k (end_report (Some f)) p (rw e (Rest-fault trace session.state so_far.count session.peak f end)) o
-            (rw e (LeavesRest-none session (Some f) end k checked none quiet (record { malformed = tells.0; only = tells.1 }) (rw (← e) q.1)))
-
-        by : (f : Fault) → Along now.stream new.stream (Gave (Err f) end step)
+        by : (f : Fault) (i j k : Suffix) → SoFar i j → Gave (Err f) end step j k
             → (f ≡ OutOfMemory → (r : Report) → Outcome checked.status lines.held last.held r) → ((f ≡ OutOfMemory → ⊥) → Outcome checked.status lines.held last.held (end_report (Some f)))
-            → TellsOf f → Along start.stream new.stream (λ i j. Ended checked last i j)
-        by (Text k x) gives refused other tells = Along-then _ _ _ _ _ _ so_far.run gives (λ i j n m p q. met (Text k x) i j n p (q.0.0, q.1) (other (λ e. cc)) tells)
-        by (Binary k x) gives refused other tells = Along-then _ _ _ _ _ _ so_far.run gives (λ i j n m p q. met (Binary k x) i j n p (q.0.0, q.1) (other (λ e. cc)) tells)
-        by ReadFailed gives refused other tells = Along-then _ _ _ _ _ _ so_far.run gives (λ i j n m p q. met ReadFailed i j n p (q.0.0, q.1) (other (λ e. cc)) tells)
-        by OutOfMemory gives refused other tells = Along-then _ _ _ _ _ _ so_far.run gives (λ i j n m p q.
+            → TellsOf f → Ended checked last i k
+        by OutOfMemory i j k p q memory other tells =
             let some = Rest-some trace session.state so_far.count session.peak so_far.finite (now.to_come j) in
-            ended checked last i j n some.0 p some.1 (refused refl some.0)
-            (LeavesRest-broken session (now.to_come j) n checked none quiet (no_verdict checked.status lines.held last.held [] (refused refl (record { lines = []; status = Malformed })))
-            (record { malformed = λ m. absurd (tells.2 refl m); only = tells.1 }) q.1))
+            ended checked last i j k some.0 p some.1 (memory refl some.0)
+            (LeavesRest-broken session (now.to_come j) k checked none quiet (no_verdict checked.status lines.held last.held [] (memory refl (record { lines = []; status = Malformed })))
+            (record { malformed = λ m. absurd (tells.2 refl m); only = tells.1 }) q.1)
+        by f i j k p q memory other tells = let end = (now.to_come j).fault_end in
+            let e = IsFaulty-is f (now.to_come j) q.0.0 in
+            ended checked last i j k (end_report (Some f)) p (rw e (Rest-fault trace session.state so_far.count session.peak f end)) (other (λ e. cc))
+            (rw e (LeavesRest-none session (Some f) end k checked none quiet (record { malformed = tells.0; only = tells.1 }) (rw (← e) q.1)))
 
 -- what a call gave, by its answer's pattern
 pub step_told : (now new : Standing) (result answer : Result Bool Fault) (end : Option StepEnd) (s : Step)
@@ -186,7 +326,7 @@ pub step_told : (now new : Standing) (result answer : Result Bool Fault) (end : 
     → result ≡ answer → Along now.stream new.stream (λ i j. GivesStep answer end s (now.to_come i) (new.to_come j) j × PassesNoEnd (now.to_come i) j)
 step_told now new result answer end s gives is = search rules
 
--- ---- A whole proof
+-- ---- A whole proof, from its report on
 
 -- neither was read
 reports_nothing : (rule : Rule) (trace : Bool) (steps : Input → Proof) (formula proof new : Reader) (checked : Checked) (was now : Sink) → proof ≡ new
@@ -198,13 +338,10 @@ reports_nothing rule trace steps formula proof new checked was now same none qui
       fact = λ i j s t. let some = some_report rule trace i (steps j) in (
         record { report = some.0; reports = some.1; outcome = o some.0 },
         record { unread = λ n. refl; past = λ words ending last whole e d. omega arith; fault = λ offset e. omega arith },
-        record { unread = λ n. none; refused = λ words ending whole is e. absurd (broken (inr is)); only = λ _. none; loss = TellsLoss-none rule (formula_of i).fault (formula_of i).clauses (steps j) checked none quiet; malformed = TellsFault-none (formula_of i).fault (steps j).fault checked sound not },
+        record { unread = λ n. none; refused = λ words ending whole is e. absurd (no_verdict checked.status was.held now.held [] (o (record { lines = []; status = Malformed })) (inr is)); only = λ _. none; loss = TellsLoss-none rule (formula_of i).fault (formula_of i).clauses (steps j) checked none quiet; malformed = TellsFault-none (formula_of i).fault (steps j).fault checked sound not },
         unread_fault i formula formula refl,
       );
     })
-  where
-    broken : IsVerdict checked.status → ⊥
-    broken v = no_verdict checked.status was.held now.held [] (o (record { lines = []; status = Malformed })) v
 
 -- memory ran out before either was read
 pub runs_nothing : (rule : Rule) (trace : Bool) (steps : Input → Proof) (formula proof new : Reader) (checked : Checked) (was now : Sink) → proof ≡ new
@@ -233,22 +370,16 @@ module _ (rule : Rule) (trace : Bool) (to_come : ProofReading → Suffix → Pro
       → Along reader.stream last (Did f reader)
       → AllReports rule trace steps formula formula_new proof new checked was.held now.held
   reports_run reader made f run =
-      let P : ProofReading → Type 0 = λ x. Along x.stream last (Did f x) in
       let fresh : ProofReading = fresh_reading (unread_stream proof borrows) in
       let Q : Suffix → Suffix → Type 0 = λ j k. Did f fresh j k × (bytes_read proof last.reader + j.offset ≤ k.offset + 65536) in
-      let R : Reader → Type 0 = λ r. AllReports rule trace steps formula formula_new proof r checked was.held now.held in
-      let begun = subst P (made ∙ ap fresh_reading is) run in
+      let begun : Along (unread_stream proof borrows) last (Did f fresh) = search (rules, made, is, run) in
       let within = Along-within (unread_stream proof borrows) last (Did f fresh) (omega arith) begun in
-      subst R (sym kept) (record {
+      rw kept (record {
         first = f;
         second = Seen-run proof borrows last Q within;
-        fact = λ i j s t.
-            let S : Proof → Type 0 = λ p. Reports (system_of rule) trace i p was.held now.held checked.status
-            × ReadsNoFurther (system_of rule) (formula_of i) p proof last.reader × TellsWhy (system_of rule) (LostBySteps rule) (formula_of i).fault (formula_of i).clauses p checked
-            × ReadsNoFurtherThanFault i formula formula_new in
-            let seen = Seen-fact proof borrows last Q within j t in
+        fact = λ i j s t. let seen = Seen-fact proof borrows last Q within j t in
             let did = seen.2.0 i s in
-            subst S (all j) (did.0, reads_no_further rule i seen.0 (to_come fresh (from_start j)) proof last.reader checked did.1 seen.2.1, did.1.told, did.2);
+            rw (← all j) (did.0, reads_no_further rule i seen.0 (to_come fresh (from_start j)) proof last.reader checked did.1 seen.2.1, did.1.told, did.2);
       })
 
 -- the same report by the same rule of the same steps

@@ -1,15 +1,18 @@
--- An input in which no fault was found was read to its end.
-use Rattle.cnf_base.specs.{Literals.Literal, Stream.Input, Text.Listed}
+-- An input in which no fault was found was read to its end; so a claim is as the grammar has it.
+use Rattle.cnf_base.specs.{Grammar.word_lines, Literals.Literal, Literals.has, Printing.input_of}
+use Rattle.cnf_base.specs.{Stream.Input, Text.Listed}
 use Rattle.cnf_base.specs.Text.{Listing, Spot, is_comment, lines_listing, lines_of, listing_of}
 use Rattle.cnf_base.specs.declared.fault.{Fault.Fault, TextFault.TextFault}
 use Rattle.cnf_base.specs.declared.input.Ending.{Ending, TheVariants.End, TheVariants.Failed}
-use Rattle.cnf_base.specs.declared.place.Place.{Place}
-use Rattle.dimacs.specs.Claim.{Said, claim_among, claim_of, claim_on_token, nothing}
-use Rattle.dimacs.specs.Formula.{and_then, body_among, body_on_word, formula_of, formula_with}
-use Rattle.dimacs.specs.{Formula.header_of, Formula.judged, declared.header.Header.Header}
-use Rattle.std.proofs.Common.{Bool, Err, List, None}
-use Rattle.std.proofs.Common.{Ok, Option, Result, Some, [], refl, rules, subst, ℕ, ◌∙◌, ◌∷◌, ◌≡◌}
-use Rattle.std.specs.Prelude.{IfOk}
+use Rattle.{cnf_base.specs.declared.place.Place.Place, dimacs.proofs.ModelGrammar.model_grammar}
+use Rattle.dimacs.specs.Claim.{IsConsistent, Said, claim_among, claim_of, nothing}
+use Rattle.dimacs.specs.Formula.{body_among, body_on_word, formula_of, formula_with, header_of}
+use Rattle.dimacs.specs.{Formula.judged, Grammar.ModelText, Printing.IsModel}
+use Rattle.dimacs.specs.declared.header.Header.{Header}
+use Rattle.std.proofs.Common.{Bool, Err, List, None, Ok, Option, Result, Some, [], ap, arith, refl}
+use Rattle.std.proofs.Common.{reverse, rules, subst, sym, ℕ, ◌∙◌, ◌∷◌, ◌≡◌}
+use Rattle.std.proofs.lemmas.List.{reverse-reverse, Sorted.IsPermutation-reverse}
+use Rattle.std.{proofs.lemmas.List.Sorted.list_any-IsPermutation, specs.Prelude.IfOk}
 use Rattle.cnf_base.specs.declared.token.Token.TheVariants as token
 
 -- ---- What is left of a text ends as the text does
@@ -30,9 +33,6 @@ module _ (e : Ending) where
 
 -- ---- Formulas
 
-no_fault : (f : Fault) → ◌≡◌ {A = Option Fault} (Some f) None → ⊥
-no_fault f e = cc
-
 module _ (h : Header) (ts : List Listed) (p : Place) where
   abbrev Later : ℕ → List Literal → Type 0
   Later complete literals = (body_among h complete literals ts p Failed).fault ≡ None → ⊥
@@ -46,14 +46,11 @@ module _ (h : Header) (ts : List Listed) (p : Place) where
 
 body_failed : (h : Header) (complete : ℕ) (literals : List Literal) (ts : List Listed) (p : Place)
     → (body_among h complete literals ts p Failed).fault ≡ None → ⊥
-body_failed h complete literals [] p whole = no_fault _ whole
+body_failed h complete literals [] p whole = cc
 body_failed h complete literals ((token.Word q w, offset) ∷ ts) p whole =
     word_failed h ts p complete literals q (judged h complete w)
     (λ complete literals. body_failed h complete literals ts p) whole
-body_failed h complete literals ((token.LineEnd q, offset) ∷ ts) p whole =
-    body_failed h complete literals ts p whole
-body_failed h complete literals ((token.End q, offset) ∷ ts) p whole =
-    body_failed h complete literals ts p whole
+body_failed h complete literals (t ∷ ts) p whole = body_failed h complete literals ts p whole
 
 -- a formula without a fault was read to its end
 pub formula_ends : (i : Input) → (formula_of i).fault ≡ None → i.ending ≡ End
@@ -62,7 +59,7 @@ formula_ends i whole = by i.ending refl
     of_header : (r : Result (Header × Listing) (Fault × List ℕ)) →
         IfOk r (λ h. h.1.ending ≡ Failed) → (formula_with r).fault ≡ None → ⊥
     of_header (Ok h) failed whole = search (rules, body_failed)
-    of_header (Err f) failed whole = no_fault _ whole
+    of_header (Err f) failed whole = cc
 
     by : (e : Ending) → i.ending ≡ e → e ≡ End
     by End is = refl
@@ -79,22 +76,14 @@ formula_header i whole = by (header_of (listing_of i)) whole
         → (h : Header) × (formula_with r ≡
         record { header = Some h; clauses = (formula_with r).clauses; fault = None })
     by (Ok h) whole = search rules
-    by (Err f) whole = absurd (no_fault _ whole)
+    by (Err f) whole = cc
 
 -- ---- Claims
 
-not_ok : (f : Fault) (listed : List Literal) →
-    ◌≡◌ {A = Result (List Literal) Fault} (Err f) (Ok listed) → ⊥
-not_ok f listed e = cc
-
 claim_failed : (s : Said) (ts : List Listed) (p : Place) (listed : List Literal) →
     claim_among s ts p Failed ≡ Ok listed → ⊥
-claim_failed s [] p listed ok = not_ok _ listed ok
-claim_failed s (t ∷ ts) p listed ok = by (claim_on_token s t.0) (λ s. claim_failed s ts p listed) ok
-  where
-    by : (r : Result Said Fault) → ((s : Said) → claim_among s ts p Failed ≡ Ok listed → ⊥) →
-        and_then r (λ s. claim_among s ts p Failed) ≡ Ok listed → ⊥
-    by r h h2 = search rules
+claim_failed s [] p listed ok = cc
+claim_failed s (t ∷ ts) p listed ok = search (rules, (λ (r : Said). claim_failed r ts p listed))
 
 -- an output whose claim has no fault was read to its end
 pub claim_ends : (i : Input) (listed : List Literal) → claim_of i ≡ Ok listed → i.ending ≡ End
@@ -106,3 +95,28 @@ claim_ends i listed ok = by i.ending refl
         λ e. claim_among nothing (listing_of i).tokens (listing_of i).end e ≡ Ok listed in
         absurd (claim_failed nothing (listing_of i).tokens (listing_of i).end listed
         (subst P (listing_ending _ _ (lines_of i.bytes) i.ending ∙ is) ok))
+
+-- ---- The claim of a solver's output, as the grammar of the output has it
+
+-- the order of literals says nothing
+pub has_reverse : (ls : List Literal) (l : Literal) → has (reverse ls) l ≡ has ls l
+has_reverse ls l = sym (list_any-IsPermutation _ ls (reverse ls) (IsPermutation-reverse ls))
+
+-- the literals of a claim, in the order in which they are written
+pub claim_text : (bytes : List ℕ) (listed : List Literal) → claim_of (input_of bytes) ≡ Ok listed
+    → IsModel (reverse listed) × ModelText (word_lines bytes) (reverse listed)
+claim_text bytes listed ok = model_grammar.read_is_written bytes (reverse listed)
+    (ok ∙ ap (λ ls. Ok ls) (sym (reverse-reverse listed)))
+
+-- a claim holds no complements
+pub claim_consistent : (i : Input) → IfOk (claim_of i) IsConsistent
+claim_consistent i = by (claim_of i) refl
+  where
+    of_listed : (listed : List Literal) → claim_of i ≡ Ok listed → IsConsistent listed
+    of_listed listed ok = let P : Input → Type 0 = λ x. claim_of x ≡ Ok listed in
+        let whole : claim_of (input_of i.bytes) ≡ Ok listed =
+        subst P (ap (λ e. record { bytes = i.bytes; ending = e }) (claim_ends i listed ok)) ok in
+        search (rules, has_reverse, (claim_text i.bytes listed whole))
+
+    by : (r : Result (List Literal) Fault) → claim_of i ≡ r → IfOk r IsConsistent
+    by r h = search (rules, arith, of_listed)

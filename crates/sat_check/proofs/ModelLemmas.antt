@@ -1,4 +1,4 @@
--- The report of a model, and what a verified one says.
+-- A formula is judged by the literals of a model; the report of it, and what a verified one says.
 use Rattle.cnf_base.proofs.SetLemmas.{any_from, any_some}
 use Rattle.cnf_base.specs.Literals.{Clause, Literal, complement, has}
 use Rattle.cnf_base.specs.{Seen.OfBothSeen, Stream.Input, Stream.Reader, Stream.bytes_read}
@@ -9,26 +9,148 @@ use Rattle.dimacs.specs.Formula.{Formula, ends_of, formula_of}
 use Rattle.report.specs.Lines.{a_model, fault_line, fault_status}
 use Rattle.report.specs.declared.status.Status.{Status, TheVariants.Malformed}
 use Rattle.report.specs.declared.status.Status.TheVariants.{OutOfMemory as NoMemory, Verified}
-use Rattle.sat_check.proofs.{ClaimLemmas.claim_consistent, JudgeLemmas.unread_unmet}
-use Rattle.sat_check.proofs.{OutcomeLemmas.both_told, ReadLemmas.unread_fault}
+use Rattle.sat_check.proofs.EndingLemmas.{claim_consistent}
+use Rattle.sat_check.proofs.FormulaLemmas.{FaultAfter, Gave, NonePassed, Reads, Reads-clause, Reads-done, Reads-fault}
+use Rattle.sat_check.proofs.FormulaLemmas.{Reads-start, fault_left, later_left, length_push, seen_map, seen_nothing, seen_within, unread_fault}
+use Rattle.cnf_base.proofs.StreamLemmas.{Along-map, Along-then}
+use Rattle.cnf_base.specs.Code.Seen.{OfSeen}
+use Rattle.cnf_base.specs.Stream.{Along, Stream, Suffix, unread_stream}
+use Rattle.dimacs.specs.Formula.{Body, ends_at, formula_at, opened}
+use Rattle.dimacs.specs.Reading.{FormulaReading, PassesNoEnd, clauses_to_come, ends_to_come, unopened}
+use Rattle.sat_check.specs.Code.FormulaReach.{LeavesFault}
+use Rattle.sat_check.specs.Code.Judging.{LeavesUnmet}
+use Rattle.sat_check.specs.declared.judgement.Judgement.TheVariants.{Met, Unmet}
+use Rattle.std.proofs.Common.{ap, cond, sym, ◌++◌}
+use Rattle.std.proofs.lemmas.Option.{none-some}
+use Rattle.sat_check.proofs.OutcomeLemmas.{both_told, written_model}
 use Rattle.sat_check.proofs.SoundLemmas.{fault_is_no_verdict, outcome_complete, outcome_verified}
-use Rattle.sat_check.proofs.WrittenLemmas.{written_model}
 use Rattle.sat_check.specs.Code.Judging.{Judges, ReadsToUnmet, judged_report, unmet_in}
-use Rattle.sat_check.specs.{FormulaReach.ReadsNoFurtherThanFault, ModelReport.ChecksModel}
-use Rattle.sat_check.specs.ModelReport.{ModelConsequences, ReadsFormulaNoFurther, Satisfies}
-use Rattle.sat_check.specs.ModelReport.{TellsModelFault, TellsUnmet, claim_report, clauses_report}
-use Rattle.sat_check.specs.ModelReport.{first_unmet, meets, met_report, model_report}
+use Rattle.sat_check.specs.FormulaReach.{ReadsNoFurtherThanFault}
+use Rattle.sat_check.specs.ModelReport.{ChecksModel, ModelConsequences, ReadsFormulaNoFurther}
+use Rattle.sat_check.specs.ModelReport.{Satisfies, TellsModelFault, TellsUnmet}
+use Rattle.sat_check.specs.ModelReport.{claim_report, first_unmet, meets, model_report}
 use Rattle.sat_check.specs.{Reach.TellsFault, Report.Outcome, Report.Report, Report.concluded}
 use Rattle.sat_check.specs.declared.{checked.Checked.Checked, judgement.Judgement.Judgement}
-use Rattle.sat_check.specs.declared.judgement.Judgement.TheVariants.{Met, Unmet}
-use Rattle.std.proofs.Common.{Bool, List, None, Option, Some, [], ap}
-use Rattle.std.proofs.Common.{arith, codes, cond, false, length, refl, rules, slice_get, subst, suc}
-use Rattle.std.proofs.Common.{sym, true, zero, ℕ, ◌%◌, ◌*◌, ◌+◌, ◌-◌, ◌/◌, ◌<◌, ◌∙◌, ◌∷◌, ◌≡◌, ◌≤◌}
-use Rattle.std.proofs.lemmas.{Bool.Decides.nat_tests, Option.none-some}
+use Rattle.std.proofs.Common.{List, None, Option, Some, [], arith, codes, false, get_or, length}
+use Rattle.std.proofs.Common.{refl, rules, slice_get, suc, true, ℕ, ◌%◌, ◌*◌, ◌+◌, ◌-◌, ◌/◌, ◌<◌}
+use Rattle.std.proofs.Common.{◌∙◌, ◌∷◌, ◌≡◌, ◌≤◌}
+use Rattle.std.proofs.lemmas.{Bool.Decides.nat_tests, Option.slice_get-get_or}
 use Rattle.std.specs.Prelude.{Err, IfOk, IsTrue, Ok, Result, ◌==◌}
-use Rattle.theory.specs.Models.{Assignment, HasModel, holds, satisfies}
+use Rattle.theory.specs.Models.{Assignment, HasModel, holds}
 use Rattle.writers.specs.Lines.{Sink}
 use Rattle.sat_check.specs.declared.input_fault.InputFault.TheVariants as of
+
+-- ---- A formula is judged by listed literals, clause by clause
+
+-- after clauses that are met, the first that isn't is one of those that follow
+first_unmet-append : (k : ℕ) (listed : List Literal) (cs ds : List Clause) → first_unmet k listed cs ≡ None
+    → first_unmet k listed (cs ++ ds) ≡ first_unmet (k + length cs) listed ds
+first_unmet-append k listed [] ds h = search rules
+first_unmet-append k listed (c ∷ cs) ds h = search (rules, (first_unmet-append (k + 1) listed cs ds))
+
+-- it is one of them
+pub unmet_bound : (k : ℕ) (listed : List Literal) (cs : List Clause) (m : ℕ) → first_unmet k listed cs ≡ Some m → (k ≤ m) × (m < k + length cs)
+unmet_bound k listed [] m h = absurd (none-some m h)
+unmet_bound k listed (c ∷ cs) m h = search (rules, arith, (unmet_bound (k + 1) listed cs m))
+
+-- after clauses that are met, where no end of the others was passed, that of the first one that isn't met wasn't
+not_passed : (listed : List Literal) (read : List Clause) (old : FormulaReading) (i k : Suffix) → first_unmet 1 listed read ≡ None → NonePassed old read i k
+    → LeavesUnmet listed (clauses_to_come old i).clauses (ends_to_come old i) k
+not_passed listed read old i k met passed m offset unmet at = let later = passed.0.clauses in
+    let among : first_unmet (1 + length read) listed later ≡ Some m =
+    sym (first_unmet-append 1 listed read later met) ∙ sym (ap (λ b. first_unmet 1 listed b.clauses) passed.2.0) ∙ unmet in
+    let least = unmet_bound (1 + length read) listed later m among in
+    later_left read old i k (m - 1) offset passed (omega (arith, least)) at
+
+-- from one moment to another so many clauses were read, and are met
+pub record Judging (listed : List Literal) (old now : FormulaReading) (met : ℕ) : Type 0 where
+  pub clauses : List Clause
+  pub reads : Reads old now clauses
+  pub all : first_unmet 1 listed clauses ≡ None
+  pub count : met ≡ length clauses
+
+pub Judging-start : (listed : List Literal) (r : FormulaReading) → r.complete ≡ 0 → Judging listed r r 0
+Judging-start listed r none = record { clauses = []; reads = Reads-start r none; all = refl; count = refl }
+
+module _ (listed : List Literal) (old now new : FormulaReading) (met : ℕ) (so_far : Judging listed old now met) (c : Clause) where
+  pub Judging-clause : Gave now new (Ok true) c → meets listed c ≡ true
+      → new.complete ≡ now.complete + 1 → new.header ≡ now.header → Judging listed old new (met + 1)
+  Judging-clause gives is count header = record {
+    clauses = so_far.clauses ++ c ∷ [];
+    reads = Reads-clause old now new so_far.clauses so_far.reads c gives count header;
+    all = first_unmet-append 1 listed so_far.clauses (c ∷ []) so_far.all ∙ ap (λ b. cond b None (Some (1 + length so_far.clauses))) is;
+    count = ap (λ n. n + 1) so_far.count ∙ sym (length_push so_far.clauses c);
+  }
+
+  -- what is found of the clauses, and that no more was read than the first that isn't met, nor than the token at fault
+  abbrev Judged : Result Judgement Fault → Type 0
+  Judged result = Along old.stream new.stream (λ i j. Judges listed result (clauses_to_come old i).clauses (clauses_to_come old i).fault
+      × LeavesUnmet listed (clauses_to_come old i).clauses (ends_to_come old i) j × LeavesFault (clauses_to_come old i).clauses (ends_to_come old i) j)
+
+  pub Judging-unmet : Gave now new (Ok true) c → meets listed c ≡ false → Judged (Ok (Unmet (met + 1)))
+  Judging-unmet gives is = Along-then _ _ _ _ _ _ so_far.reads.run gives (λ i j k m p q. (
+    search (rules, arith, first_unmet-append),
+    not_passed listed so_far.clauses old i k so_far.all (clauses_to_come now j, ends_to_come now j, p, q.1.1),
+    fault_left so_far.clauses old i k (clauses_to_come now j, ends_to_come now j, p, q.1.1),
+  ))
+
+  pub Judging-done : Gave now new (Ok false) c → Judged (Ok (Met met))
+  Judging-done gives = Along-map _ _ _ _ (Reads-done old now new so_far.clauses so_far.reads c gives)
+      (λ i j m e. search (rules, e.0, so_far.all, so_far.count, not_passed, fault_left))
+
+  pub Judging-fault : (f : Fault) (result : Result Judgement Fault) → result ≡ Err f
+      → Gave now new (Err f) c → Judged result
+  Judging-fault f result is gives =
+      rw is (Along-map _ _ _ _ (Reads-fault old now new so_far.clauses so_far.reads c f gives) (λ i j m e. search (rules, by, not_passed, fault_left)))
+    where
+      by : (f : Fault) (b : Body) → FaultAfter so_far.clauses f b → Judges listed (Err f) b.clauses b.fault
+      by f b h = search rules
+
+-- ---- A whole formula, judged
+
+abbrev pub JudgesFormula : List Literal → Result Judgement Fault → Formula → Type 0
+JudgesFormula listed result f = Judges listed result f.clauses f.fault
+
+abbrev pub AllJudges : List Literal → Reader → Reader → Result Judgement Fault → Type 0
+AllJudges listed left new result = OfSeen left new (λ i. JudgesFormula listed result (formula_of i) × ReadsToUnmet listed i left new × ReadsNoFurtherThanFault i left new)
+
+-- where nothing was read no end was passed
+pub unread_unmet : (listed : List Literal) (i : Input) (left new : Reader) → left ≡ new → ReadsToUnmet listed i left new
+unread_unmet listed i left new same k offset unmet at = search rules
+
+-- nothing was read
+pub judges_refused : (listed : List Literal) (left new : Reader) (result : Result Judgement Fault) → left ≡ new → result ≡ Err OutOfMemory → AllJudges listed left new result
+judges_refused listed left new result same is =
+    search (rules, arith, seen_nothing, unread_unmet, unread_fault)
+
+module _ (listed : List Literal) (left : Reader) (borrows : List ℕ) (source : Stream) (is : source ≡ unread_stream left borrows)
+    (last : Stream) (new : Reader) (kept : new ≡ last.reader) where
+  -- what was found of a formula, and what is left of it
+  abbrev Leaves : Result Judgement Fault → Formula → List ℕ → Suffix → Type 0
+  Leaves result x ends j =
+      JudgesFormula listed result x × LeavesUnmet listed x.clauses ends j × LeavesFault x.clauses ends j
+
+  all_judges : (result : Result Judgement Fault)
+      → Along source last (λ i j. Leaves result (formula_at source.place i) (ends_at source.place i) j) → AllJudges listed left new result
+  all_judges result run = seen_map left new _ _
+      (seen_within (λ p i j. Leaves result (formula_at p i) (ends_at p i) j) left borrows source last new is kept run) (λ i x. (
+        x.1.0,
+        λ k offset unmet at. let later = x.1.1 k offset unmet at in omega (arith, later, x.2),
+        λ offset at. let later = x.1.2 offset at in omega (arith, later, x.2),
+      ))
+
+  -- the header has a fault
+  pub judges_fault : (f : Fault) → Along source last (λ i j. (formula_at source.place i ≡ unopened f) × PassesNoEnd (ends_at source.place i) j) → AllJudges listed left new (Err f)
+  judges_fault f run = all_judges (Err f) (Along-map _ _ _ _ run (λ i j m e.
+      rw e.0 (search rules, λ k offset unmet at. absurd (none-some k unmet), λ offset at. e.1 _ offset at)))
+
+  -- the clauses were judged
+  pub judges_body : (r : FormulaReading) (result : Result Judgement Fault) → Along source r.stream (λ i j. (formula_at source.place i ≡ opened r.header (clauses_to_come r j)) × (ends_at source.place i ≡ ends_to_come r j))
+      → Along r.stream last (λ i j. Judges listed result (clauses_to_come r i).clauses (clauses_to_come r i).fault × LeavesUnmet listed (clauses_to_come r i).clauses (ends_to_come r i) j
+      × LeavesFault (clauses_to_come r i).clauses (ends_to_come r i) j)
+      → AllJudges listed left new result
+  judges_body r result opens body =
+      all_judges result (Along-then _ _ _ _ _ _ opens body (λ i j k m e q. rw e.1 (rw e.0 q)))
 
 -- ---- Literals that are the same set meet the same clauses
 
@@ -43,26 +165,21 @@ first_unmet_same k xs ys same (c ∷ cs) =
 
 -- the report of a model is that of the claim
 pub claimed_report : (model : List Literal) (claim : Result (List Literal) Fault) (f : Formula) → IsClaim (Ok model) claim → claim_report (Ok model) f ≡ claim_report claim f
-claimed_report model (Ok listed) f same = ap (λ u. clauses_report u f) (first_unmet_same 1 model listed same f.clauses)
-claimed_report model (Err e) f none = absurd none
+claimed_report model claim f same = search (rules, first_unmet_same)
 
 -- and the claim holds no complements
 pub claimed_consistent : (model : List Literal) (claim : Result (List Literal) Fault) → IsClaim (Ok model) claim → IsConsistent model → IfOk claim IsConsistent
-claimed_consistent model (Ok listed) same consistent = λ l h. sym (same (complement l)) ∙ consistent l (same l ∙ h)
-claimed_consistent model (Err e) none consistent = absurd none
+claimed_consistent model claim same consistent = search rules
 
 -- ---- What was judged
 
 -- the report of a formula that was judged so
 pub judged_as : (listed : List Literal) (j : Judgement) (f : Formula) → Judges listed (Ok j) f.clauses f.fault → judged_report j ≡ claim_report (Ok listed) f
-judged_as listed (Met n) f j =
-    ap (λ m. met_report m None) j.1 ∙ ap (met_report (length f.clauses)) (sym j.2) ∙ ap (λ u. clauses_report u f) (sym j.0)
-judged_as listed (Unmet k) f j = ap (λ u. clauses_report u f) (sym j)
+judged_as listed j f h = search rules
 
 -- and the first clause that isn't met is the one that it has
 pub judged_unmet : (listed : List Literal) (j : Judgement) (f : Formula) → Judges listed (Ok j) f.clauses f.fault → unmet_in j ≡ first_unmet 1 listed f.clauses
-judged_unmet listed (Met n) f j = sym j.0
-judged_unmet listed (Unmet k) f j = sym j
+judged_unmet listed j f h = search rules
 
 -- where the formula has a fault, each clause before it is met
 pub fault_unmet : (listed : List Literal) (e : Fault) (f : Formula) → Judges listed (Err e) f.clauses f.fault → (e ≡ OutOfMemory → ⊥) → first_unmet 1 listed f.clauses ≡ None
@@ -92,19 +209,14 @@ module _ (status : Status) (was now : Sink) where
 
 -- each clause is met where none is the first that isn't
 all_met : (k : ℕ) (listed : List Literal) (cs : List Clause) → first_unmet k listed cs ≡ None → (i : ℕ) (c : Clause) → slice_get cs i ≡ Some c → IsTrue (meets listed c)
-all_met k listed [] h i c at = absurd (let e : ◌≡◌ {A = Option Clause} None (Some c) = at in cc)
-all_met k listed (d ∷ cs) h i c at = by (meets listed d) refl h (λ g. all_met (k + 1) listed cs g) i at
-  where
-    by : (b : Bool) → meets listed d ≡ b → cond b (first_unmet (k + 1) listed cs) (Some k) ≡ None
-        → (first_unmet (k + 1) listed cs ≡ None → (i : ℕ) (c : Clause) → slice_get cs i ≡ Some c → IsTrue (meets listed c))
-        → (i : ℕ) → slice_get (d ∷ cs) i ≡ Some c → IsTrue (meets listed c)
-    by b h h2 h3 i h4 = search rules
+all_met k listed [] h i c at = search rules
+all_met k listed (d ∷ cs) h i c at = search (rules, (all_met (k + 1) listed cs))
 
 -- and none is where each is
 none_unmet : (k : ℕ) (listed : List Literal) (cs : List Clause) → ((i : ℕ) (c : Clause) → slice_get cs i ≡ Some c → IsTrue (meets listed c)) → first_unmet k listed cs ≡ None
 none_unmet k listed [] all = refl
 none_unmet k listed (c ∷ cs) all =
-    ap (λ b. cond b (first_unmet (k + 1) listed cs) (Some k)) (all 0 c refl) ∙ none_unmet (k + 1) listed cs (λ i d at. all (suc i) d at)
+    search (rules, (all 0 c refl), (none_unmet (k + 1) listed cs (λ i d at. all (suc i) d at)))
 
 -- the report of a verified model comes only where its claim meets every clause, and the formula has no fault
 pub verified_satisfied : (claim : Result (List Literal) Fault) (f : Formula) → (claim_report claim f).status ≡ Verified → IfOk claim IsConsistent → Satisfies claim f.clauses × (f.fault ≡ None)
@@ -131,14 +243,13 @@ pub listed_holds : (listed : List Literal) → IsConsistent listed → (l : Lite
 unfolding holds
 listed_holds listed consistent l h = search (rules, even_half, odd_half)
 
--- so a clause with a listed literal is satisfied
-met_satisfied : (listed : List Literal) → IsConsistent listed → (c : Clause) → meets listed c ≡ true → satisfies (assigned listed) c ≡ true
-met_satisfied listed consistent c h = let w = any_some (has listed) c h in
-    any_from (holds (assigned listed)) c w.0 w.1 (listed_holds listed consistent w.0 w.2)
-
--- and the formula has a model
+-- so a clause with a listed literal is satisfied, and the formula has a model
 satisfied_model : (claim : Result (List Literal) Fault) (clauses : List Clause) → Satisfies claim clauses → HasModel (slice_get clauses)
-satisfied_model claim clauses s = (assigned s.listed, λ k c at. met_satisfied s.listed s.consistent c (s.met k c at))
+satisfied_model claim clauses s = (
+  assigned s.listed,
+  λ k c at. let w = any_some (has s.listed) c (s.met k c at) in
+      any_from (holds (assigned s.listed)) c w.0 w.1 (listed_holds s.listed s.consistent w.0 w.2),
+)
 
 -- what follows from the report of a model
 model_consequences : (i j : Input) (old new : Option (List ℕ)) (status : Status) → Outcome status old new (model_report i j) → ModelConsequences i j old new status
@@ -167,23 +278,15 @@ pub both_check_model : (formula formula_new output output_new : Reader) (Told : 
     → OfBothSeen formula formula_new output output_new (Made formula formula_new Told status old new)
     → OfBothSeen formula formula_new output output_new (λ i j. ChecksModel i j first last status × ReadsFormulaNoFurther (claim_of j) i formula formula_new × Told i j)
 both_check_model formula formula_new output output_new Told status old new first last before after =
-    both_told formula formula_new output output_new (Made formula formula_new Told status)
-    (λ i j. ChecksModel i j first last status × ReadsFormulaNoFurther (claim_of j) i formula formula_new × Told i j)
-    old new first last before after (λ i j x. (checks_model i j first last status x.0, x.2, x.3))
+    both_told formula formula_new output output_new (Made formula formula_new Told status) _ old new first last
+    before after (λ i j x. (checks_model i j first last status x.0, x.2, x.3))
 
 -- ---- What is told of a fault
 
 -- a claim without a fault leaves the formula's
 pub claimed_tells : (model : List Literal) (claim : Result (List Literal) Fault) (f : Formula) (checked : Checked) → IsClaim (Ok model) claim → TellsFault f.fault None checked → TellsUnmet model f.clauses checked
     → TellsModelFault claim f checked
-claimed_tells model (Ok listed) f checked same tells unmet = record {
-  malformed = tells.malformed;
-  only = tells.only;
-  unmet = λ other is room. unmet room ∙ first_unmet_same 1 model listed same f.clauses
-      ∙ ap (λ l. first_unmet 1 l f.clauses) (let e : listed ≡ other = cc in e);
-  unclaimed = λ e is. absurd (cc);
-}
-claimed_tells model (Err e) f checked none tells unmet = absurd none
+claimed_tells model claim f checked same tells unmet = search (rules, first_unmet_same)
 
 module _ (f : Formula) (checked : Checked) (none : checked.unmet ≡ None) (only : (checked.status ≡ Malformed → ⊥) → checked.fault ≡ None) where
   -- the output has this fault
@@ -200,18 +303,7 @@ module _ (f : Formula) (checked : Checked) (none : checked.unmet ≡ None) (only
 
 -- a number of a list
 some_at : (xs : List ℕ) (n : ℕ) → n < length xs → (x : ℕ) × (slice_get xs n ≡ Some x)
-some_at [] n h = absurd (omega (arith, h))
-some_at (x ∷ xs) zero h = (x, refl)
-some_at (x ∷ xs) (suc n) h = some_at xs n (omega (arith, h))
-
--- the first clause that isn't met is one of them
-unmet_bound : (k : ℕ) (listed : List Literal) (cs : List Clause) (m : ℕ) → first_unmet k listed cs ≡ Some m → (k ≤ m) × (m < k + length cs)
-unmet_bound k listed [] m h = absurd (none-some m h)
-unmet_bound k listed (c ∷ cs) m h = by (meets listed c) h (λ g. unmet_bound (k + 1) listed cs m g)
-  where
-    by : (b : Bool) → cond b (first_unmet (k + 1) listed cs) (Some k) ≡ Some m → (first_unmet (k + 1) listed cs ≡ Some m → (k + 1 ≤ m) × (m < k + 1 + length cs))
-        → (k ≤ m) × (m < k + length (c ∷ cs))
-    by b h h2 = search rules
+some_at xs n h = (get_or xs n 0, slice_get-get_or xs n 0 h)
 
 -- and it ends with a `0`
 unmet_offset : (listed : List Literal) (i : Input) (k : ℕ) → first_unmet 1 listed (formula_of i).clauses ≡ Some k
@@ -235,9 +327,8 @@ formula_left claim i reader = record {
 pub formula_needed : (model : List ℕ) (claim : Result (List ℕ) Fault) (i : Input) (old new : Reader) → IsClaim (Ok model) claim → ReadsToUnmet model i old new
     → ReadsNoFurtherThanFault i old new → ReadsFormulaNoFurther claim i old new
 formula_needed model claim i old new same reads fault = record {
-  unread = λ f is. absurd (let P : Result (List ℕ) Fault → Type 0 = IsClaim (Ok model) in subst P is same);
-  past = λ listed k is unmet. let P : Result (List ℕ) Fault → Type 0 = IsClaim (Ok model) in
-      let alike = first_unmet_same 1 model listed (subst P is same) (formula_of i).clauses in
+  unread = λ f is. absurd (rw is at same);
+  past = λ listed k is unmet. let alike = first_unmet_same 1 model listed (rw is at same) (formula_of i).clauses in
       reads_no_further listed i old new (λ m offset e at. reads m offset (alike ∙ e) at) k unmet;
   fault = fault;
 }

@@ -1,22 +1,35 @@
 -- What a run wrote, and how it ended.
 use Rattle.cnf_base.proofs.TextLemmas.{append_nil}
-use Rattle.cnf_base.specs.{Printing.line_of, Seen.OfBothSeen, Stream.Input, Stream.Reader}
-use Rattle.report.specs.Lines.{Certificate, sentence}
-use Rattle.report.specs.declared.status.Status.{Status, TheVariants.Malformed}
-use Rattle.report.specs.declared.status.Status.TheVariants.{NotVerified, OutOfMemory, ReadFailed}
-use Rattle.report.specs.declared.status.Status.TheVariants.{Usage, Verified, WriteFailed}
-use Rattle.sat_check.specs.Report.{Outcome, Report, concluded, text_of, with_lines}
-use Rattle.std.proofs.Common.{List, Option, [], ap, append_assoc}
-use Rattle.std.proofs.Common.{arith, false, refl, rules, subst, sym, ℕ, ◌++◌, ◌∙◌, ◌∷◌, ◌≡◌}
-use Rattle.std.proofs.lemmas.{Bool.Decides.nat_tests, Grind.common_steps}
-use Rattle.std.specs.{Io.KnownBytes.Appends, Prelude.OnOk, Prelude.Result}
-use Rattle.writers.proofs.LineLemmas.{Appends-then, Writes-nothing}
-use Rattle.writers.specs.Lines.{Sink, Writes}
+use Rattle.cnf_base.specs.{Literals.Clause, Literals.Literal, Printing.line_of}
+use Rattle.cnf_base.specs.{Seen.OfBothSeen, Stream.Input, Stream.Reader, Text.lines_of}
+use Rattle.cnf_base.specs.declared.fault.{BinaryFault.BinaryFault, Fault.Fault, TextFault.TextFault}
+use Rattle.dimacs.specs.{Formula.Formula, Formula.formula_of, declared.header.Header.Header}
+use Rattle.{proofs.specs.Reading.Proof, report.specs.Lines.Certificate, report.specs.Lines.a_model}
+use Rattle.report.specs.Lines.{a_proof, binary_text, fault_line, fault_status, formula_line}
+use Rattle.report.specs.Lines.{kind_text, refusal_line, sentence, shown, sign_text, steps_line}
+use Rattle.report.specs.{Lines.with_cause, Lines.word_text, declared.status.Status.Status}
+use Rattle.report.specs.declared.status.Status.TheVariants.{Malformed, NotVerified, OutOfMemory}
+use Rattle.report.specs.declared.status.Status.TheVariants.{Verified, WriteFailed}
+use Rattle.sat_check.specs.Code.Reach.{IsVerdict}
+use Rattle.sat_check.specs.ModelReport.{claim_report, clauses_report, first_unmet, met_report}
+use Rattle.sat_check.specs.Report.{HasWritten, Outcome, Report, ReportsFormula, concluded}
+use Rattle.sat_check.specs.Report.{proof_report, text_of, trace_lines, verdict_report, with_lines}
+use Rattle.std.proofs.Common.{Bool, List, None, Option, Some, [], ap, append_assoc, arith, codes}
+use Rattle.std.proofs.Common.{false, length, min, not, refl, rules, subst, suc, sym, true, zero}
+use Rattle.std.proofs.Common.{ℕ, ◌%◌, ◌&&◌, ◌++◌, ◌+◌, ◌-◌, ◌/◌, ◌==◌, ◌^◌, ◌||◌, ◌∙◌, ◌∷◌, ◌≡◌}
+use Rattle.std.proofs.lemmas.Bool.{and_parts, Decides.nat_tests}
+use Rattle.std.proofs.lemmas.Grind.{common_steps, flat_map-append}
+use Rattle.std.proofs.lemmas.List.{append_cancel_left, Folds.list_all-append, Folds.list_any-append}
+use Rattle.std.specs.Fmt.{digit_glyph, digits, digits_onto}
+use Rattle.std.specs.{Io.KnownBytes.Appends, List.list_all, List.list_any, Prelude.Err}
+use Rattle.std.specs.{Prelude.Ok, Prelude.OnOk, Prelude.Result, Prelude.decimal, Str.bytes_eq}
+use Rattle.theory.specs.{Rules.Rule, Verdicts.Ending, Verdicts.no_empty_clause, Verdicts.refused}
+use Rattle.theory.specs.{Verdicts.system_of, Verdicts.verified, declared.accepted.Accepted.Accepted}
+use Rattle.{theory.specs.declared.refusal.Refusal.Refusal, writers.proofs.LineLemmas.Appends-then}
+use Rattle.writers.{proofs.LineLemmas.Writes-nothing, specs.Lines.Sink, specs.Lines.Writes}
 
 pub text_of-append : (front back : List (List ℕ)) → text_of (front ++ back) ≡ text_of front ++ text_of back
-text_of-append [] back = refl
-text_of-append (line ∷ lines) back =
-    ap (λ t. line_of line ++ t) (text_of-append lines back) ∙ sym (append_assoc (line_of line) (text_of lines) (text_of back))
+text_of-append front back = flat_map-append line_of front back
 
 -- a text of which all was written
 pub Writes-all : (old new : Sink) (text : List ℕ) → Writes old new text → new.is_broken ≡ false → Appends old.held new.held text
@@ -25,6 +38,11 @@ Writes-all old new text w sound = search rules
 -- the whole report was written, and its status answered
 pub Outcome-all : (status : Status) (old new : Option (List ℕ)) (r : Report) → status ≡ r.status → Appends old new (text_of r.lines) → Outcome status old new r
 Outcome-all status old new r h h2 = search rules
+
+-- what was written of a report of another status is no verdict's
+pub no_verdict : (status : Status) (old new : Option (List ℕ)) (lines : List (List ℕ)) → Outcome status old new (record { lines = lines; status = Malformed })
+    → IsVerdict status → ⊥
+no_verdict status old new lines o v = search rules
 
 -- lines, and then the rest of a report
 pub Outcome-after : (status : Status) (old now new : Option (List ℕ)) (front : List (List ℕ)) (r : Report)
@@ -35,32 +53,24 @@ Outcome-after status old now new front r a o = by status o
     all h = grind (arith, common_steps, nat_tests, text_of-append)
 
     by : (status : Status) → Outcome status now new r → Outcome status old new (with_lines front r)
-    by Verified o = (o.0, all o.1)
-    by NotVerified o = (o.0, all o.1)
-    by Malformed o = (o.0, all o.1)
-    by ReadFailed o = (o.0, all o.1)
-    by Usage o = (o.0, all o.1)
     by OutOfMemory o = (
       front ++ o.0,
       o.1,
-      ap (λ t. front ++ t) o.2 ∙ sym (append_assoc front o.0 o.1),
-      (rw (text_of-append front o.0) (Appends-then old now new _ _ a o.3)),
+      search (rules, append_assoc, o.2),
+      rw (text_of-append front o.0) (Appends-then old now new _ _ a o.3),
     )
     by WriteFailed o = (
       text_of front ++ o.0,
       o.1,
-      text_of-append front r.lines ∙ ap (λ t. text_of front ++ t) o.2 ∙ sym (append_assoc (text_of front) o.0 o.1),
+      search (rules, text_of-append, append_assoc, o.2),
       Appends-then old now new _ _ a o.3,
     )
+    by status o = (o.0, all o.1)
 
 -- a line of which only a beginning was written
 pub Outcome-broken : (old new : Sink) (text : List ℕ) (r : Report) → Writes old new (line_of text) → Outcome WriteFailed old.held new.held (with_lines (text ∷ []) r)
-Outcome-broken old new text r w = (
-  w.part,
-  w.rest ++ text_of r.lines,
-  ap (λ t. t ++ text_of r.lines) w.whole ∙ append_assoc w.part w.rest (text_of r.lines),
-  w.appends,
-)
+Outcome-broken old new text r w =
+    (w.part, w.rest ++ text_of r.lines, search (rules, append_assoc, w.whole), w.appends)
 
 -- nothing more was written, and the writer failed
 pub Outcome-closed : (old new : Sink) (r : Report) → Writes old new [] → Outcome WriteFailed old.held new.held r
@@ -126,3 +136,212 @@ both_told one one_new two two_new P Q old new first last before after next both 
   second = both.second;
   fact = search rules;
 }
+
+-- ---- Texts without a line feed
+
+abbrev has_no_feed : List ℕ → Bool
+has_no_feed bytes = list_all (λ b. not (b == 10)) bytes
+
+glyph_test : (d : ℕ) → (digit_glyph false d == 10) ≡ false
+glyph_test d = grind (arith, nat_tests)
+
+digits_test : (k n : ℕ) (acc : List ℕ) → has_no_feed acc ≡ true → has_no_feed (digits_onto k 10 false n acc) ≡ true
+digits_test zero n acc e = e
+digits_test (suc k) n acc e =
+    search (rules, glyph_test, (digits_test k (n / 10) (digit_glyph false (n % 10) ∷ acc)))
+
+-- a text without a line feed
+abbrev IsPlain : List ℕ → Type 0
+IsPlain bytes = has_no_feed bytes ≡ true
+
+number_plain : (n : ℕ) → IsPlain (decimal n)
+unfolding digits
+number_plain n = digits_test 64 n [] refl
+
+-- ---- The lines of a beginning of a text
+
+-- the first bytes of a line
+abbrev begins : List ℕ → List ℕ → Bool
+begins [] line = true
+begins (b ∷ bs) [] = false
+begins (b ∷ bs) (c ∷ cs) = (b == c) && begins bs cs
+
+-- equal lines begin alike
+begins_same : (line part rest : List ℕ) → bytes_eq line part ≡ true → begins line (part ++ rest) ≡ true
+begins_same [] part rest e = refl
+begins_same (b ∷ bs) [] rest e = absurd (let bad : false ≡ true = e in cc)
+begins_same (b ∷ bs) (c ∷ cs) rest e = search (rules, (begins_same bs cs rest))
+
+cut_line : (line ys : List ℕ) → has_no_feed line ≡ true → lines_of (line ++ 10 ∷ ys) ≡ line ∷ lines_of ys
+cut_line [] ys e = refl
+cut_line (b ∷ bs) ys e = search (rules, (cut_line bs ys))
+
+uncut_line : (line : List ℕ) → has_no_feed line ≡ true → lines_of line ≡ line ∷ []
+uncut_line [] e = refl
+uncut_line (b ∷ bs) e = search (rules, (uncut_line bs))
+
+-- a beginning of a line and what follows it is a beginning of the line, or the line and a beginning of what follows
+data Cut (line text part rest : List ℕ) : Type 0 where
+  within : (x : List ℕ) → line ≡ part ++ x → Cut line text part rest
+  past : (x : List ℕ) → part ≡ line ++ 10 ∷ x → text ≡ x ++ rest → Cut line text part rest
+
+cut_at : (line text part rest : List ℕ) → line ++ 10 ∷ text ≡ part ++ rest → Cut line text part rest
+cut_at line text [] rest e = within line refl
+cut_at [] text (b ∷ bs) rest e = past bs (cc) (cc)
+cut_at (l ∷ ls) text (b ∷ bs) rest e = elim (cut_at ls text bs rest (cc)) [
+  | within x is ↦ within x (cc)
+  | past x is more ↦ past x (cc) more
+]
+
+-- a line that was written whole, or last without its line feed, begins one of the lines of the text
+among_lines : (b : ℕ) (bs : List ℕ) (lines : List (List ℕ)) (part rest : List ℕ) → list_all has_no_feed lines ≡ true → text_of lines ≡ part ++ rest
+    → list_any (bytes_eq (b ∷ bs)) (lines_of part) ≡ true → list_any (begins (b ∷ bs)) lines ≡ true
+among_lines b bs [] [] rest all whole written = absurd (let bad : false ≡ true = written in cc)
+among_lines b bs [] (p ∷ ps) rest all whole written = cc
+among_lines b bs (line ∷ lines) part rest all whole written =
+    let both = and_parts (has_no_feed line) (list_all has_no_feed lines) all in
+    let cut = cut_at line (text_of lines) part rest (sym (append_assoc line (10 ∷ []) (text_of lines)) ∙ whole) in
+    elim cut [
+      | within x is ↦ search (rules, and_parts, list_all-append, uncut_line, begins_same)
+      | past x is more ↦
+          let told = sym (ap (λ y. list_any (bytes_eq (b ∷ bs)) (lines_of y)) is ∙ ap (list_any (bytes_eq (b ∷ bs))) (cut_line line x both.0)) ∙ written in
+          by_line line lines (lines_of x) told (among_lines b bs lines x rest both.1 more)
+    ]
+  where
+    by_line : (line : List ℕ) (lines text : List (List ℕ)) → (bytes_eq (b ∷ bs) line || list_any (bytes_eq (b ∷ bs)) text) ≡ true
+        → (list_any (bytes_eq (b ∷ bs)) text ≡ true → list_any (begins (b ∷ bs)) lines ≡ true) → (begins (b ∷ bs) line || list_any (begins (b ∷ bs)) lines) ≡ true
+    by_line line lines text e next =
+        let begun : bytes_eq (b ∷ bs) line ≡ true → begins (b ∷ bs) line ≡ true =
+        λ h. rw append_nil at (begins_same (b ∷ bs) line [] h) in search rules
+
+-- ---- The lines of a report
+
+-- the sentence of a positive verdict
+abbrev positive : Certificate → List ℕ
+positive certificate = sentence certificate Verified
+
+-- a line that begins with that sentence is among the lines under status 0 alone
+record Tells (certificate : Certificate) (r : Report) : Type 0 where
+  plain : list_all has_no_feed r.lines ≡ true
+  told : list_any (begins (positive certificate)) r.lines ≡ true → r.status ≡ Verified
+
+concluded_tells : (certificate : Certificate) (line : List ℕ) (s : Status) → IsPlain line → begins (positive certificate) line ≡ false → Tells certificate (concluded certificate line s)
+concluded_tells certificate line s e other = search rules
+
+kind_plain : (k : TextFault) → IsPlain (kind_text k)
+kind_plain k = search rules
+
+binary_plain : (k : BinaryFault) → IsPlain (binary_text k)
+binary_plain k = search rules
+
+fault_plain : (name : List ℕ) (f : Fault) → IsPlain name → IsPlain (fault_line name f)
+fault_plain name f e = search (rules, arith, list_all-append, number_plain, kind_plain, binary_plain)
+
+fault_other : (certificate : Certificate) (name : List ℕ) (f : Fault) → begins (positive certificate) (fault_line name f) ≡ false
+fault_other certificate name f = search rules
+
+fault_tells : (certificate : Certificate) (name : List ℕ) (f : Fault) → IsPlain name → Tells certificate (concluded certificate (fault_line name f) (fault_status f))
+fault_tells certificate name f e = search (rules, concluded_tells, fault_plain, fault_other)
+
+word_plain : (w : Accepted) → IsPlain (word_text w)
+word_plain w = search rules
+
+sign_plain : (l : Literal) → IsPlain (sign_text l)
+sign_plain l = search rules
+
+cause_plain : (front : List ℕ) (r : Refusal) → IsPlain front → IsPlain (with_cause front r)
+cause_plain front r e = search (rules, arith, list_all-append, number_plain, sign_plain)
+
+refusal_other : (n : ℕ) (r : Refusal) → begins (positive a_proof) (refusal_line n r) ≡ false
+refusal_other n r = search rules
+
+shown_plain : (n : ℕ) → IsPlain (shown n)
+shown_plain n = number_plain (min n (2 ^ 64 - 1))
+
+refusal_plain : (n : ℕ) (r : Refusal) → IsPlain (refusal_line n r)
+refusal_plain n r = search (rules, list_all-append, shown_plain, cause_plain)
+
+steps_plain : (n peak : ℕ) → IsPlain (steps_line n peak)
+steps_plain n peak = search (rules, list_all-append, shown_plain)
+
+verdict_tells : (n peak : ℕ) (ending : Ending) (fault : Option Fault) → Tells a_proof (verdict_report n peak ending fault)
+verdict_tells n peak verified fault = search (rules, concluded_tells, steps_plain)
+verdict_tells n peak (refused r) fault = concluded_tells a_proof (refusal_line (n + 1) r) NotVerified (refusal_plain (n + 1) r) (refusal_other (n + 1) r)
+verdict_tells n peak no_empty_clause None = search rules
+verdict_tells n peak no_empty_clause (Some f) = fault_tells a_proof (codes "proof") f refl
+
+-- lines in front of a report
+front_tells : (lines : List (List ℕ)) (r : Report) → list_all has_no_feed lines ≡ true → list_any (begins (positive a_proof)) lines ≡ false → Tells a_proof r → Tells a_proof (with_lines lines r)
+front_tells lines r e other t = search (rules, list_all-append, list_any-append)
+
+trace_plain : (n : ℕ) (words : List Accepted) → list_all has_no_feed (trace_lines n words) ≡ true
+trace_plain n [] = refl
+trace_plain n (w ∷ ws) =
+    search (rules, list_all-append, shown_plain, word_plain, (trace_plain (n + 1) ws))
+
+trace_other : (n : ℕ) (words : List Accepted) → list_any (begins (positive a_proof)) (trace_lines n words) ≡ false
+trace_other n [] = refl
+trace_other n (w ∷ ws) = trace_other (n + 1) ws
+
+proof_tells : (trace : Bool) (n peak : ℕ) (words : List Accepted) (ending : Ending) (fault : Option Fault) → Tells a_proof (proof_report trace n peak words ending fault)
+proof_tells true n peak words ending fault = front_tells (trace_lines (n + 1) words) _ (trace_plain (n + 1) words) (trace_other (n + 1) words) (verdict_tells (n + length words) peak ending fault)
+proof_tells false n peak words ending fault = search (rules, front_tells, verdict_tells)
+
+formula_plain : (h : Header) → IsPlain (formula_line h)
+formula_plain h = search (rules, list_all-append, number_plain)
+
+report_tells : (rule : Rule) (trace : Bool) (i : Input) (p : Proof) (r : Report) → ReportsFormula (system_of rule) trace (formula_of i).header (formula_of i).clauses (formula_of i).fault p r → Tells a_proof r
+report_tells rule trace i p r reports = by (formula_of i).header (formula_of i).clauses (formula_of i).fault reports
+  where
+    by : (header : Option Header) (clauses : List Clause) (fault : Option Fault) → ReportsFormula (system_of rule) trace header clauses fault p r → Tells a_proof r
+    by header clauses (Some f) e = subst (Tells a_proof) (sym e) (fault_tells a_proof (codes "formula") f refl)
+    by (Some h) clauses None c =
+        subst (Tells a_proof) (sym c.report) (front_tells (formula_line h ∷ []) _ (ap (λ v. v && true) (formula_plain h)) refl (proof_tells trace 0 _ c.words c.ending p.fault))
+    by None clauses None c = absurd c
+
+-- the lines of a model's report
+met_tells : (n : ℕ) (fault : Option Fault) → Tells a_model (met_report n fault)
+met_tells n None = search (rules, concluded_tells, shown_plain, list_all-append)
+met_tells n (Some f) = fault_tells a_model (codes "formula") f refl
+
+unmet_tells : (unmet : Option ℕ) (f : Formula) → Tells a_model (clauses_report unmet f)
+unmet_tells unmet f = search (rules, concluded_tells, shown_plain, list_all-append, met_tells)
+
+claim_tells : (claim : Result (List Literal) Fault) (f : Formula) → Tells a_model (claim_report claim f)
+claim_tells (Ok listed) f = unmet_tells (first_unmet 1 listed f.clauses) f
+claim_tells (Err e) f = fault_tells a_model (codes "output") e refl
+
+-- ---- What a run wrote
+
+-- what was written begins the report's text
+abbrev Begins : Option (List ℕ) → Option (List ℕ) → Report → Type 0
+Begins old new r = (part : List ℕ) × (rest : List ℕ) × (text_of r.lines ≡ part ++ rest) × Appends old new part
+
+outcome_begins : (status : Status) (old new : Option (List ℕ)) (r : Report) → Outcome status old new r → Begins old new r
+outcome_begins status old new r o = by status o
+  where
+    whole : Appends old new (text_of r.lines) → Begins old new r
+    whole a = (text_of r.lines, [], sym (append_nil (text_of r.lines)), a)
+
+    by : (status : Status) → Outcome status old new r → Begins old new r
+    by status h = search (rules, whole, text_of-append)
+
+appended : (old new : Option (List ℕ)) (held bytes part : List ℕ) → old ≡ Some held → new ≡ Some (held ++ bytes) → Appends old new part → bytes ≡ part
+appended old new held bytes part before after a = search (rules, append_cancel_left)
+
+-- where that sentence was written, the report has status 0
+sentence_written : (b : ℕ) (bs : List ℕ) (r : Report) (status : Status) (old new : Option (List ℕ)) → list_all has_no_feed r.lines ≡ true
+    → (list_any (begins (b ∷ bs)) r.lines ≡ true → r.status ≡ Verified) → Outcome status old new r → HasWritten (b ∷ bs) old new → r.status ≡ Verified
+sentence_written b bs r status old new plain told o w =
+    search (rules, outcome_begins, appended, among_lines)
+
+pub written_verified : (rule : Rule) (trace : Bool) (i : Input) (p : Proof) (r : Report) (status : Status) (old new : Option (List ℕ))
+    → ReportsFormula (system_of rule) trace (formula_of i).header (formula_of i).clauses (formula_of i).fault p r → Outcome status old new r → HasWritten (codes "s VERIFIED") old new → r.status ≡ Verified
+written_verified rule trace i p r status old new reports o w =
+    let t = report_tells rule trace i p r reports in
+    sentence_written 115 (codes " VERIFIED") r status old new t.plain t.told o w
+
+pub written_model : (claim : Result (List Literal) Fault) (f : Formula) (status : Status) (old new : Option (List ℕ))
+    → Outcome status old new (claim_report claim f) → HasWritten (codes "s MODEL VERIFIED") old new → (claim_report claim f).status ≡ Verified
+written_model claim f status old new o w = let t = claim_tells claim f in
+    sentence_written 115 (codes " MODEL VERIFIED") (claim_report claim f) status old new t.plain t.told o w

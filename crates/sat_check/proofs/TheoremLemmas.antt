@@ -7,28 +7,28 @@ use Rattle.cnf_base.specs.Stream.{Input, Reader, tells_failure}
 use Rattle.cnf_base.specs.declared.input.Ending.TheVariants.{End, Failed}
 use Rattle.dimacs.{proofs.FormulaGrammar.formula_grammar, specs.Claim.claim_of}
 use Rattle.dimacs.specs.{Formula.Formula, Formula.formula_of, declared.header.Header.Header}
-use Rattle.proofs.proofs.BinaryGrammar.{binary_both_ways}
-use Rattle.proofs.proofs.{DratGrammar.drat_both_ways, LratGrammar.lrat_both_ways}
+use Rattle.proofs.proofs.{BinaryGrammar.binary_both_ways, DratGrammar.drat_both_ways}
+use Rattle.proofs.proofs.LratGrammar.{lrat_both_ways}
 use Rattle.proofs.specs.{Grammar.IsLratText, Lrat.lrat_steps, Reading.Proof, Steps.Step}
-use Rattle.report.specs.declared.status.Status.{Status, TheVariants.Verified}
-use Rattle.sat_check.proofs.ClaimLemmas.{claim_consistent, claim_text, has_reverse}
-use Rattle.sat_check.proofs.EndingLemmas.{claim_ends, formula_ends, formula_header}
+use Rattle.report.specs.declared.status.Status.{Status}
+use Rattle.sat_check.proofs.EndingLemmas.{claim_consistent, claim_ends}
+use Rattle.sat_check.proofs.EndingLemmas.{claim_text, formula_ends, formula_header, has_reverse}
 use Rattle.sat_check.proofs.ModelLemmas.{Made, assigned, listed_holds, verified_satisfied}
+use Rattle.sat_check.proofs.OutcomeLemmas.{written_model, written_verified}
 use Rattle.sat_check.proofs.SoundLemmas.{outcome_verified, report_verified, verifies_sound}
-use Rattle.sat_check.proofs.WrittenLemmas.{written_model, written_verified}
-use Rattle.sat_check.specs.Code.Checking.{RunsInto}
 use Rattle.sat_check.specs.ModelReport.{Satisfies, meets, model_report}
 use Rattle.sat_check.specs.Report.{Outcome, Reports, Verifies, bare_steps, drat_proof}
-use Rattle.sat_check.specs.{Runs.IsDratProof, Runs.IsVerifiedBy, Theorem.IsAnswered}
-use Rattle.sat_check.specs.Theorem.{IsFormulaText, IsSatisfied, ShowsSatisfied, ShowsUnsatisfiable}
-use Rattle.sat_check.specs.{Theorem.StepsVerify, declared.checked.Checked.Checked}
-use Rattle.std.proofs.Common.{Bool, List, None, Option, Some, [], ap, append-nil, codes, false, inl}
-use Rattle.std.proofs.Common.{inr, refl, reverse, rules, slice_get, suc, true, ℕ, ◌∙◌, ◌∷◌, ◌≡◌}
-use Rattle.std.proofs.lemmas.Bool.{and_from, and_parts, false_from_ne_true}
+use Rattle.sat_check.specs.Runs.{IsDratProof, IsVerifiedBy}
+use Rattle.sat_check.specs.Theorem.{IsAnswered, IsFormulaText, IsSatisfied, ShowsSatisfied}
+use Rattle.sat_check.specs.Theorem.{ShowsUnsatisfiable, StepsVerify}
+use Rattle.std.proofs.Common.{Bool, List, None, Option, Some, ap, append-nil, codes}
+use Rattle.std.proofs.Common.{false, inl, inr, refl, reverse, rules, slice_get, true, ℕ, ◌∙◌, ◌≡◌}
+use Rattle.std.proofs.lemmas.Bool.{false_from_ne_true}
+use Rattle.std.proofs.lemmas.List.Sums.{AllPass-from_list_all, list_all-from_AllPass}
+use Rattle.std.proofs.lemmas.Option.{get_or_from_slice_get, slice_get-get_or, slice_get_within}
 use Rattle.std.specs.{List.list_all, Prelude.IsFalse}
 use Rattle.theory.specs.Models.{Assignment, HasModel, holds, satisfies}
 use Rattle.theory.specs.{Rules.Rule, Verdicts.system_of}
-use Rattle.writers.specs.Lines.{Sink}
 
 -- ---- What was seen of a reader that has these bytes
 
@@ -40,11 +40,8 @@ module _ (old new : Reader) (seen : Seen old new) (bytes : List ℕ)
 
   -- so they are where each input that fits has an end
   seen_whole : ((i : Input) → IsSeen seen i → i.ending ≡ End) → IsSeen seen (input_of bytes)
-  seen_whole ends = seen_unless failed
-    where
-      failed : seen.met ≡ Some Failed → ⊥
-      failed is =
-          let e : Failed ≡ End = ends (record { bytes = seen.handed; ending = Failed }) (rw is (refl, refl)) in cc
+  seen_whole ends = seen_unless (λ is. let e : Failed ≡ End =
+      ends (record { bytes = seen.handed; ending = Failed }) (rw is (refl, refl)) in cc)
 
   -- and where the reader tells of no failure
   seen_unfailed : tells_failure new ≡ false → IsSeen seen (input_of bytes)
@@ -69,20 +66,12 @@ text_read bytes h clauses t = ap (λ (f : Formula). f.clauses)
 
 all_at : (p : Clause → Bool) (cs : List Clause) → list_all p cs ≡ true → (k : ℕ) (c : Clause) →
     slice_get cs k ≡ Some c → p c ≡ true
-all_at p [] all k c at = absurd (let e : ◌≡◌ {A = Option Clause} None (Some c) = at in cc)
-all_at p (d ∷ cs) all k c at =
-    by k (and_parts (p d) (list_all p cs) all) (λ rest. all_at p cs rest) at
-  where
-    by : (k : ℕ) → (p d ≡ true) × (list_all p cs ≡ true) →
-        (list_all p cs ≡ true → (k : ℕ) (c : Clause) → slice_get cs k ≡ Some c → p c ≡ true) →
-        slice_get (d ∷ cs) k ≡ Some c → p c ≡ true
-    by k h h2 h3 = search rules
+all_at p cs all k c at = rw (get_or_from_slice_get cs k c c at) at
+    (AllPass-from_list_all p cs all k c (slice_get_within cs k c at))
 
 at_all : (p : Clause → Bool) (cs : List Clause) →
     ((k : ℕ) (c : Clause) → slice_get cs k ≡ Some c → p c ≡ true) → list_all p cs ≡ true
-at_all p [] each = refl
-at_all p (d ∷ cs) each =
-    and_from (p d) (list_all p cs) (each 0 d refl) (at_all p cs (λ k c at. each (suc k) c at))
+at_all p cs each = list_all-from_AllPass p cs (λ k d h. each k _ (slice_get-get_or cs k d h))
 
 -- no assignment satisfies clauses that have no model
 no_model_refuted : (clauses : List Clause) → ¬ HasModel (slice_get clauses) → (v : Assignment) →
@@ -92,26 +81,18 @@ no_model_refuted clauses none v =
 
 -- ---- Proofs
 
--- a positive answer is that of a proof which verifies the formula
-answered_proof : (rule : Rule) (trace : Bool) (i : Input) (p : Proof) (old new : Option (List ℕ))
-    (status : Status) → Reports (system_of rule) trace i p old new status
-    → IsAnswered (codes "s VERIFIED") status old new → Verifies (system_of rule) (formula_of i) p
-answered_proof rule trace i p old new status x (inl is) =
-    report_verified rule trace i p x.report x.reports
-    (outcome_verified status old new x.report is x.outcome)
-answered_proof rule trace i p old new status x (inr w) =
-    report_verified rule trace i p x.report x.reports
-    (written_verified rule trace i p x.report status old new x.reports x.outcome w)
-
 module _ (rule : Rule) (trace : Bool) (steps : Input → Proof)
     (formula formula_new proof proof_new : Reader) (old new : Option (List ℕ)) (status : Status)
     (Fact : Input → Input → Type 0) (both : OfBothSeen formula formula_new proof proof_new Fact)
     (told : (i j : Input) → Fact i j → Reports (system_of rule) trace i (steps j) old new status) where
+  -- a positive answer is that of a proof which verifies the formula
   verifies : IsAnswered (codes "s VERIFIED") status old new → (i j : Input) →
       IsSeen both.first i → IsSeen both.second j → Verifies (system_of rule) (formula_of i) (steps j)
-  verifies answer i j seen also =
-      answered_proof rule trace i (steps j) old new status (told i j (both.fact i j seen also))
-      answer
+  verifies answer i j seen also = let x = told i j (both.fact i j seen also) in
+      report_verified rule trace i (steps j) x.report x.reports (elim answer [
+        | inl is ↦ outcome_verified status old new x.report is x.outcome
+        | inr w ↦ written_verified rule trace i _ x.report status old new x.reports x.outcome w
+      ])
 
   -- so the formula was read whole
   whole_formula : IsAnswered (codes "s VERIFIED") status old new → (bytes : List ℕ) →
@@ -144,25 +125,6 @@ module _ (rule : Rule) (trace : Bool) (steps : Input → Proof)
         rw (← is_read proof_bytes ss steps_text) (rw (← text_read bytes h clauses text) v.verdict),
       )
 
--- the same of what the lines hold, where the writer holds it
-module _ (rule : Rule) (trace : Bool) (steps : Input → Proof)
-    (formula formula_new proof proof_new : Reader) (was now : Sink) (checked : Checked)
-    (old new : Option (List ℕ)) (before : was.held ≡ old) (after : now.held ≡ new)
-    (runs : RunsInto rule trace steps formula formula_new proof proof_new was now checked) where
-  pub into_unsatisfiable : ShowsUnsatisfiable formula.left checked.status old new
-  into_unsatisfiable =
-      rw (← after) (rw (← before) (shows_unsatisfiable rule trace steps formula formula_new proof
-      proof_new was.held now.held checked.status _ runs.report (λ i j x. x.0)))
-
-  pub into_steps : (IsText : List ℕ → List Step → Type 0) →
-      ((bytes : List ℕ) (ss : List Step) → IsText bytes ss →
-      bare_steps (steps (input_of bytes)) ≡ ss)
-      → StepsVerify IsText (IsVerifiedBy rule) formula.left proof.left (tells_failure proof_new)
-      checked.status old new
-  into_steps IsText is_read =
-      rw (← after) (rw (← before) (shows_steps rule trace steps formula formula_new proof
-      proof_new was.held now.held checked.status _ runs.report (λ i j x. x.0) IsText is_read))
-
 -- the text of steps is read as those
 pub drat_read : (binary : Bool) (bytes : List ℕ) (ss : List Step) → IsDratProof binary bytes ss →
     bare_steps (drat_proof binary (input_of bytes)) ≡ ss
@@ -174,18 +136,6 @@ pub lrat_read : (bytes : List ℕ) (ss : List Step) → IsLratText bytes ss →
 lrat_read bytes ss text = (lrat_both_ways.written_is_read bytes ss text).all
 
 -- ---- Models
-
--- a positive answer is that of a claim which satisfies the formula
-answered_model : (i j : Input) (old new : Option (List ℕ)) (status : Status) →
-    Outcome status old new (model_report i j)
-    → IsAnswered (codes "s MODEL VERIFIED") status old new →
-    Satisfies (claim_of j) (formula_of i).clauses × ((formula_of i).fault ≡ None)
-answered_model i j old new status o answer =
-    verified_satisfied (claim_of j) (formula_of i) (by answer) (claim_consistent j)
-  where
-    by : IsAnswered (codes "s MODEL VERIFIED") status old new → (model_report i j).status ≡ Verified
-    by (inl is) = outcome_verified status old new (model_report i j) is o
-    by (inr w) = written_model (claim_of j) (formula_of i) status old new o w
 
 -- a clause with a listed literal is satisfied where these are true
 met_true : (v : Assignment) (listed : List Literal) → list_all (holds v) (reverse listed) ≡ true →
@@ -217,11 +167,15 @@ module _ (formula formula_new output output_new : Reader) (old new : Option (Lis
     (status : Status)
     (Fact : Input → Input → Type 0) (both : OfBothSeen formula formula_new output output_new Fact)
     (told : (i j : Input) → Fact i j → Outcome status old new (model_report i j)) where
+  -- a positive answer is that of a claim which satisfies the formula
   confirms : IsAnswered (codes "s MODEL VERIFIED") status old new → (i j : Input) →
       IsSeen both.first i → IsSeen both.second j
       → Satisfies (claim_of j) (formula_of i).clauses × ((formula_of i).fault ≡ None)
-  confirms answer i j seen also =
-      answered_model i j old new status (told i j (both.fact i j seen also)) answer
+  confirms answer i j seen also = let o = told i j (both.fact i j seen also) in
+      verified_satisfied (claim_of j) (formula_of i) (elim answer [
+        | inl is ↦ outcome_verified status old new (model_report i j) is o
+        | inr w ↦ written_model (claim_of j) (formula_of i) status old new o w
+      ]) (claim_consistent j)
 
   pub shows_satisfied : ShowsSatisfied formula.left output.left status old new
   shows_satisfied bytes output_bytes holds also_holds answer =

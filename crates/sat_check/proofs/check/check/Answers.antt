@@ -1,9 +1,9 @@
 -- The formula was loaded, or it has a fault.
-use Rattle.cnf_base.proofs.{SeenLemmas.seen_is_some, StreamLemmas.Along-map}
-use Rattle.cnf_base.{proofs.StreamLemmas.Along-none, specs.declared.fault.Fault.Fault}
-use Rattle.dimacs.specs.Formula.{formula_of}
+use Rattle.cnf_base.proofs.SeenLemmas.{seen_is_some}
+use Rattle.cnf_base.proofs.StreamLemmas.{Along-map, Along-none}
+use Rattle.{cnf_base.specs.declared.fault.Fault.Fault, dimacs.specs.Formula.formula_of}
 use Rattle.report.specs.declared.status.Status.TheVariants.{Malformed, OutOfMemory as NoMemory}
-use Rattle.sat_check.proofs.ReachLemmas.{LeavesProof-fault, no_verdict}
+use Rattle.sat_check.proofs.{CheckLemmas.LeavesProof-fault, OutcomeLemmas.no_verdict}
 use Rattle.sat_check.proofs.ReportLemmas.{err_report, reports_checked}
 use Rattle.sat_check.specs.Code.Checking.{LeavesProof}
 use Rattle.std.proofs.Common.{Option, [], subst, sym, ◌∙◌, ◌≡◌}

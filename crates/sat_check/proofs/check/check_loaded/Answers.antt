@@ -2,9 +2,9 @@
 use Rattle.cnf_base.proofs.StreamLemmas.{Along-map, Along-none}
 use Rattle.report.specs.Lines.{formula_line, steps_line}
 use Rattle.report.specs.declared.status.Status.TheVariants.{Malformed, Verified}
-use Rattle.sat_check.proofs.OutcomeLemmas.{Outcome-line}
-use Rattle.sat_check.proofs.ReachLemmas.{LeavesProof-broken, LeavesProof-checked, LeavesProof-empty}
-use Rattle.sat_check.proofs.ReachLemmas.{TellsFault-none, concluded_not, cut_short_not, no_verdict}
+use Rattle.sat_check.proofs.CheckLemmas.{LeavesProof-broken, LeavesProof-checked, LeavesProof-empty}
+use Rattle.sat_check.proofs.CheckLemmas.{TellsFault-none, concluded_not, cut_short_not}
+use Rattle.sat_check.proofs.OutcomeLemmas.{Outcome-line, no_verdict}
 use Rattle.sat_check.proofs.ReportLemmas.{checks_rest, checks_some, loaded_finite, loaded_least}
 use Rattle.sat_check.{proofs.ReportLemmas.verified_report, specs.declared.checked.Checked.Checked}
 use Rattle.std.proofs.Common.{None, [], ap, rules, sym, ◌∙◌, ◌≡◌}

@@ -1,9 +1,9 @@
 -- A step, the end, or a fault.
 use Rattle.report.specs.{Lines.end_line, declared.status.Status.TheVariants.Malformed}
 use Rattle.report.specs.declared.status.Status.TheVariants.{NotVerified, OutOfMemory as NoMemory}
-use Rattle.sat_check.proofs.CheckLemmas.{Checking-end, Checking-fault}
-use Rattle.sat_check.proofs.CheckLemmas.{Checking-start, Checking-step, Checking-stop, step_told}
-use Rattle.sat_check.proofs.ReachLemmas.{TellsFault-none, concluded_not, told_not}
+use Rattle.sat_check.proofs.CheckLemmas.{Checking-end, Checking-fault, Checking-start}
+use Rattle.sat_check.proofs.CheckLemmas.{Checking-step, Checking-stop, TellsFault-none}
+use Rattle.sat_check.proofs.CheckLemmas.{concluded_not, step_told, told_not}
 use Rattle.sat_check.specs.Code.Checking.{Standing, counted}
 use Rattle.sat_check.specs.declared.checked.Checked.{Checked}
 use Rattle.std.proofs.Common.{None, ap, arith, false, rules, sym, true, ◌+◌, ◌∙◌, ◌≡◌}

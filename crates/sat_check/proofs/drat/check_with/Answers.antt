@@ -1,11 +1,10 @@
 -- Want of memory, or the check in the form that was asked for.
-use Rattle.proofs.specs.Binary.{binary_steps}
-use Rattle.proofs.specs.{Code.Binary.binary_to_come, Code.Drat.drat_to_come, Drat.drat_steps}
+use Rattle.proofs.specs.{Binary.binary_steps, Code.Binary.binary_to_come, Code.Drat.drat_to_come}
+use Rattle.proofs.specs.Drat.{drat_steps}
 use Rattle.sat_check.proofs.CheckLemmas.{reports_as, reports_run, runs_nothing}
-use Rattle.sat_check.{proofs.LoadLemmas.unused, specs.Report.drat_proof, specs.Report.rules_of}
+use Rattle.sat_check.{proofs.FormulaLemmas.unused, specs.Report.drat_proof, specs.Report.rules_of}
 use Rattle.std.proofs.Common.{ap, refl, rules, sym}
-use Rattle.steps.specs.Session.{view_of}
-use Rattle.theory.specs.Rules.{drat, rule_of}
+use Rattle.{steps.specs.Session.view_of, theory.specs.Rules.drat, theory.specs.Rules.rule_of}
 use Rattle.sat_check.proofs.drat.check_with.Goals as goal
 
 pub returns-in_default : goal.returns-in_default

@@ -1,9 +1,9 @@
 -- The check without why it ended so, and what its report means for the bytes.
+use Rattle.sat_check.proofs.SoundLemmas.{drat_reported, weakened}
+use Rattle.sat_check.proofs.TheoremLemmas.{drat_read, shows_steps, shows_unsatisfiable}
 use Rattle.sat_check.specs.{Report.drat_proof, Report.rules_of, Runs.IsDratProof}
-use Rattle.sat_check.proofs.{RunLemmas.weakened, SystemLemmas.drat_reported}
-use Rattle.sat_check.proofs.TheoremLemmas.{shows_unsatisfiable, shows_steps, drat_read}
-use Rattle.sat_check.proofs.drat.run_drat.Goals as goal
 use Rattle.theory.specs.Rules.{drat}
+use Rattle.sat_check.proofs.drat.run_drat.Goals as goal
 
 pub returns-clause-runs : goal.returns-clause-runs
 returns-clause-runs g c = weakened _ _ _ _ _ _ _ _ _ _ c.run_drat_kept.ensures (λ i j x. (x.0, x.1, x.3))

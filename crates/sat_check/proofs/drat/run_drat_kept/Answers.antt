@@ -1,11 +1,10 @@
 -- What the lines hold is what the writer holds: those of the check, or none where memory ran out.
 use Rattle.std.proofs.Common.{refl, rules}
-use Rattle.sat_check.specs.Report.{drat_proof, rules_of}
-use Rattle.sat_check.proofs.{CheckLemmas.runs_nothing, SoundLemmas.runs_placed}
-use Rattle.sat_check.proofs.SystemLemmas.{drat_placed}
+use Rattle.sat_check.proofs.{CheckLemmas.runs_nothing, SoundLemmas.drat_placed}
+use Rattle.sat_check.{proofs.SoundLemmas.runs_placed, specs.Report.drat_proof, specs.Report.rules_of}
 use Rattle.sat_check.proofs.drat.run_drat_kept.Goals.{in-Some, in-None}
-use Rattle.sat_check.proofs.drat.run_drat_kept.Goals as goal
 use Rattle.theory.specs.Rules.{drat}
+use Rattle.sat_check.proofs.drat.run_drat_kept.Goals as goal
 
 pub returns : goal.returns
 returns g c = let rule = drat (rules_of c.args.options.now) in

@@ -1,10 +1,10 @@
 -- What the lines hold is what the writer holds, without the place, and what that means for the bytes.
 use Rattle.std.proofs.Common.{rules}
 use Rattle.sat_check.specs.{Report.drat_proof, Report.rules_of, Runs.IsDratProof}
-use Rattle.sat_check.proofs.{RunLemmas.weakened, SoundLemmas.runs_placed, SystemLemmas.drat_placed}
-use Rattle.sat_check.proofs.TheoremLemmas.{into_unsatisfiable, into_steps, drat_read}
-use Rattle.sat_check.proofs.drat.run_drat_with.Goals as goal
+use Rattle.sat_check.proofs.SoundLemmas.{drat_placed, drat_reported, runs_placed, weakened}
+use Rattle.sat_check.proofs.TheoremLemmas.{drat_read, shows_steps, shows_unsatisfiable}
 use Rattle.theory.specs.Rules.{drat}
+use Rattle.sat_check.proofs.drat.run_drat_with.Goals as goal
 
 pub returns-clause-runs : goal.returns-clause-runs
 returns-clause-runs g c = weakened _ _ _ _ _ _ _ _ _ _
@@ -18,11 +18,13 @@ returns-clause-reports g c = weakened _ _ _ _ _ _ _ _ _ _ (returns-clause-runs g
 
 pub returns-clause-unsatisfiable : goal.returns-clause-unsatisfiable
 returns-clause-unsatisfiable g c = let options = c.args.options.now in
-    into_unsatisfiable (drat (rules_of options)) options.trace (drat_proof options.binary)
-    _ _ _ _ _ _ _ _ _ (search rules) (search rules) c.check_with-checked.ensures
+    shows_unsatisfiable (drat (rules_of options)) options.trace (drat_proof options.binary)
+    _ _ _ _ _ _ _ _ (returns-clause-reports g c).checks
+    (λ i j x. drat_reported (rules_of options) options.trace i (drat_proof options.binary j) _ _ _ x)
 
 pub returns-clause-steps_verify : goal.returns-clause-steps_verify
 returns-clause-steps_verify g c = let options = c.args.options.now in
-    into_steps (drat (rules_of options)) options.trace (drat_proof options.binary)
-    _ _ _ _ _ _ _ _ _ (search rules) (search rules)
-    c.check_with-checked.ensures (IsDratProof options.binary) (drat_read options.binary)
+    shows_steps (drat (rules_of options)) options.trace (drat_proof options.binary)
+    _ _ _ _ _ _ _ _ (returns-clause-reports g c).checks
+    (λ i j said. drat_reported (rules_of options) options.trace i (drat_proof options.binary j) _ _ _ said)
+    (IsDratProof options.binary) (drat_read options.binary)

@@ -1,6 +1,6 @@
 -- What was seen of the formula.
+use Rattle.sat_check.proofs.ModelLemmas.{judges_body, judges_fault, judges_refused}
 use Rattle.std.proofs.Common.{refl, rules}
-use Rattle.sat_check.proofs.JudgeLemmas.{judges_refused, judges_fault, judges_body}
 use Rattle.sat_check.proofs.judge.judge.Goals as goal
 
 pub returns-in_err-piece-clause-judges : goal.returns-in_err-piece-clause-judges

@@ -1,6 +1,5 @@
 -- The clauses so far are met.
-use Rattle.cnf_base.specs.Stream.{most_to_come}
-use Rattle.sat_check.proofs.JudgeLemmas.{Judging}
+use Rattle.{cnf_base.specs.Stream.most_to_come, sat_check.proofs.ModelLemmas.Judging}
 use Rattle.sat_check.proofs.judge.judge_clauses.Given as goal
 
 abbrev pub invariant-loop-clause : goal.invariant-loop-clause

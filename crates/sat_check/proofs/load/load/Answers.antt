@@ -1,7 +1,6 @@
 -- What was seen of the formula.
-use Rattle.std.proofs.Common.{refl, rules}
-use Rattle.theory.specs.Rules.{rule_of}
-use Rattle.sat_check.proofs.LoadLemmas.{loads_refused, loads_fault, loads_body, loads_body_fault}
+use Rattle.sat_check.proofs.FormulaLemmas.{loads_body, loads_body_fault, loads_fault, loads_refused}
+use Rattle.{std.proofs.Common.refl, std.proofs.Common.rules, theory.specs.Rules.rule_of}
 use Rattle.sat_check.proofs.load.load.Goals as goal
 
 pub returns-in_err-piece-clause-loads : goal.returns-in_err-piece-clause-loads

@@ -1,7 +1,6 @@
 -- A clause is input, until the last one or a fault.
-use Rattle.sat_check.proofs.LoadLemmas.{Loading-clause, Loading-done}
-use Rattle.sat_check.proofs.LoadLemmas.{Loading-fault, Loading-refused, Loading-start, loaded_more}
-use Rattle.sat_check.proofs.ReadLemmas.{clause_told}
+use Rattle.sat_check.proofs.FormulaLemmas.{Loading-clause, Loading-done, Loading-fault}
+use Rattle.sat_check.proofs.FormulaLemmas.{Loading-refused, Loading-start, clause_told, loaded_more}
 use Rattle.std.{proofs.Common.false, proofs.Common.rules, proofs.Common.true, specs.Prelude.Ok}
 use Rattle.sat_check.proofs.load.load_clauses.Goals as goal
 

@@ -1,7 +1,6 @@
 -- The clauses so far were input.
-use Rattle.cnf_base.specs.Stream.{most_to_come}
+use Rattle.{cnf_base.specs.Stream.most_to_come, sat_check.proofs.FormulaLemmas.Loading}
 use Rattle.theory.specs.Rules.{rule_of}
-use Rattle.sat_check.proofs.LoadLemmas.{Loading}
 use Rattle.sat_check.proofs.load.load_clauses.Given as goal
 
 abbrev pub invariant-loop-clause : goal.invariant-loop-clause

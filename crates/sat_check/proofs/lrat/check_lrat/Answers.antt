@@ -1,10 +1,9 @@
 -- Want of memory, or the check.
-use Rattle.std.proofs.Common.{refl, ap, rules}
-use Rattle.proofs.specs.{Lrat.lrat_steps, Code.Lrat.lrat_to_come}
-use Rattle.theory.specs.Rules.{lrat, rule_of}
-use Rattle.steps.specs.Session.{view_of}
-use Rattle.sat_check.proofs.LoadLemmas.{unused}
-use Rattle.sat_check.proofs.CheckLemmas.{runs_nothing, reports_run, reports_as}
+use Rattle.proofs.specs.{Code.Lrat.lrat_to_come, Lrat.lrat_steps}
+use Rattle.sat_check.proofs.CheckLemmas.{reports_as, reports_run, runs_nothing}
+use Rattle.sat_check.proofs.FormulaLemmas.{unused}
+use Rattle.std.proofs.Common.{ap, refl, rules}
+use Rattle.{steps.specs.Session.view_of, theory.specs.Rules.lrat, theory.specs.Rules.rule_of}
 use Rattle.sat_check.proofs.lrat.check_lrat.Goals as goal
 
 pub returns-in_default : goal.returns-in_default

@@ -1,8 +1,8 @@
 -- The formula was judged, or it has a fault.
 use Rattle.dimacs.specs.Formula.{formula_of}
 use Rattle.report.specs.declared.status.Status.TheVariants.{Malformed, OutOfMemory as NoMemory}
-use Rattle.sat_check.proofs.ModelLemmas.{fault_unmet, formula_fault, formula_tells, judged_as}
-use Rattle.sat_check.proofs.{ModelLemmas.judged_unmet, ReachLemmas.TellsFault-none}
+use Rattle.sat_check.proofs.{CheckLemmas.TellsFault-none, ModelLemmas.fault_unmet}
+use Rattle.sat_check.proofs.ModelLemmas.{formula_fault, formula_tells, judged_as, judged_unmet}
 use Rattle.sat_check.specs.{Report.Outcome, Report.Report, declared.checked.Checked.Checked}
 use Rattle.std.proofs.Common.{None, ap, rules, subst, sym, ◌∙◌, ◌≡◌}
 use Rattle.sat_check.proofs.model.check_formula.Goals as goal

@@ -1,7 +1,7 @@
 -- What was seen of the output.
 use Rattle.cnf_base.specs.declared.fault.Fault.TheVariants.{OutOfMemory}
 use Rattle.dimacs.specs.Claim.{IsClaim, claim_at, claim_of}
-use Rattle.sat_check.proofs.ReadLemmas.{seen_nothing, seen_run}
+use Rattle.sat_check.proofs.FormulaLemmas.{seen_nothing, seen_run}
 use Rattle.std.{proofs.Common.refl, proofs.Common.rules, proofs.Common.◌≡◌, specs.Prelude.Err}
 use Rattle.sat_check.proofs.model.claimed.Goals as goal
 

@@ -1,9 +1,9 @@
 -- The options are those that the words ask for.
+use Rattle.sat_check.proofs.SoundLemmas.{drat_reported}
+use Rattle.sat_check.proofs.TheoremLemmas.{drat_read, shows_steps, shows_unsatisfiable}
 use Rattle.sat_check.specs.{Report.drat_proof, Report.rules_of, Runs.IsDratProof}
-use Rattle.sat_check.proofs.SystemLemmas.{drat_reported}
-use Rattle.sat_check.proofs.TheoremLemmas.{shows_unsatisfiable, shows_steps, drat_read}
-use Rattle.sat_check.proofs.tools.drat_forward.Goals as goal
 use Rattle.theory.specs.Rules.{drat}
+use Rattle.sat_check.proofs.tools.drat_forward.Goals as goal
 
 pub returns-clause-runs : goal.returns-clause-runs
 returns-clause-runs g c = rw c.of-options.ensures at c.run_drat_kept-session.ensures

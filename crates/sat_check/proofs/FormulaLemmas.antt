@@ -1,0 +1,300 @@
+-- A formula is read, and loaded, clause by clause.
+use Rattle.cnf_base.proofs.SeenLemmas.{Seen-fact, Seen-nothing, Seen-run}
+use Rattle.cnf_base.proofs.SetLemmas.{same_itself}
+use Rattle.cnf_base.proofs.StreamLemmas.{Along-map, Along-none, Along-then, Along-within}
+use Rattle.cnf_base.specs.Code.Seen.{OfSeen}
+use Rattle.cnf_base.specs.Literals.{Clause, same_clause, size}
+use Rattle.cnf_base.specs.Stream.{Along, Input, Reader, Stream, Suffix, bytes_read, from_start}
+use Rattle.cnf_base.specs.{Stream.unread_stream, declared.fault.Fault.Fault}
+use Rattle.cnf_base.specs.declared.{fault.Fault.TheVariants.OutOfMemory, place.Place.Place}
+use Rattle.dimacs.specs.Formula.{Body, Formula, ends_at, formula_at, formula_of, opened}
+use Rattle.dimacs.specs.Reading.{FormulaReading, GivesClause, GivesEnd}
+use Rattle.dimacs.specs.Reading.{PassesNoEnd, clauses_to_come, ends_to_come, unopened}
+use Rattle.dimacs.specs.declared.header.Header.{Header}
+use Rattle.{drat_steps.proofs.DratLemmas.Steps.none_listed, sat_check.specs.Code.Checking.IsLoaded}
+use Rattle.sat_check.specs.Code.{Checking.Loads, Checking.LoadsBody, FormulaReach.LeavesFault}
+use Rattle.sat_check.specs.{FormulaReach.ReadsNoFurtherThanFault}
+use Rattle.std.proofs.Common.{Bool, List, None, Some, [], ap, append-nil, append_assoc, arith}
+use Rattle.std.proofs.Common.{false, length, length-append, max, refl, rules, suc}
+use Rattle.std.proofs.Common.{sym, true, zero, ℕ, ◌++◌, ◌+◌, ◌-◌, ◌||◌, ◌∙◌, ◌∷◌, ◌≡◌, ◌≤◌}
+use Rattle.std.proofs.lemmas.{List.Folds.list_any-append, List.Sums.sum_by-append, Option.none-some}
+use Rattle.std.specs.{FinMap.get-empty, Ordering.nat_cmp}
+use Rattle.std.specs.Prelude.{Err, Ok, Result, slice_get}
+use Rattle.steps.specs.{ProofSession.View, Session.SessionState, Session.fresh, Session.view_of}
+use Rattle.theory.proofs.DratLemmas.Copies.{copies-cons, none_alive}
+use Rattle.theory.proofs.LawLemmas.{Existence.numbered_above, Rules.same_trans, Rules.sum_same}
+use Rattle.theory.proofs.LratLemmas.{LiveSets.SameClauses-eq, SameSets.with_same}
+use Rattle.theory.proofs.LratLemmas.{States.numbered_push, Sums.sum_with}
+use Rattle.theory.specs.Lrat.{lrat_start, numbered, with_clause}
+use Rattle.theory.specs.Rules.{Rule, Same, State, by_copies, by_ids, drat, lrat, rule_of, start}
+use Rattle.theory.specs.Rules.{sum_of, with_input}
+use Rattle.theory.specs.{Sizes.size_at, Sizes.sum_to, Sizes.total, Verdicts.is_empty}
+use Rattle.std.specs.FinMap as maps
+
+-- ---- A whole input
+
+-- nothing was read
+pub seen_nothing : (P : Input → Type 0) (old new : Reader) → old ≡ new → ((i : Input) → P i) → OfSeen old new P
+seen_nothing P old new same all =
+    rw (← same) (record { seen = Seen-nothing old; fact = λ i seen. all i })
+
+-- a reader that was fresh was read: what was made of what follows, and with how many bytes read
+pub seen_within : (P : Place → Suffix → Suffix → Type 0) (old : Reader) (borrows : List ℕ) (source last : Stream) (new : Reader)
+    → source ≡ unread_stream old borrows → new ≡ last.reader → Along source last (λ i j. P source.place i j)
+    → OfSeen old new (λ i. (j : Suffix) × P (record { line = 1; col = 1 }) (from_start i) j × (bytes_read old new ≤ j.offset + 65536))
+seen_within P old borrows source last new is kept run =
+    let R : Suffix → Suffix → Type 0 = λ i j. P (record { line = 1; col = 1 }) i j × (bytes_read old last.reader + i.offset ≤ j.offset + 65536) in
+    let within : Along (unread_stream old borrows) last R = Along-within (unread_stream old borrows) last _ (omega arith) (rw is at run) in
+    rw kept (record {
+      seen = Seen-run old borrows last R within;
+      fact = λ i seen. let x = Seen-fact old borrows last R within i seen in
+          let read = x.2.1 in (x.0, x.2.0, omega (arith, read));
+    })
+
+-- another fact of what was seen
+pub seen_map : (old new : Reader) (P Q : Input → Type 0) → OfSeen old new P → ((i : Input) → P i → Q i) → OfSeen old new Q
+seen_map old new P Q seen next = record { seen = seen.seen; fact = λ i s. next i (seen.fact i s) }
+
+-- the same without the number of bytes
+pub seen_run : (P : Place → Suffix → Type 0) (old : Reader) (borrows : List ℕ) (source last : Stream) (new : Reader)
+    → source ≡ unread_stream old borrows → new ≡ last.reader → Along source last (λ i j. P source.place i)
+    → OfSeen old new (λ i. P (record { line = 1; col = 1 }) (from_start i))
+seen_run P old borrows source last new is kept run = seen_map old new _ _
+    (seen_within (λ p i j. P p i) old borrows source last new is kept run) (λ i x. x.1)
+
+-- ---- A formula's clauses
+
+pub length_push : (cs : List Clause) (c : Clause) → length (cs ++ c ∷ []) ≡ length cs + 1
+length_push cs c = length-append cs (c ∷ [])
+
+abbrev pub with_clauses : List Clause → Body → Body
+with_clauses cs b = record { clauses = cs ++ b.clauses; fault = b.fault }
+
+-- these clauses came first, with where each ends, and then what else there is
+abbrev pub ReadsOn : List Clause → Body → Body → List ℕ → List ℕ → Type 0
+ReadsOn clauses before after ends ends_after =
+    (before ≡ with_clauses clauses after) × ((passed : List ℕ) × (length passed ≡ length clauses) × (ends ≡ passed ++ ends_after))
+
+-- from one moment to another these clauses were read
+pub record Reads (old now : FormulaReading) (clauses : List Clause) : Type 0 where
+  pub count : length clauses ≡ now.complete
+  pub run : Along old.stream now.stream (λ i j. ReadsOn clauses (clauses_to_come old i) (clauses_to_come now j) (ends_to_come old i) (ends_to_come now j))
+  pub header : now.header ≡ old.header
+
+-- what a call of the reader gave
+abbrev pub Gave : FormulaReading → FormulaReading → Result Bool Fault → Clause → Type 0
+Gave now new result c = Along now.stream new.stream (λ i j. GivesClause result c (clauses_to_come now i) (clauses_to_come new j)
+    × GivesEnd result (ends_to_come now i) (ends_to_come new j) j)
+
+-- after these clauses no end was passed
+abbrev pub NonePassed : FormulaReading → List Clause → Suffix → Suffix → Type 0
+NonePassed old clauses i k = (later : Body) × (ends : List ℕ) × ReadsOn clauses (clauses_to_come old i) later (ends_to_come old i) ends × PassesNoEnd ends k
+
+-- past the first numbers stand the others
+pub past_first : (xs ys : List ℕ) (n m : ℕ) → n ≡ length xs + m → slice_get (xs ++ ys) n ≡ slice_get ys m
+past_first (x ∷ xs) ys (suc n) m e = past_first xs ys n m (omega (arith, e))
+past_first xs ys n m h = search rules
+
+-- after clauses that were read, where no end of the others was passed, none from theirs on was
+pub later_left : (read : List Clause) (old : FormulaReading) (i k : Suffix) (n offset : ℕ) →
+    NonePassed old read i k → length read ≤ n → slice_get (ends_to_come old i) n ≡ Some offset
+    → k.offset ≤ offset
+later_left read old i k n offset passed least at = let on = passed.2 in
+    let same : length on.1.0 ≡ length read = on.1.1 in
+    passed.3 (n - length read) offset
+    (sym (past_first on.1.0 passed.1 n (n - length read) (omega (arith, same, least)))
+    ∙ sym (ap (λ r. slice_get r n) on.1.2) ∙ at)
+
+-- so the token at fault wasn't
+pub fault_left : (read : List Clause) (old : FormulaReading) (i k : Suffix) → NonePassed old read i k
+    → LeavesFault (clauses_to_come old i).clauses (ends_to_come old i) k
+fault_left read old i k passed offset at =
+    let all : length (clauses_to_come old i).clauses ≡ length read + length passed.0.clauses =
+    ap (λ b. length b.clauses) passed.2.0 ∙ length-append read passed.0.clauses in
+    later_left read old i k _ offset passed (omega (arith, all)) at
+
+-- whatever was given, no end that was to come was passed
+pub none_passed : (result : Result Bool Fault) (before after : List ℕ) (rest : Suffix) → GivesEnd result before after rest → PassesNoEnd before rest
+none_passed result before after rest h = search rules
+
+-- after these clauses comes the fault; want of memory says nothing
+abbrev pub FaultAfter : List Clause → Fault → Body → Type 0
+FaultAfter cs OutOfMemory b = Unit {0}
+FaultAfter cs f b = b ≡ record { clauses = cs; fault = Some f }
+
+pub Reads-start : (r : FormulaReading) → r.complete ≡ 0 → Reads r r []
+Reads-start r none = record {
+  count = sym none;
+  run = Along-map _ _ _ _ (Along-none r.stream) (λ i j m e. (ap (clauses_to_come r) e, ([], refl, ap (ends_to_come r) e)));
+  header = refl;
+}
+
+module _ (old now new : FormulaReading) (clauses : List Clause) (so_far : Reads old now clauses) (c : Clause) where
+  pub Reads-clause : Gave now new (Ok true) c
+      → new.complete ≡ now.complete + 1 → new.header ≡ now.header → Reads old new (clauses ++ c ∷ [])
+  Reads-clause gives count header = record {
+    count = length_push clauses c ∙ ap (λ n. n + 1) so_far.count ∙ sym count;
+    run = Along-then _ _ _ _ _ _ so_far.run gives (λ i j k m p q. (
+      search (rules, append_assoc),
+      (p.1.0 ++ k.offset ∷ [], search (rules, arith, length-append), search (rules, append_assoc)),
+    ));
+    header = header ∙ so_far.header;
+  }
+
+  pub Reads-done : Gave now new (Ok false) c
+      → Along old.stream new.stream (λ i j. (clauses_to_come old i ≡ record { clauses = clauses; fault = None }) × NonePassed old clauses i j)
+  Reads-done gives = search (rules, Along-then, append-nil, none_passed, so_far.run)
+
+  pub Reads-fault : (f : Fault) → Gave now new (Err f) c
+      → Along old.stream new.stream (λ i j. FaultAfter clauses f (clauses_to_come old i) × NonePassed old clauses i j)
+  Reads-fault f gives = search (rules, Along-then, append-nil, none_passed, so_far.run)
+
+-- what a call gave, by its answer's pattern
+pub clause_told : (now new : FormulaReading) (result answer : Result Bool Fault) (c : Clause) → Gave now new result c → result ≡ answer → Gave now new answer c
+clause_told now new result answer c gives is = search rules
+
+-- ---- The token at fault
+
+-- what is left of a formula is what is left of what is to come after its header
+pub opened_left : (x : Formula) (h : Header) (b : Body) (ends to_come : List ℕ) (rest : Suffix) → x ≡ opened h b → ends ≡ to_come
+    → LeavesFault b.clauses to_come rest → LeavesFault x.clauses ends rest
+opened_left x h b ends to_come rest is same leaves = search rules
+
+-- where nothing was read it wasn't passed
+pub unread_fault : (i : Input) (old new : Reader) → old ≡ new → ReadsNoFurtherThanFault i old new
+unread_fault i old new same offset at = search rules
+
+-- ---- Clauses go into a session one by one
+
+-- no clause has a number past the last
+-- one clause more, and its size more
+total_push : (cs : List Clause) (c : Clause) → total (lrat_start (cs ++ c ∷ [])) ≡ total (lrat_start cs) + size c
+total_push cs c = ap (λ n. sum_to n (λ k. size_at (numbered (cs ++ c ∷ []) k))) (length_push cs c)
+    ∙ sum_with (numbered cs) (numbered (cs ++ c ∷ [])) (length cs) (length cs + 1) c (omega arith) (numbered_above cs) (λ k. sym (numbered_push cs c k))
+
+sum_push : (rule : Rule) (cs : List Clause) (c : Clause) → sum_of (start rule cs) ≤ sum_of (start rule (cs ++ c ∷ []))
+sum_push rule cs c = search (rules, arith, total_push, sum_by-append)
+
+-- the next clause of a formula
+start_push : (rule : Rule) (cs : List Clause) (c : Clause) → Same (with_input (start rule cs) c) (start rule (cs ++ c ∷ []))
+start_push lrat cs c =
+    (SameClauses-eq (with_clause (numbered cs) (length cs + 1) c) (numbered (cs ++ c ∷ [])) (numbered_push cs c), sym (length_push cs c))
+start_push (drat rules) cs c = search (rules, arith, copies-cons, sum_by-append)
+
+input_same : (s t : State) (c : Clause) → Same s t → Same (with_input s c) (with_input t c)
+input_same (by_ids s) (by_ids t) c same = search (rules, arith, with_same, same_itself)
+input_same (by_copies a x) (by_copies b y) c same = search (rules, arith, copies-cons)
+input_same s t c same = absurd same
+
+pub loaded_more : (rule : Rule) (old new : View) (cs : List Clause) (c : Clause) → IsLoaded rule old cs
+    → Same new.state (with_input old.state c)
+    → new.is_verified ≡ (old.is_verified || is_empty c) → new.peak ≡ max old.peak (sum_of new.state)
+    → new.has_stepped ≡ false → new.is_ended ≡ false → new.has_lost_literal ≡ old.has_lost_literal → old.room ≤ new.room + 1 → IsLoaded rule new (cs ++ c ∷ [])
+loaded_more rule old new cs c l state verified peak unstepped sound reason room =
+    search (rules, same, list_any-append, (sum_same new.state (start rule (cs ++ c ∷ [])) same), (sum_push rule cs c), (length_push cs c))
+  where
+    same : Same new.state (start rule (cs ++ c ∷ []))
+    same = same_trans _ (with_input old.state c) _ state
+        (same_trans _ (with_input (start rule cs) c) _ (input_same old.state (start rule cs) c l.state) (start_push rule cs c))
+
+-- a session that is new
+pub unused : (rule : Rule) (s : SessionState) → s ≡ fresh rule → IsLoaded (rule_of (view_of s).state) (view_of s) []
+unused rule s is = rw is (search (rules, arith, none_held, no_sum))
+  where
+    none_numbered : (k : ℕ) → maps.get (fresh lrat).held.live k ≡ numbered [] k
+    none_numbered zero = get-empty nat_cmp zero
+    none_numbered (suc k) = get-empty nat_cmp (suc k)
+
+    none_there : (e : Clause) (k : ℕ) (c : Clause) → maps.get (fresh lrat).held.live k ≡ Some c → same_clause c e ≡ true → ⊥
+    none_there e k c at same = absurd (none-some c (sym (get-empty nat_cmp k) ∙ at))
+
+    none_held : (rule : Rule) → Same (view_of (fresh rule)).state
+        (start (rule_of (view_of (fresh rule)).state) [])
+    none_held lrat = search (rules, arith, none_numbered)
+    none_held (drat rules) = search (arith, none_alive, none_listed, none_there)
+
+    no_sum : (rule : Rule) → 0 ≡ sum_of (start (rule_of (view_of (fresh rule)).state) [])
+    no_sum rule = search rules
+
+-- ---- Clauses that were read and input
+
+-- from one moment to another these clauses were read, and input
+pub record Loading (rule : Rule) (old now : FormulaReading) (s : View) : Type 0 where
+  pub clauses : List Clause
+  pub reads : Reads old now clauses
+  pub loaded : IsLoaded rule s clauses
+
+pub Loading-start : (rule : Rule) (r : FormulaReading) (s : View) → IsLoaded rule s [] → r.complete ≡ 0 → Loading rule r r s
+Loading-start rule r s loaded none = record { clauses = []; reads = Reads-start r none; loaded = loaded }
+
+module _ (rule : Rule) (old now new : FormulaReading) (s : View) (so_far : Loading rule old now s) where
+  pub Loading-clause : (t : View) (c : Clause) → Gave now new (Ok true) c
+      → IsLoaded rule t (so_far.clauses ++ c ∷ []) → new.complete ≡ now.complete + 1 → new.header ≡ now.header → Loading rule old new t
+  Loading-clause t c gives loaded count header = record { clauses = so_far.clauses ++ c ∷ []; reads = Reads-clause old now new so_far.clauses so_far.reads c gives count header; loaded = loaded }
+
+  -- what was loaded of the clauses that were to come, and that the token at fault wasn't passed
+  abbrev pub Body-loaded : View → Result (Unit {0}) Fault → Suffix → Suffix → Type 0
+  Body-loaded t result i j = LoadsBody rule t result (clauses_to_come old i) × LeavesFault (clauses_to_come old i).clauses (ends_to_come old i) j
+
+  pub Loading-done : (c : Clause) → Gave now new (Ok false) c
+      → Along old.stream new.stream (Body-loaded s (Ok tt))
+  Loading-done c gives = Along-map _ _ _ _ (Reads-done old now new so_far.clauses so_far.reads c gives)
+      (λ i j m e. search (rules, e.0, so_far.loaded, fault_left))
+
+  pub Loading-fault : (t : View) (c : Clause) (f : Fault) (result : Result (Unit {0}) Fault)
+      → result ≡ Err f → Gave now new (Err f) c → Along old.stream new.stream (Body-loaded t result)
+  Loading-fault t c f result is gives =
+      rw is (Along-map _ _ _ _ (Reads-fault old now new so_far.clauses so_far.reads c f gives) (λ i j m e. (by f (clauses_to_come old i) e.0, fault_left so_far.clauses old i j e.1)))
+    where
+      by : (f : Fault) (b : Body) → FaultAfter so_far.clauses f b → LoadsBody rule t (Err f) b
+      by f b h = search rules
+
+  pub Loading-refused : (t : View) (c : Clause) → Gave now new (Ok true) c
+      → Along old.stream new.stream (Body-loaded t (Err OutOfMemory))
+  Loading-refused t c gives =
+      Along-then _ _ _ _ _ _ so_far.reads.run gives (λ i j k m p q. (tt, fault_left so_far.clauses old i k (clauses_to_come now j, ends_to_come now j, p, q.1.1)))
+
+-- ---- A whole formula, loaded
+
+abbrev pub AllLoads : Rule → View → Reader → Reader → Result Header Fault → Type 0
+AllLoads rule s left new result = OfSeen left new (λ i. Loads rule s result (formula_of i) × ReadsNoFurtherThanFault i left new)
+
+-- nothing was read
+pub loads_refused : (rule : Rule) (s : View) (left new : Reader) (result : Result Header Fault) → left ≡ new → result ≡ Err OutOfMemory → AllLoads rule s left new result
+loads_refused rule s left new result same is = search (rules, arith, seen_nothing, unread_fault)
+
+module _ (rule : Rule) (s : View) (left : Reader) (borrows : List ℕ) (source : Stream) (is : source ≡ unread_stream left borrows) where
+  -- what was loaded of a formula from a place on, and that the token at fault wasn't passed
+  abbrev Loaded : Result Header Fault → Place → Suffix → Suffix → Type 0
+  Loaded result p i j = Loads rule s result (formula_at p i) × LeavesFault (formula_at p i).clauses (ends_at p i) j
+
+  all_loads : (last : Stream) (new : Reader) (result : Result Header Fault) → new ≡ last.reader
+      → Along source last (Loaded result source.place) → AllLoads rule s left new result
+  all_loads last new result kept run =
+      seen_map left new _ (λ i. Loads rule s result (formula_of i) × ReadsNoFurtherThanFault i left new)
+      (seen_within (Loaded result) left borrows source last new is kept run)
+      (λ i x. (x.1.0, λ offset at. let left = x.1.1 offset at in omega (arith, left, x.2)))
+
+  fault_loads : (f : Fault) (x : Formula) → x.fault ≡ Some f → Loads rule s (Err f) x
+  fault_loads f x h = search rules
+
+  body_fault : (f : Fault) (x : Formula) (h : Header) (b : Body) → x ≡ opened h b → LoadsBody rule s (Err f) b → Loads rule s (Err f) x
+  body_fault f x h b h2 h3 = search rules
+
+  pub loads_fault : (f : Fault) (last : Stream) (new : Reader) → new ≡ last.reader
+      → Along source last (λ i j. (formula_at source.place i ≡ unopened f) × PassesNoEnd (ends_at source.place i) j) → AllLoads rule s left new (Err f)
+  loads_fault f last new kept run = all_loads last new (Err f) kept (search (rules, Along-map, fault_loads))
+
+  module _ (r : FormulaReading) (last : Stream) (new : Reader) (kept : new ≡ last.reader)
+      (opens : Along source r.stream (λ i j. (formula_at source.place i ≡ opened r.header (clauses_to_come r j)) × (ends_at source.place i ≡ ends_to_come r j))) where
+    -- what was loaded of the clauses that were to come
+    abbrev Rest : Result (Unit {0}) Fault → Type 0
+    Rest result = Along r.stream last (λ i j. LoadsBody rule s result (clauses_to_come r i) × LeavesFault (clauses_to_come r i).clauses (ends_to_come r i) j)
+
+    pub loads_body : (h : Header) → h ≡ r.header → Rest (Ok tt) → AllLoads rule s left new (Ok h)
+    loads_body h same body = all_loads last new (Ok h) kept (search (rules, Along-then, same, opened_left))
+
+    pub loads_body_fault : (f : Fault) (result : Result Header Fault) → result ≡ Err f → Rest (Err f)
+        → AllLoads rule s left new result
+    loads_body_fault f result is body =
+        rw is (all_loads last new (Err f) kept (search (rules, Along-then, body_fault, opened_left)))
