@@ -6,7 +6,6 @@ pub mod MemberLemmas
 pub mod WalkLemmas
 pub mod StreamLemmas
 pub mod TextLemmas
-pub mod WordLemmas
 pub mod EightLemmas
 pub mod WholeLemmas
 pub mod RunLemmas

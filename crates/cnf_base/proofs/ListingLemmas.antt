@@ -1,17 +1,11 @@
 -- Where the tokens of a text end.
-use Rattle.std.proofs.Common.{ℕ, ◌≤◌, Bool, true, false, List, [], ◌∷◌, ◌++◌, arith}
-use Rattle.std.specs.Prelude.{Result}
+use Rattle.std.proofs.Common.{ℕ, ◌≤◌, Bool, true, false, List, [], ◌∷◌, ◌++◌, arith, Result}
 use Rattle.std.specs.List.{slice_split}
-use Rattle.cnf_base.specs.Stream.{Suffix}
 use Rattle.cnf_base.specs.Text.{is_separator, Spot, one_on, next_line, along, Listed, words_of}
 use Rattle.cnf_base.specs.Text.{is_comment, line_tokens, last_tokens, Listing, lines_listing}
-use Rattle.cnf_base.specs.Text.{listing_at, Gives}
-use Rattle.cnf_base.specs.Code.Text.{listed}
-use Rattle.cnf_base.specs.declared.input.Ending.{Ending}
-use Rattle.cnf_base.specs.declared.input.ReadFailed.{ReadFailed}
-use Rattle.cnf_base.specs.declared.place.Place.{Place}
+use Rattle.cnf_base.specs.{declared.input.Ending.Ending, declared.input.ReadFailed.ReadFailed}
+use Rattle.cnf_base.specs.{Stream.Suffix, Text.listing_at, Text.Gives, declared.place.Place.Place}
 use Rattle.cnf_base.specs.declared.token.Token as tokens
-use Rattle.cnf_base.specs.declared.token.Token.TheVariants as token
 
 -- each token ends at this offset or later
 abbrev pub EndFrom : ℕ → List Listed → Type 0
@@ -31,20 +25,16 @@ words_of-from : (n : ℕ) (s : Spot) (parts : List (List ℕ)) → n ≤ s.offse
 words_of-from n s [] h = tt
 words_of-from n s ([] ∷ parts) h = words_of-from n (one_on s) parts (omega (arith, h))
 words_of-from n s ((b ∷ bs) ∷ parts) h =
-    let past = along-later s (b ∷ bs) in (
-      omega (arith, past, h),
-      words_of-from n (one_on (along s (b ∷ bs))) parts
-          (omega (arith, past, h)),
-    )
+    let past = along-later s (b ∷ bs) in
+    let later = words_of-from n (one_on (along s (b ∷ bs))) parts in grind arith
 
 line_tokens-from : (n : ℕ) (skips : Bool) (s : Spot) (line : List ℕ) → n ≤ s.offset
     → EndFrom n (line_tokens skips s line)
 line_tokens-from n true s line h = tt
 line_tokens-from n false s line h =
     let past = along-later s line in
-    append-from n (words_of s (slice_split is_separator line))
-    (listed (token.LineEnd (along s line).place) (next_line (along s line)).offset ∷ [])
-    (words_of-from n s (slice_split is_separator line) h) (omega (arith, past, h), tt)
+    let words = words_of-from n s (slice_split is_separator line) h in
+    append-from n (words_of s (slice_split is_separator line)) _ words (omega (arith, past, h), tt)
 
 last_tokens-from : (n : ℕ) (skips : Bool) (s : Spot) (line : List ℕ) (ending : Ending)
     → n ≤ s.offset → EndFrom n (last_tokens skips s line ending)
@@ -56,8 +46,9 @@ lines_listing-from n skips s [] ending h = tt
 lines_listing-from n skips s (line ∷ []) ending h = last_tokens-from n skips s line ending h
 lines_listing-from n skips s (line ∷ next ∷ lines) ending h =
     let past = along-later s line in
-    append-from n (line_tokens skips s line) (lines_listing (is_comment next) (next_line (along s line)) (next ∷ lines) ending).tokens
-    (line_tokens-from n skips s line h) (lines_listing-from n (is_comment next) (next_line (along s line)) (next ∷ lines) ending (omega (arith, past, h)))
+    let later = lines_listing-from n (is_comment next) (next_line (along s line)) (next ∷ lines)
+    ending (omega (arith, past, h)) in
+    append-from n (line_tokens skips s line) _ (line_tokens-from n skips s line h) later
 
 -- no token ends before the text begins
 pub listing_at-from : (p : Place) (i : Suffix) → EndFrom i.offset (listing_at p i).tokens

@@ -1,8 +1,7 @@
 -- What the other lemmas use of literals.
-use Rattle.std.proofs.Common.{◌≡◌, ◌≢◌, ℕ, ◌%◌, ◌<◌, ◌≤◌, arith}
-use Rattle.std.specs.Int.Bits.{bit_and, bit_xor, xor_add_and}
-use Rattle.std.proofs.lemmas.Nat.{and_mask}
-use Rattle.std.proofs.lemmas.Bool.Decides.{nat_tests}
+use Rattle.std.proofs.Common.{◌≡◌, ◌≢◌, ℕ, ◌%◌, ◌<◌, ◌≤◌, arith, bit_and, bit_xor}
+use Rattle.std.specs.Int.Bits.{xor_add_and}
+use Rattle.std.proofs.{lemmas.Nat.and_mask, lemmas.Bool.Decides.nat_tests}
 use Rattle.cnf_base.specs.Literals.{Literal, complement}
 
 pub complement-complement : (l : Literal) → complement (complement l) ≡ l

@@ -1,17 +1,11 @@
 -- Finite maps by number: look-ups where one was changed, and sums over what one has.
 use Rattle.std.proofs.Common.{◌≡◌, ◌≢◌, ℕ, zero, suc, ◌+◌, ◌-◌, ◌*◌, ◌≤◌, cond, eqb, eq-eqb, ne_eqb}
-use Rattle.std.proofs.Common.{Option, Some, None, List, [], ◌∷◌, map, sum_by, length, refl, sym, ap}
-use Rattle.std.proofs.Common.{◌∙◌, arith, ◌⊎◌, rules}
-use Rattle.std.specs.Ordering.{nat_cmp, is_eq}
-use Rattle.std.specs.Cmp.{nat_cmp_total, unsigned_tied}
-use Rattle.std.specs.declared.cmp.Ordering.{Ordering}
-use Rattle.std.specs.declared.cmp.Ordering.TheVariants.{Less, Equal, Greater}
-use Rattle.std.specs.FinMap as maps
-use Rattle.std.specs.FinMap.{FinMap, put, find}
-use Rattle.std.specs.FinMap.Entries.{by_order}
-use Rattle.std.proofs.lemmas.List.Sums.{sum_by-cons}
-use Rattle.std.proofs.lemmas.Option.{none-some}
+use Rattle.std.proofs.Common.{Option, Some, None, List, [], ◌∷◌, map, sum_by, length, refl, sym}
+use Rattle.std.proofs.{Common.nat_cmp, lemmas.List.nil_from_length, lemmas.List.Sums.sum_by-cons}
+use Rattle.std.proofs.{Common.◌∙◌, Common.arith, Common.◌⊎◌, Common.rules, lemmas.Option.none-some}
+use Rattle.std.specs.{Cmp.nat_cmp_total, Cmp.unsigned_tied, FinMap.FinMap, FinMap.put, FinMap.find}
 use Rattle.cnf_base.specs.Maps.{sum_over}
+use Rattle.std.specs.FinMap as maps
 
 -- ---- Look-ups
 
@@ -93,43 +87,34 @@ module _ {X : Type 0} (w : X → ℕ) where
   weight_put : (k : ℕ) (c : X) (es : List (ℕ × X)) → find nat_cmp k es ≡ None
       → weight (put nat_cmp k c es) ≡ w c + weight es
   weight_put k c [] none = weight-cons (k, c) []
-  weight_put k c (e ∷ es) none = by_place (nat_cmp k e.0) none (weight_put k c es)
-    where
-      by_place : (o : Ordering) → cond (is_eq o) (Some e.1) (find nat_cmp k es) ≡ None
-          → (find nat_cmp k es ≡ None → weight (put nat_cmp k c es) ≡ w c + weight es)
-          → weight (by_order o ((k, c) ∷ e ∷ es) ((e.0, c) ∷ es) (e ∷ put nat_cmp k c es))
-          ≡ w c + weight (e ∷ es)
-      by_place Less none rest = weight-cons (k, c) (e ∷ es)
-      by_place Equal none rest = absurd (none-some e.1 (sym none))
-      by_place Greater none rest = grind (arith, weight-cons)
+  weight_put k c (e ∷ es) none =
+      let later = weight_put k c es in let first = weight-cons (k, c) (e ∷ es) in
+      let kept = weight-cons e (put nat_cmp k c es) in let old = weight-cons e es in grind arith
 
   -- what comes to a new key adds its weight
   pub sum_insert : (m : FinMap nat_cmp X) (k : ℕ) (c : X) → maps.get m k ≡ None
       → sum_over w (maps.insert m k c) ≡ w c + sum_over w m
   sum_insert m k c none =
-      ap weight (maps.entries-insert nat_cmp_total m k c)
-      ∙ weight_put k c (maps.entries m) (sym (maps.get-entries m k) ∙ none)
+      let put_is = weight_put k c (maps.entries m) (sym (maps.get-entries m k) ∙ none) in
+      cc (maps.entries-insert nat_cmp_total m k c)
 
   -- what is taken out takes its weight with it
   pub sum_remove : (m : FinMap nat_cmp X) (k : ℕ) (c : X) → maps.get m k ≡ Some c
       → w c + sum_over w (maps.remove m k) ≡ sum_over w m
   sum_remove m k c here =
-      cc (
-        sum_insert (maps.remove m k) k c (remove_here m k k refl),
-        inserted_is (maps.remove m k) m k c here (λ s ne. sym (remove_other m k s ne)),
-      )
+      let back = inserted_is (maps.remove m k) m k c here (λ s ne. sym (remove_other m k s ne)) in
+      cc (sum_insert (maps.remove m k) k c (remove_here m k k refl))
 
   pub sum_replace : (m : FinMap nat_cmp X) (k : ℕ) (c d : X) → maps.get m k ≡ Some c → w d ≡ w c
       → sum_over w (maps.insert m k d) ≡ sum_over w m
   sum_replace m k c d here alike =
-      cc (insert_again m k d, sum_insert (maps.remove m k) k d (get_remove m k k ∙ ap (λ b. cond b None (maps.get m k)) (eq-eqb k k refl)), sum_remove m k c here)
+      let there = sum_insert (maps.remove m k) k d (remove_here m k k refl) in
+      cc (insert_again m k d, sum_remove m k c here)
 
   pub sum_empty : sum_over w maps.empty ≡ 0
-  sum_empty = cc (no_entries (maps.entries maps.empty) (sym (maps.len-entries maps.empty) ∙ maps.len-empty nat_cmp X))
-    where
-      no_entries : (es : List (ℕ × X)) → length es ≡ 0 → es ≡ []
-      no_entries [] e = refl
-      no_entries (x ∷ es) e = absurd (let wrong : ⊥ = omega arith in wrong)
+  sum_empty =
+      let none = sym (maps.len-entries maps.empty) ∙ maps.len-empty nat_cmp X in
+      cc (nil_from_length (maps.entries maps.empty) none)
 
 -- ---- Sums over two maps
 
@@ -155,17 +140,17 @@ module _ {X Y : Type 0} (w : X → ℕ) (v : Y → ℕ) where
   sum_lighter_of : (n : ℕ) (m : FinMap nat_cmp X) (k : FinMap nat_cmp Y) → maps.len m ≡ n
       → IsLighter m k → sum_over w m ≤ sum_over v k
   sum_lighter_of zero m k none each = grind (arith, maps.empty_of_len m none, sum_empty w)
-  sum_lighter_of (suc n) m k long each = by_first (maps.entries m) refl (sum_lighter_of n)
-    where
-      by_first : (es : List (ℕ × X)) → maps.entries m ≡ es
-          → ((r : FinMap nat_cmp X) (q : FinMap nat_cmp Y) → maps.len r ≡ n → IsLighter r q
-          → sum_over w r ≤ sum_over v q) → sum_over w m ≤ sum_over v k
-      by_first [] is fewer = grind arith
-      by_first (e ∷ es) is fewer =
-          let here : maps.get m e.0 ≡ Some e.1 =
-          cc (maps.get-entries m e.0, unsigned_tied e.0 e.0, eq-eqb e.0 e.0 refl) in
-          let one_less = len_without m e.0 e.1 here in
-          omega (arith, fewer (maps.remove m e.0) (maps.remove k e.0) (omega arith) (lighter_rest m k e.0 each), each e.0 e.1 here, sum_remove w m e.0 e.1 here, sum_without k e.0)
+  sum_lighter_of (suc n) m k long each =
+      elim (maps.entries m) as (λ es. maps.entries m ≡ es → sum_over w m ≤ sum_over v k) [
+        | [] ↦ λ is. grind arith
+        | ◌∷◌ e es ↦ λ is.
+            let here : maps.get m e.0 ≡ Some e.1 =
+            cc (maps.get-entries m e.0, unsigned_tied e.0 e.0, eq-eqb e.0 e.0 refl) in
+            let one_less = len_without m e.0 e.1 here in
+            let fewer = sum_lighter_of n (maps.remove m e.0) (maps.remove k e.0) (omega arith)
+            (lighter_rest m k e.0 each) in
+            omega (arith, each e.0 e.1 here, sum_remove w m e.0 e.1 here, sum_without k e.0)
+      ] refl
 
   pub sum_lighter : (m : FinMap nat_cmp X) (k : FinMap nat_cmp Y) → IsLighter m k
       → sum_over w m ≤ sum_over v k

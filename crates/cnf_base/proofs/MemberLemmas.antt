@@ -1,11 +1,9 @@
 -- Members of lists, by their places.
 use Rattle.std.proofs.Common.{◌≡◌, ℕ, ◌<◌, ◌+◌, true, List, [], ◌∷◌, map, take, length, get_or}
-use Rattle.std.proofs.Common.{nat_eq, arith, inl, inr, ◌⊎◌, refl, add-one, rules}
-use Rattle.std.proofs.lemmas.Bool.{false≢true}
-use Rattle.std.proofs.lemmas.Bool.Decides.{nat_tests}
-use Rattle.std.proofs.lemmas.List.{get_or-take, length-take, get_or-map, length-map}
-use Rattle.std.proofs.lemmas.List.Folds.{list_any_at}
-use Rattle.std.specs.List.{list_any}
+use Rattle.std.proofs.Common.{nat_eq, arith, inl, inr, ◌⊎◌, refl, add-one, rules, get_or-take}
+use Rattle.std.{proofs.lemmas.List.get_or-map, proofs.lemmas.List.length-map, specs.List.list_any}
+use Rattle.std.proofs.lemmas.{Bool.Decides.nat_tests, List.Folds.list_any_at}
+use Rattle.std.proofs.{Common.length-take, lemmas.Bool.false≢true}
 use Rattle.cnf_base.specs.Literals.{complement, has, variable}
 use Rattle.cnf_base.proofs.SetLemmas.{has_cases}
 
@@ -36,10 +34,8 @@ place_of_variable ls v h = grind (arith, place_of, length-map, get_or-map)
 pub has_variable : (ls : List ℕ) (i : ℕ) → i < length ls
     → has (map variable ls) (variable (get_or ls i 0)) ≡ true
 has_variable ls i h =
-    cc (
-      get_or-map variable ls i 0 0 h,
-      has_place (map variable ls) i (omega (arith, length-map ls variable)),
-    )
+    let there = has_place (map variable ls) i (omega (arith, length-map ls variable)) in
+    cc (get_or-map variable ls i 0 0 h)
 
 -- a member's variable
 pub has_mapped : (ls : List ℕ) (l : ℕ) → has ls l ≡ true → has (map variable ls) (variable l) ≡ true

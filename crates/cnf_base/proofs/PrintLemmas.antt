@@ -1,30 +1,24 @@
 -- Texts that were printed plainly, as they are read.
 use Rattle.std.proofs.Common.{◌≡◌, ℕ, zero, suc, ◌+◌, ◌-◌, ◌*◌, ◌%◌, ◌^◌, ◌<◌, ◌≤◌, ◌==◌, ◌&&◌}
 use Rattle.std.proofs.Common.{nat_le, cond, not, Bool, true, false, List, [], ◌∷◌, ◌++◌, length}
-use Rattle.std.proofs.Common.{fold, get_or, Option, Some, refl, ap, ◌∙◌, append_assoc, append-nil}
-use Rattle.std.proofs.Common.{length-append, arith}
-use Rattle.std.specs.Prelude.{codes}
-use Rattle.std.specs.Fmt.{decimal}
+use Rattle.std.proofs.Common.{fold, Option, Some, refl, ap, ◌∙◌, append_assoc, append-nil}
+use Rattle.std.proofs.Common.{length-append, arith, codes, decimal}
 use Rattle.std.specs.List.{list_all, join_with_byte}
-use Rattle.std.proofs.lemmas.Bool.Decides.{nat_tests}
 use Rattle.std.proofs.lemmas.Fmt.{decimal_digit, decimal_nonempty, first_decimal, digits_decimal}
-use Rattle.std.proofs.lemmas.Fmt.{digits_value-decimal}
 use Rattle.std.proofs.lemmas.Str.Parse.{IsDigitsTest, IsNumeralModel, numerals_by_fold}
+use Rattle.std.proofs.{lemmas.Bool.Decides.nat_tests, lemmas.Fmt.digits_value-decimal}
 use Rattle.cnf_base.specs.Literals.{Literal, variable}
 use Rattle.cnf_base.specs.Printing.{words_line, is_literal, literal_text}
-use Rattle.cnf_base.specs.Stream.{suffix}
 use Rattle.cnf_base.specs.Text.{is_separator, is_comment, with_front, Listing, listing_at}
 use Rattle.cnf_base.specs.Code.Text.{col_after, line_after, listed, col_along}
 use Rattle.cnf_base.specs.Words.{is_digit, is_counting, size_of, number, number_literal, word_of}
-use Rattle.cnf_base.specs.Code.Digits.{decimal_value}
-use Rattle.cnf_base.specs.declared.input.Ending.TheVariants.{End}
-use Rattle.cnf_base.specs.declared.place.Place.{Place}
-use Rattle.cnf_base.specs.declared.word.Number.{Number}
+use Rattle.cnf_base.proofs.TextLemmas.{Each, none, more, IsRun, listing_at-separator}
+use Rattle.cnf_base.proofs.TextLemmas.{listing_at-feed, listing_at-run}
+use Rattle.cnf_base.specs.{declared.input.Ending.TheVariants.End, declared.word.Number.Number}
+use Rattle.cnf_base.specs.{Stream.suffix, Code.Digits.decimal_value, declared.place.Place.Place}
 use Rattle.cnf_base.specs.declared.word.Word.TheVariants as words
 use Rattle.cnf_base.specs.declared.token.Token as tokens
 use Rattle.cnf_base.specs.declared.token.Token.TheVariants as token
-use Rattle.cnf_base.proofs.TextLemmas.{Each, none, more, IsRun, listing_at-separator}
-use Rattle.cnf_base.proofs.TextLemmas.{listing_at-feed, listing_at-run}
 
 -- ---- Lines of words
 
@@ -33,7 +27,7 @@ abbrev pub after_word : List (List ℕ) → List ℕ → List ℕ
 after_word [] rest = 10 ∷ rest
 after_word (w ∷ ws) rest = 32 ∷ w ++ after_word ws rest
 
--- a text from after a word of a line on: the words that are left of the line, and what follows the line
+-- a text from after a word of a line on: the words that are left of the line, and what follows it
 abbrev pub line_from : Place → ℕ → List (List ℕ) → List ℕ → Listing
 line_from p n ws rest = listing_at p (suffix n (after_word ws rest) End)
 
@@ -42,11 +36,8 @@ pub words_line-cons : (w : List ℕ) (ws : List (List ℕ)) (rest : List ℕ)
     → words_line (w ∷ ws) ++ rest ≡ w ++ after_word ws rest
 words_line-cons w [] rest = append_assoc w (10 ∷ []) rest
 words_line-cons w (v ∷ vs) rest =
-    cc (
-      append_assoc w (32 ∷ join_with_byte 32 (v ∷ vs)) (10 ∷ []),
-      append_assoc w (32 ∷ words_line (v ∷ vs)) rest,
-      words_line-cons v vs rest,
-    )
+    let inner = append_assoc w (32 ∷ join_with_byte 32 (v ∷ vs)) (10 ∷ []) in
+    cc (append_assoc w (32 ∷ words_line (v ∷ vs)) rest, words_line-cons v vs rest)
 
 -- the offset of the byte after a line of which these words are left
 abbrev pub end_of_line : ℕ → List (List ℕ) → ℕ
@@ -60,12 +51,8 @@ end_of_line-next n w ws = grind (arith, length-append)
 pub end_of_line-first : (n : ℕ) (w : List ℕ) (ws : List (List ℕ))
     → end_of_line (n + length w) ws ≡ n + length (words_line (w ∷ ws))
 end_of_line-first n w ws =
-    grind (
-      arith,
-      append-nil (words_line (w ∷ ws)),
-      words_line-cons w ws [],
-      length-append w (after_word ws []),
-    )
+    let all = words_line-cons w ws [] in let same = append-nil (words_line (w ∷ ws)) in
+    grind (arith, length-append)
 
 -- a word that is a token
 pub record IsPlain (w : List ℕ) : Type 0 where
@@ -88,8 +75,9 @@ pub past_from_one : (p : Place) (w : List ℕ) → 0 < (past p w).col
 past_from_one p w = along_from_one (col_after p) w (after_from_one p)
 
 -- a text's first token, the offset of the byte after it, and the text after it
-pub record Begins (before : Listing) (t : tokens.Token) (offset : ℕ) (after : Listing) : Type 0 where
-  pub is : before ≡ with_front (listed t offset ∷ []) after
+pub record Begins (before : Listing) (t : tokens.Token) (offset : ℕ) (after : Listing) : Type 0
+  where
+    pub is : before ≡ with_front (listed t offset ∷ []) after
 
 -- a word, and the rest of its line
 run_first : (p : Place) (n : ℕ) (w : List ℕ) (ws : List (List ℕ)) (rest : List ℕ) → IsRun p w
@@ -126,12 +114,7 @@ first_word p n w ws rest no_comment plain = grind (arith, words_line-cons, run_f
 -- each byte passes the test
 each_from : (p : ℕ → Bool) (bs : List ℕ) → list_all (λ b. not (p b)) bs ≡ true → Each p bs
 each_from p [] h = none
-each_from p (b ∷ bs) h = by (p b) refl h (each_from p bs)
-  where
-    by : (v : Bool) → p b ≡ v → (not v && list_all (λ b. not (p b)) bs) ≡ true
-        → (list_all (λ b. not (p b)) bs ≡ true → Each p bs) → Each p (b ∷ bs)
-    by true e k later = absurd (cc)
-    by false e k later = more b bs e (later k)
+each_from p (b ∷ bs) h = let later = each_from p bs in grind (arith, more)
 
 -- a fixed word
 pub fixed_plain : (b : ℕ) (bs : List ℕ) → list_all (λ b. not (is_separator b)) (b ∷ bs) ≡ true
@@ -145,9 +128,6 @@ both a b h = grind arith
 -- digits
 abbrev pub AreAllDigits : List ℕ → Type 0
 AreAllDigits ds = list_all is_digit ds ≡ true
-
-first_digit : (d : ℕ) (ds : List ℕ) → AreAllDigits (d ∷ ds) → (is_digit d ≡ true) × AreAllDigits ds
-first_digit d ds h = both (is_digit d) (list_all is_digit ds) h
 
 -- our words for them mean what those of the library do
 digits_test : IsDigitsTest AreAllDigits
@@ -164,21 +144,12 @@ module _ (n : ℕ) (some : 0 < n) (small : n < 2 ^ 64) where
 
   decimal_counting : is_counting (decimal n) ≡ true
   decimal_counting =
-      by (decimal n) (decimal_nonempty n small) (first_decimal n some small)
-      (digits_decimal numerals n small)
-    where
-      by : (ds : List ℕ) → 0 < length ds → 48 < get_or ds 0 0 → AreAllDigits ds
-          → is_counting ds ≡ true
-      by [] l f h = absurd (omega arith)
-      by (d ∷ ds) l f h = grind arith
-
-digit_inner : (b : ℕ) → is_digit b ≡ true → is_separator b ≡ false
-digit_inner b h = grind (arith, nat_tests)
+      let first = first_decimal n some small in
+      grind (arith, decimal_nonempty, digits_decimal, numerals)
 
 digits_each : (ds : List ℕ) → AreAllDigits ds → Each is_separator ds
 digits_each [] h = none
-digits_each (d ∷ ds) h =
-    let k = first_digit d ds h in more d ds (digit_inner d k.0) (digits_each ds k.1)
+digits_each (d ∷ ds) h = let later = digits_each ds in grind (arith, nat_tests, more)
 
 -- a number's text is a token, after a `-` too, and begins no comment
 pub decimal_plain : (n : ℕ) → n < 2 ^ 64 → IsPlain (decimal n)
@@ -217,38 +188,22 @@ pub literal_range : (greatest l : ℕ) → is_literal greatest l ≡ true → (1
     × (variable l ≤ greatest)
 literal_range greatest l h = grind (arith, nat_tests)
 
--- a number, or one after a `-`
-abbrev signed_text : Bool → ℕ → List ℕ
-signed_text is_positive n = cond is_positive (decimal n) (45 ∷ decimal n)
-
-signed_word : (is_positive : Bool) (n : ℕ) → 1 ≤ n → n ≤ 268435455
-    → word_of (signed_text is_positive n) ≡ words.Number (number (not is_positive) n)
-signed_word is_positive n low high = grind (arith, decimal_word, low, minus_word)
-
-signed_plain : (is_positive : Bool) (n : ℕ) → n ≤ 268435455 → IsPlain (signed_text is_positive n)
-signed_plain true n high = decimal_plain n (omega arith)
-signed_plain false n high = minus_plain n (omega arith)
-
-signed_no_comment : (is_positive : Bool) (n : ℕ) → n ≤ 268435455
-    → is_comment (signed_text is_positive n) ≡ false
-signed_no_comment is_positive n high = grind (arith, decimal_no_comment)
-
--- a literal within the limit: its word, that its text is a token and begins no comment, and what it is taken for
+-- a literal within the limit: its word, that its text is a token and begins no comment, and what it
+-- is taken for
 module _ (greatest l : ℕ) (within : greatest ≤ 268435455) (is : is_literal greatest l ≡ true) where
-  low : 1 ≤ variable l
-  low = (literal_range greatest l is).0
-
-  high : variable l ≤ 268435455
-  high = omega (arith, (literal_range greatest l is).1)
-
   pub literal_word : word_of (literal_text l) ≡ words.Number (literal_number l)
-  literal_word = signed_word (l % 2 == 0) (variable l) low high
+  literal_word =
+      let range = literal_range greatest l is in grind (arith, decimal_word, minus_word)
 
   pub literal_plain : IsPlain (literal_text l)
-  literal_plain = signed_plain (l % 2 == 0) (variable l) high
+  literal_plain =
+      let range = literal_range greatest l is in let small : variable l < 2 ^ 64 = omega arith in
+      elim (l % 2 == 0) as
+      (λ b. IsPlain (cond b (decimal (variable l)) (45 ∷ decimal (variable l))))
+      [ true ↦ decimal_plain _ small | false ↦ minus_plain _ small ]
 
   pub literal_no_comment : is_comment (literal_text l) ≡ false
-  literal_no_comment = signed_no_comment (l % 2 == 0) (variable l) high
+  literal_no_comment = let range = literal_range greatest l is in grind (arith, decimal_no_comment)
 
   pub literal_taken : {X : Type 0} (take : Option Literal → X) (other : X)
       → cond (nat_le (variable l) 268435455) (take (number_literal (literal_number l))) other

@@ -1,32 +1,40 @@
 -- What a scanner has seen of a text, byte by byte.
-use Rattle.std.proofs.Common.{◌≡◌, ℕ, ◌+◌, ◌<◌, ◌≤◌, ◌==◌, cond, true, false, List, [], ◌∷◌, ◌++◌}
-use Rattle.std.proofs.Common.{length, take, drop, length-drop, refl, sym, ap, subst, ◌∙◌, arith}
-use Rattle.std.proofs.Common.{Some, Bool, rules}
-use Rattle.std.specs.Prelude.{slice_index, slice_range, ◌-◌, Result, Ok, Err, IsErr}
-use Rattle.cnf_base.specs.declared.input.ReadFailed.{ReadFailed}
-use Rattle.std.proofs.lemmas.Bool.Decides.{nat_tests}
+use Rattle.std.proofs.Common.{◌≡◌, ℕ, ◌+◌, ◌<◌, ◌≤◌, ◌==◌, true, false, List, [], ◌∷◌, ◌++◌, length}
+use Rattle.std.proofs.Common.{take, drop, length-drop, refl, sym, ◌∙◌, arith, Some, rules}
+use Rattle.std.proofs.Common.{slice_index, slice_range, ◌-◌, Result, Ok, Err, IsErr, take_all}
+use Rattle.std.proofs.{lemmas.Bool.Decides.nat_tests, lemmas.Grind.common_steps}
 use Rattle.cnf_base.specs.Stream.{Suffix, suffix, Stream, Along, IsLook, bumped, most_to_come}
-use Rattle.cnf_base.specs.Stream.{tells_failure, skipped}
 use Rattle.cnf_base.specs.Text.{is_separator, with_front, skips_at, listing_at}
 use Rattle.cnf_base.specs.Code.Text.{listed, col_along, comment_at, FailsAt}
-use Rattle.cnf_base.specs.Words.{word_of}
-use Rattle.cnf_base.specs.Ahead.{IsWholeNumber, IsNumberAhead}
-use Rattle.cnf_base.specs.declared.word.Number.{Number}
-use Rattle.cnf_base.specs.declared.word.Word.TheVariants as words
-use Rattle.std.proofs.lemmas.List.{take_all}
-use Rattle.std.proofs.lemmas.Grind.{common_steps}
-use Rattle.cnf_base.specs.declared.word.Word.{Word}
-use Rattle.cnf_base.specs.declared.input.Ending.{Ending}
-use Rattle.cnf_base.specs.declared.input.Ending.TheVariants.{End, Failed}
-use Rattle.cnf_base.specs.declared.place.Place.{Place}
-use Rattle.cnf_base.specs.declared.token.Token.TheVariants as token
 use Rattle.cnf_base.proofs.StreamLemmas.{Splits, Splits-then, Along-look, Along-still, Along-map}
 use Rattle.cnf_base.proofs.StreamLemmas.{Along-then, Along-bumped, Along-skipped, shown_byte}
-use Rattle.cnf_base.proofs.StreamLemmas.{most_to_come-bumped, most_to_come-look}
 use Rattle.cnf_base.proofs.TextLemmas.{none, more, Each-append, Each-all, skips_at-front}
 use Rattle.cnf_base.proofs.TextLemmas.{col_along-length, IsRun, col_along-append}
 use Rattle.cnf_base.proofs.TextLemmas.{listing_at-separator, listing_at-feed, listing_at-run}
-use Rattle.cnf_base.proofs.TextLemmas.{listing_at-last_run, listing_at-cut_run}
+use Rattle.cnf_base.specs.{declared.input.Ending.Ending, declared.input.Ending.TheVariants.Failed}
+use Rattle.cnf_base.specs.{declared.word.Number.Number, declared.input.Ending.TheVariants.End}
+use Rattle.cnf_base.specs.{declared.input.ReadFailed.ReadFailed, declared.place.Place.Place}
+use Rattle.cnf_base.specs.{Stream.tells_failure, Ahead.IsWholeNumber, declared.word.Word.Word}
+use Rattle.cnf_base.specs.{Stream.skipped, Words.word_of, Ahead.IsNumberAhead}
+use Rattle.cnf_base.proofs.{StreamLemmas.most_to_come-bumped, StreamLemmas.most_to_come-look}
+use Rattle.cnf_base.proofs.{TextLemmas.listing_at-last_run, TextLemmas.listing_at-cut_run}
+use Rattle.cnf_base.specs.declared.word.Word.TheVariants as words
+use Rattle.cnf_base.specs.declared.token.Token as tokens
+use Rattle.cnf_base.specs.declared.token.Token.TheVariants as token
+
+-- a text with this token first, which was taken of it
+abbrev pub GivesFirst : tokens.Token → Stream → Stream → Type 0
+GivesFirst t old new = Along old new (λ i j.
+    listing_at old.place i ≡ with_front (listed t j.offset ∷ []) (listing_at new.place j))
+
+-- no token is left, for a read has failed
+abbrev pub IsCut : Stream → Stream → Type 0
+IsCut old new = Along old new (λ i j. (listing_at old.place i ≡ listing_at new.place j)
+    × ((listing_at old.place i).tokens ≡ []) × ((listing_at old.place i).ending ≡ Failed))
+
+-- bytes of a comment were taken
+abbrev pub InComment : Stream → Stream → Type 0
+InComment old now = Along old now (λ i j. comment_at old.place i ≡ comment_at now.place j)
 
 -- from one moment to another no token was given
 pub record Stands (old now : Stream) : Type 0 where
@@ -81,87 +89,65 @@ InRun-first old first some shown inner skips = record {
 -- a separator follows the run
 pub InRun-separator : (old now : Stream) (word : Word) (run : List ℕ) (b : ℕ) → word ≡ word_of run
     → InRun old now run → 0 < length now.ahead → b ≡ slice_index now.ahead 0 → is_separator b ≡ true
-    → Along old now (λ i j. listing_at old.place i
-    ≡ with_front (listed (token.Word old.place word) j.offset ∷ []) (listing_at now.place j))
+    → GivesFirst (token.Word old.place word) old now
 InRun-separator old now word run b says r some first h =
     Along-map old now _ _ r.text (λ i j m p. let s = shown_byte now b j some first m in
     grind (arith, listing_at-run))
 
--- a number's run was taken at once
-pub InRun-whole : (old : Stream) (first count : ℕ) (number : Number) → 0 < length old.ahead
-    → first ≡ slice_index old.ahead 0 → skips_at old.place (first ∷ []) ≡ false
-    → IsWholeNumber old.ahead count number → InRun old (skipped count old) (take count old.ahead)
-InRun-whole old first count number some shown skips w = record {
-  is_run = grind (arith, Each-all, skips_at-front);
-  place = search (rules, col_along-length);
-  text = Along-skipped old count;
-  fewer = grind (arith, length-drop);
-  mark = refl;
-}
-
--- and a separator follows
+-- a number's run was taken at once, and a separator follows
 pub whole_number-read : (old : Stream) (first count : ℕ) (number : Number) → 0 < length old.ahead
     → first ≡ slice_index old.ahead 0 → skips_at old.place (first ∷ []) ≡ false
     → IsWholeNumber old.ahead count number
-    → Along old (skipped count old)
-    (λ i j. listing_at old.place i
-    ≡ with_front (listed (token.Word old.place (words.Number number)) j.offset ∷ [])
-    (listing_at (skipped count old).place j))
+    → GivesFirst (token.Word old.place (words.Number number)) old (skipped count old)
 whole_number-read old first count number some shown skips w =
     InRun-separator old (skipped count old) (words.Number number) (take count old.ahead)
-    (slice_index (drop count old.ahead) 0) (sym w.says)
-    (InRun-whole old first count number some shown skips w) (grind (arith, length-drop)) refl
-    (ap is_separator next ∙ w.ended.separator)
+    (slice_index (drop count old.ahead) 0) (sym w.says) run (grind (arith, length-drop)) refl
+    (grind (arith, common_steps))
   where
-    next : slice_index (drop count old.ahead) 0 ≡ slice_index old.ahead count
-    next = grind (arith, common_steps)
+    run : InRun old (skipped count old) (take count old.ahead)
+    run = record {
+      is_run = grind (arith, Each-all, skips_at-front);
+      place = search (rules, col_along-length);
+      text = Along-skipped old count;
+      fewer = grind (arith, length-drop);
+      mark = refl;
+    }
 
 -- a run of one byte, which a separator follows
 pub one_byte-read : (old : Stream) (first : ℕ) (word : Word) → first ≡ slice_index old.ahead 0
     → word ≡ word_of (first ∷ []) → is_separator first ≡ false
     → skips_at old.place (first ∷ []) ≡ false → 2 ≤ length old.ahead
     → is_separator (slice_index old.ahead 1) ≡ true
-    → Along old (bumped old) (λ i j. listing_at old.place i
-    ≡ with_front (listed (token.Word old.place word) j.offset ∷ [])
-    (listing_at (bumped old).place j))
+    → GivesFirst (token.Word old.place word) old (bumped old)
 one_byte-read old first word shown says inner skips long separator =
     InRun-separator old (bumped old) word (first ∷ []) (slice_index (drop 1 old.ahead) 0) says
-    (InRun-first old first (omega (arith, long)) shown inner skips) (grind (arith, length-drop)) refl
-    (ap is_separator next ∙ separator)
-  where
-    next : slice_index (drop 1 old.ahead) 0 ≡ slice_index old.ahead 1
-    next = grind (arith, common_steps)
+    (InRun-first old first (omega (arith, long)) shown inner skips) (grind (arith, length-drop))
+    refl (grind (arith, common_steps))
 
 -- the run is at the end
 pub InRun-end : (old now : Stream) (word : Word) (run : List ℕ) → word ≡ word_of run
     → InRun old now run → now.ahead ≡ [] → now.met ≡ Some End
-    → Along old now (λ i j. listing_at old.place i
-    ≡ with_front (listed (token.Word old.place word) j.offset ∷ []) (listing_at now.place j))
+    → GivesFirst (token.Word old.place word) old now
 InRun-end old now word run says r nothing met = grind (arith, Along-map, listing_at-last_run)
 
 -- a failed read cuts the run
 pub InRun-failed : (old now new : Stream) (run : List ℕ) → InRun old now run → IsLook now new
-    → new.ahead ≡ [] → new.met ≡ Some Failed
-    → Along old new (λ i j. (listing_at old.place i ≡ listing_at new.place j)
-    × ((listing_at old.place i).tokens ≡ []) × ((listing_at old.place i).ending ≡ Failed))
+    → new.ahead ≡ [] → new.met ≡ Some Failed → IsCut old new
 InRun-failed old now new run r look nothing met =
     Along-then old now new _ _ _ r.text (Along-look now new look)
     (grind (arith, listing_at-cut_run))
 
 -- a byte of a comment was taken
-pub comment-bumped : (old now : Stream) (b : ℕ)
-    → Along old now (λ i j. comment_at old.place i ≡ comment_at now.place j) → 0 < length now.ahead
-    → b ≡ slice_index now.ahead 0 → (b == 10) ≡ false
-    → Along old (bumped now) (λ i j. comment_at old.place i ≡ comment_at (bumped now).place j)
+pub comment-bumped : (old now : Stream) (b : ℕ) → InComment old now → 0 < length now.ahead
+    → b ≡ slice_index now.ahead 0 → (b == 10) ≡ false → InComment old (bumped now)
 comment-bumped old now b text some first line =
     Along-then old now (bumped now) _ _ _ text (Along-bumped now b some first) (grind arith)
 
 -- a comment's line feed was taken
-pub comment-done : (old now : Stream) (b : ℕ)
-    → Along old now (λ i j. comment_at old.place i ≡ comment_at now.place j) → 0 < length now.ahead
+pub comment-done : (old now : Stream) (b : ℕ) → InComment old now → 0 < length now.ahead
     → b ≡ slice_index now.ahead 0 → (b == 10) ≡ true
-    → Along old (bumped now) (λ i j. (comment_at old.place i ≡ listing_at (bumped now).place j)
-    × Unit {0})
+    → Along old (bumped now)
+    (λ i j. (comment_at old.place i ≡ listing_at (bumped now).place j) × Unit {0})
 comment-done old now b text some first feed =
     Along-then old now (bumped now) _ _ _ text (Along-bumped now b some first) (grind arith)
 
@@ -187,43 +173,35 @@ Stands-separator old now b s from_one some first h line = record {
 -- a line feed was taken
 pub Stands-feed : (old now : Stream) (b : ℕ) → Stands old now → 0 < length now.ahead
     → b ≡ slice_index now.ahead 0 → (b == 10) ≡ true
-    → Along old (bumped now) (λ i j.
-    listing_at old.place i ≡ with_front (listed (token.LineEnd now.place) j.offset ∷ [])
-    (listing_at (bumped now).place j))
+    → GivesFirst (token.LineEnd now.place) old (bumped now)
 Stands-feed old now b s some first feed =
     let is_feed : b ≡ 10 = grind (arith, nat_tests) in
     Along-then old now (bumped now) _ _ _ s.text (Along-bumped now b some first)
     (grind (arith, listing_at-feed))
 
 -- a comment's first byte was taken
-Stands-c : (old now : Stream) (b : ℕ) → Stands old now → 0 < length now.ahead
-    → b ≡ slice_index now.ahead 0 → (b == 99) ≡ true → (now.place.col == 1) ≡ true
-    → Along old (bumped now) (λ i j. listing_at old.place i ≡ comment_at (bumped now).place j)
-Stands-c old now b s some first is_c start =
-    Along-then old now (bumped now) _ _ _ s.text (Along-bumped now b some first) (grind arith)
+module _ (old now : Stream) (b : ℕ) (s : Stands old now) (some : 0 < length now.ahead)
+    (first : b ≡ slice_index now.ahead 0) (is_c : (b == 99) ≡ true)
+    (start : (now.place.col == 1) ≡ true) (new : Stream) where
+  Stands-c : Along old (bumped now)
+      (λ i j. listing_at old.place i ≡ comment_at (bumped now).place j)
+  Stands-c =
+      Along-then old now (bumped now) _ _ _ s.text (Along-bumped now b some first) (grind arith)
 
--- a comment was taken
-pub Stands-comment : (old now new : Stream) (b : ℕ) (Q : Suffix → Type 0) → Stands old now
-    → 0 < length now.ahead → b ≡ slice_index now.ahead 0 → (b == 99) ≡ true
-    → (now.place.col == 1) ≡ true → Along (bumped now) new
-    (λ i j. (comment_at (bumped now).place i ≡ listing_at new.place j) × Q j)
-    → Along old new (λ i j. listing_at old.place i ≡ listing_at new.place j)
-Stands-comment old now new b Q s some first is_c start comment =
-    Along-then old (bumped now) new _ _ _ (Stands-c old now b s some first is_c start) comment
-    (λ i j k m p q. p ∙ q.0)
+  -- and then the others
+  pub Stands-comment : (Q : Suffix → Type 0) → Along (bumped now) new
+      (λ i j. (comment_at (bumped now).place i ≡ listing_at new.place j) × Q j)
+      → Along old new (λ i j. listing_at old.place i ≡ listing_at new.place j)
+  Stands-comment Q comment =
+      Along-then old (bumped now) new _ _ _ Stands-c comment (λ i j k m p q. p ∙ q.0)
 
--- a comment was taken up to a failed read
-pub Stands-cut : (old now new : Stream) (b : ℕ) (result : Result (Unit {0}) ReadFailed)
-    → Stands old now → 0 < length now.ahead → b ≡ slice_index now.ahead 0 → (b == 99) ≡ true
-    → (now.place.col == 1) ≡ true → Along (bumped now) new
-    (λ i j. (comment_at (bumped now).place i ≡ listing_at new.place j) × FailsAt result j)
-    → IsErr result → Along old new
-    (λ i j. (listing_at old.place i ≡ listing_at new.place j)
-    × ((listing_at old.place i).tokens ≡ []) × ((listing_at old.place i).ending ≡ Failed))
-Stands-cut old now new b (Ok x) s some first is_c start comment err = absurd (cc)
-Stands-cut old now new b (Err x) s some first is_c start comment err =
-    Along-then old (bumped now) new _ _ _ (Stands-c old now b s some first is_c start) comment
-    (grind arith)
+  -- up to a failed read
+  pub Stands-cut : (result : Result (Unit {0}) ReadFailed) → Along (bumped now) new
+      (λ i j. (comment_at (bumped now).place i ≡ listing_at new.place j) × FailsAt result j)
+      → IsErr result → IsCut old new
+  Stands-cut (Ok x) comment err = absurd (cc)
+  Stands-cut (Err x) comment err =
+      Along-then old (bumped now) new _ _ _ Stands-c comment (grind arith)
 
 -- the end
 pub Stands-end : (old now new : Stream) (p : Place) → Stands old now → IsLook now new
@@ -235,44 +213,29 @@ Stands-end old now new p s look nothing met is =
 
 -- a failed read
 pub Stands-failed : (old now new : Stream) → Stands old now → IsLook now new → new.ahead ≡ []
-    → new.met ≡ Some Failed → Along old new
-    (λ i j. (listing_at old.place i ≡ listing_at new.place j)
-    × ((listing_at old.place i).tokens ≡ []) × ((listing_at old.place i).ending ≡ Failed))
+    → new.met ≡ Some Failed → IsCut old new
 Stands-failed old now new s look nothing met =
     Along-then old now new _ _ _ s.text (Along-look now new look) (grind arith)
 
-pub comment-start : (s : Stream) → Along s s (λ i j. comment_at s.place i ≡ comment_at s.place j)
-comment-start s = Along-still s (comment_at s.place)
-
 -- the end of the input, or a failed read, ends a comment
-pub comment-end : (old now new : Stream) (e : Ending)
-    → Along old now (λ i j. comment_at old.place i ≡ comment_at now.place j) → IsLook now new
+pub comment-end : (old now new : Stream) (e : Ending) → InComment old now → IsLook now new
     → new.ahead ≡ [] → new.met ≡ Some e
     → Along old new (λ i j. (comment_at old.place i ≡ listing_at new.place j)
     × (j ≡ suffix j.offset [] e))
 comment-end old now new e text look nothing met =
     Along-then old now new _ _ _ text (Along-look now new look) (grind arith)
 
-pub comment-looked : (old now new : Stream)
-    → Along old now (λ i j. comment_at old.place i ≡ comment_at now.place j) → IsLook now new
-    → Along old new (λ i j. comment_at old.place i ≡ comment_at new.place j)
+pub comment-looked : (old now new : Stream) → InComment old now → IsLook now new → InComment old new
 comment-looked old now new text look =
     Along-then old now new _ _ _ text (Along-look now new look) (grind arith)
 
 -- a word was read
 pub Stands-word : (old now new : Stream) (p : Place) (word : Word) → Stands old now → p ≡ now.place
-    → Along now new (λ i j. listing_at now.place i
-    ≡ with_front (listed (token.Word now.place word) j.offset ∷ []) (listing_at new.place j))
-    → Along old new (λ i j. listing_at old.place i
-    ≡ with_front (listed (token.Word p word) j.offset ∷ []) (listing_at new.place j))
+    → GivesFirst (token.Word now.place word) now new → GivesFirst (token.Word p word) old new
 Stands-word old now new p word s e run = grind (arith, Along-then)
 
 -- a failed read cut the word
-pub Stands-cut_word : (old now new : Stream) → Stands old now
-    → Along now new (λ i j. (listing_at now.place i ≡ listing_at new.place j)
-    × ((listing_at now.place i).tokens ≡ []) × ((listing_at now.place i).ending ≡ Failed))
-    → Along old new (λ i j. (listing_at old.place i ≡ listing_at new.place j)
-    × ((listing_at old.place i).tokens ≡ []) × ((listing_at old.place i).ending ≡ Failed))
+pub Stands-cut_word : (old now new : Stream) → Stands old now → IsCut now new → IsCut old new
 Stands-cut_word old now new s run = grind (arith, Along-then)
 
 -- ---- A number after a space, or after nothing
@@ -280,58 +243,27 @@ Stands-cut_word old now new s run = grind (arith, Along-then)
 pub IsNumberAhead-spaced : (s : Stream) (count : ℕ) (number : Number) → 2 ≤ length s.ahead
     → slice_index s.ahead 0 ≡ 32 → IsWholeNumber (slice_range s.ahead 1 (length s.ahead))
     count number → IsNumberAhead s (1 + count) number
-IsNumberAhead-spaced s count number enough space w = record {
-  enough = enough;
-  whole =
-      let C : Bool → Type 0 = λ v. cond v (IsWholeNumber (drop 1 s.ahead) (1 + count - 1) number)
-      (IsWholeNumber s.ahead (1 + count) number) in
-      subst C (sym (ap (λ b. b == 32) space)) (subst Q (sym same) (subst P rest_is w));
-  some = omega arith;
-}
-  where
-    P : List ℕ → Type 0
-    P xs = IsWholeNumber xs count number
-
-    Q : ℕ → Type 0
-    Q n = IsWholeNumber (drop 1 s.ahead) n number
-
-    same : 1 + count - 1 ≡ count
-    same = omega arith
-
-    rest_is : slice_range s.ahead 1 (length s.ahead) ≡ drop 1 s.ahead
-    rest_is = grind (arith, take_all)
+IsNumberAhead-spaced s count number enough space w =
+    let same : 1 + count - 1 ≡ count = omega arith in
+    let rest_is : slice_range s.ahead 1 (length s.ahead) ≡ drop 1 s.ahead =
+    grind (arith, take_all) in
+    record { enough = enough; whole = rw (space, same) (rw rest_is at w); some = omega arith }
 
 pub spaced-read : (old : Stream) (p : Place) (count : ℕ) (number : Number) → 0 < old.place.col
     → slice_index old.ahead 0 ≡ 32 → IsNumberAhead old count number → p ≡ (bumped old).place
-    → Along old (skipped (count - 1) (bumped old))
-    (λ i j. listing_at old.place i
-    ≡ with_front (listed (token.Word p (words.Number number)) j.offset ∷ [])
-    (listing_at (skipped (count - 1) (bumped old)).place j))
+    → GivesFirst (token.Word p (words.Number number)) old (skipped (count - 1) (bumped old))
 spaced-read old p count number from_one space w here =
+    let whole : IsWholeNumber (drop 1 old.ahead) (count - 1) number = grind arith in
     Stands-word old (bumped old) (skipped (count - 1) (bumped old)) p (words.Number number)
     (grind (arith, Stands-separator, Stands-start)) here
     (whole_number-read (bumped old) (slice_index (drop 1 old.ahead) 0) (count - 1) number
-    (grind arith) refl skips number_is)
-  where
-    number_is : IsWholeNumber (drop 1 old.ahead) (count - 1) number
-    number_is = grind arith
-
-    skips : skips_at (bumped old).place (slice_index (drop 1 old.ahead) 0 ∷ []) ≡ false
-    skips = search rules
+    (grind arith) refl (search rules) whole)
 
 pub at_once-read : (old : Stream) (p : Place) (count : ℕ) (number : Number)
     → (slice_index old.ahead 0 == 32) ≡ false → IsNumberAhead old count number → p ≡ old.place
-    → Along old (skipped count old)
-    (λ i j. listing_at old.place i
-    ≡ with_front (listed (token.Word p (words.Number number)) j.offset ∷ [])
-    (listing_at (skipped count old).place j))
+    → GivesFirst (token.Word p (words.Number number)) old (skipped count old)
 at_once-read old p count number other w here =
+    let enough = w.enough in let whole : IsWholeNumber old.ahead count number = grind arith in
     Stands-word old old (skipped count old) p (words.Number number) (Stands-start old) here
-    (whole_number-read old (slice_index old.ahead 0) count number (let enough = w.enough in
-    omega (arith, enough)) refl skips number_is)
-  where
-    number_is : IsWholeNumber old.ahead count number
-    number_is = grind arith
-
-    skips : skips_at old.place (slice_index old.ahead 0 ∷ []) ≡ false
-    skips = search rules
+    (whole_number-read old (slice_index old.ahead 0) count number (omega arith) refl (search rules)
+    whole)

@@ -1,11 +1,10 @@
 -- Lists as the sets of their literals.
-use Rattle.std.proofs.Common.{◌≡◌, ◌≢◌, Bool, true, false, cond, eqb, List, [], ◌∷◌, ◌++◌, filter}
-use Rattle.std.proofs.Common.{refl, sym, ap, ◌∙◌, inl, inr, ◌⊎◌, eq-eqb, arith}
-use Rattle.std.proofs.lemmas.Bool.{false≢true, or_cases, or_left, or_right, and_parts, and_from}
-use Rattle.std.specs.List.{list_any, list_all}
+use Rattle.std.proofs.Common.{◌≡◌, ◌≢◌, ◌==◌, Bool, true, false, eqb, List, [], ◌∷◌, ◌++◌, filter}
+use Rattle.std.proofs.Common.{refl, inl, inr, ◌⊎◌, eq-eqb, arith}
+use Rattle.std.proofs.lemmas.Bool.{false≢true, or_cases, or_left, or_right, and_from}
+use Rattle.std.{proofs.lemmas.List.Folds.list_any-append, specs.List.list_any, specs.List.list_all}
 use Rattle.cnf_base.specs.Literals.{Literal, complement, Clause, has, complements, without}
-use Rattle.cnf_base.specs.Literals.{same_clause}
-use Rattle.cnf_base.proofs.LiteralLemmas.{complement-complement}
+use Rattle.cnf_base.{specs.Literals.same_clause, proofs.LiteralLemmas.complement-complement}
 
 -- two tests that pass together are equal
 pub both_pass : (a b : Bool) → (a ≡ true → b ≡ true) → (b ≡ true → a ≡ true) → a ≡ b
@@ -26,12 +25,8 @@ module _ (p : Literal → Bool) where
   -- a test of some member, and of each
   pub any_from : (ls : List Literal) (l : Literal) → has ls l ≡ true → p l ≡ true
       → list_any p ls ≡ true
-  any_from [] l h q = absurd (false≢true h)
-  any_from (k ∷ ls) l h q =
-      elim (has_cases k ls l h) [
-        | inl e ↦ or_left (p k) (list_any p ls) (ap p e ∙ q)
-        | inr g ↦ or_right (p k) (list_any p ls) (any_from ls l g q)
-      ]
+  any_from [] l h q = absurd (cc)
+  any_from (k ∷ ls) l h q = let later = any_from ls l in grind arith
 
   pub any_some : (ls : List Literal) → list_any p ls ≡ true → (l : Literal) × (has ls l ≡ true)
       × (p l ≡ true)
@@ -48,80 +43,47 @@ module _ (p : Literal → Bool) where
 
   pub all_each : (ls : List Literal) (l : Literal) → list_all p ls ≡ true → has ls l ≡ true
       → p l ≡ true
-  all_each [] l all h = absurd (false≢true h)
-  all_each (k ∷ ls) l all h =
-      let parts = and_parts (p k) (list_all p ls) all in
-      elim (has_cases k ls l h) [ inl e ↦ sym (ap p e) ∙ parts.0 | inr g ↦ all_each ls l parts.1 g ]
+  all_each [] l all h = absurd (cc)
+  all_each (k ∷ ls) l all h = let later = all_each ls l in grind arith
 
   pub each_all : (ls : List Literal) → ((l : Literal) → has ls l ≡ true → p l ≡ true)
       → list_all p ls ≡ true
   each_all [] each = refl
-  each_all (k ∷ ls) each = and_from (p k) (list_all p ls) (each k (has_head k ls)) (each_all ls (λ l h. each l (has_tail k ls l h)))
+  each_all (k ∷ ls) each =
+      and_from _ _ (each k (has_head k ls)) (each_all ls (λ l h. each l (has_tail k ls l h)))
 
   pub has-filter : (ls : List Literal) (l : Literal) → has ls l ≡ true → p l ≡ true
       → has (filter p ls) l ≡ true
   has-filter [] l h q = h
-  has-filter (k ∷ ls) l h q =
-      elim (p k) as (λ b. p k ≡ b → has (cond b (k ∷ filter p ls) (filter p ls)) l ≡ true) [
-        | true ↦ λ pk. elim (has_cases k ls l h) [
-          | inl e ↦ or_left (eqb k l) _ (eq-eqb k l e)
-          | inr g ↦ has_tail k (filter p ls) l (has-filter ls l g q)
-        ]
-        | false ↦ λ pk. elim (has_cases k ls l h) [
-          | inl e ↦ absurd (false≢true (sym pk ∙ ap p e ∙ q))
-          | inr g ↦ has-filter ls l g q
-        ]
-      ] refl
+  has-filter (k ∷ ls) l h q = let later = has-filter ls l in grind arith
 
   pub filter_has : (ls : List Literal) (l : Literal) → has (filter p ls) l ≡ true
       → (has ls l ≡ true) × (p l ≡ true)
-  filter_has [] l h = absurd (false≢true h)
-  filter_has (k ∷ ls) l has_it =
-      elim (p k) as (λ b. p k ≡ b → has (cond b (k ∷ filter p ls) (filter p ls)) l ≡ true → (has (k ∷ ls) l ≡ true) × (p l ≡ true)) [
-        | true ↦ λ pk h. elim (has_cases k (filter p ls) l h) [
-          | inl e ↦ (or_left (eqb k l) (has ls l) (eq-eqb k l e), sym (ap p e) ∙ pk)
-          | inr g ↦ let w = filter_has ls l g in (has_tail k ls l w.0, w.1)
-        ]
-        | false ↦ λ pk h. let w = filter_has ls l h in (has_tail k ls l w.0, w.1)
-      ] refl has_it
+  filter_has [] l h = absurd (cc)
+  filter_has (k ∷ ls) l h = let later = filter_has ls l in grind arith
 
 pub has_append_left : (xs ys : List Literal) (l : Literal) → has xs l ≡ true
     → has (xs ++ ys) l ≡ true
-has_append_left [] ys l h = absurd (false≢true h)
-has_append_left (x ∷ xs) ys l h =
-    elim (has_cases x xs l h) [ inl e ↦ or_left (eqb x l) _ (eq-eqb x l e) | inr g ↦ has_tail x (xs ++ ys) l (has_append_left xs ys l g) ]
+has_append_left xs ys l h = cc (list_any-append (λ k. k == l) xs ys)
 
 pub has_append_right : (xs ys : List Literal) (l : Literal) → has ys l ≡ true
     → has (xs ++ ys) l ≡ true
-has_append_right [] ys l h = h
-has_append_right (x ∷ xs) ys l h = has_tail x (xs ++ ys) l (has_append_right xs ys l h)
+has_append_right xs ys l h = grind (arith, list_any-append (λ k. k == l) xs ys)
 
 pub has_append_cases : (xs ys : List Literal) (l : Literal) → has (xs ++ ys) l ≡ true
     → (has xs l ≡ true) ⊎ (has ys l ≡ true)
-has_append_cases [] ys l h = inr h
-has_append_cases (x ∷ xs) ys l h =
-    elim (has_cases x (xs ++ ys) l h) [
-      | inl e ↦ inl (or_left (eqb x l) _ (eq-eqb x l e))
-      | inr g ↦ elim (has_append_cases xs ys l g) [ inl i ↦ inl (has_tail x xs l i) | inr i ↦ inr i ]
-    ]
+has_append_cases xs ys l h = grind (arith, list_any-append (λ k. k == l) xs ys)
 
 pub has-complements : (ls : List Literal) (l : Literal) → has ls l ≡ true
     → has (complements ls) (complement l) ≡ true
 has-complements [] l h = h
-has-complements (k ∷ ls) l h =
-    elim (has_cases k ls l h) [
-      | inl e ↦ or_left (eqb (complement k) (complement l)) _ (eq-eqb _ _ (ap complement e))
-      | inr g ↦ has_tail (complement k) (complements ls) (complement l) (has-complements ls l g)
-    ]
+has-complements (k ∷ ls) l h = let later = has-complements ls l in grind arith
 
 pub complements_has : (ls : List Literal) (l : Literal) → has (complements ls) l ≡ true
     → has ls (complement l) ≡ true
 complements_has [] l h = h
 complements_has (k ∷ ls) l h =
-    elim (has_cases (complement k) (complements ls) l h) [
-      | inl e ↦ or_left (eqb k (complement l)) _ (eq-eqb k _ (sym (complement-complement k) ∙ ap complement e))
-      | inr g ↦ has_tail k ls (complement l) (complements_has ls l g)
-    ]
+    let later = complements_has ls l in grind (arith, complement-complement)
 
 pub has-without : (ls : List Literal) (m l : Literal) → has ls l ≡ true → l ≢ m
     → has (without ls m) l ≡ true

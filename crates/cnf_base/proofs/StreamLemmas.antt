@@ -1,28 +1,20 @@
 -- What may still come of an input, from one moment to the next.
 use Rattle.std.proofs.Common.{◌≡◌, ℕ, ◌+◌, ◌-◌, ◌<◌, ◌≤◌, suc, List, [], ◌∷◌, ◌++◌, length, take}
 use Rattle.std.proofs.Common.{drop, Option, None, Some, refl, sym, ap, ◌∙◌, append_assoc}
-use Rattle.std.proofs.Common.{append-nil, length-append, length-drop, arith, rules}
-use Rattle.std.specs.Prelude.{slice_range, slice_index}
+use Rattle.std.proofs.Common.{append-nil, length-append, length-drop, arith, rules, slice_range}
+use Rattle.std.proofs.Common.{slice_index, drop-drop, take-append-drop}
 use Rattle.std.specs.Io.KnownBytes.{Consumes, Keeps}
 use Rattle.std.proofs.KnownBytes.{Consumes-nil, Consumes-kept}
-use Rattle.std.proofs.lemmas.Grind.{common_steps}
-use Rattle.std.proofs.lemmas.List.{drop-drop, drop-take, take-append-drop}
+use Rattle.std.proofs.{lemmas.Grind.common_steps, lemmas.List.drop-take}
 use Rattle.cnf_base.specs.Stream.{Input, Suffix, suffix, from_offset, preceded, Reader, Stream}
 use Rattle.cnf_base.specs.Stream.{MayGive, MayFollow, MayCome, Meets, Moves, Along, IsLook}
 use Rattle.cnf_base.specs.Stream.{IsSilent, bumped, bytes_read, most_to_come, skipped}
-use Rattle.cnf_base.specs.declared.input.Ending.{Ending}
-use Rattle.cnf_base.specs.declared.input.Ending.TheVariants.{End}
+use Rattle.cnf_base.specs.{declared.input.Ending.Ending, declared.input.Ending.TheVariants.End}
 
 -- what may be given after these bytes were read may be given with them in front
 pub MayGive-read : (left left' : Option (List ℕ)) (read later : List ℕ) (ending : Ending)
     → Consumes left left' read → MayGive left' later ending → MayGive left (read ++ later) ending
 MayGive-read left left' read later ending c m = grind (arith, append_assoc)
-
-pub slice_range-front : (n : ℕ) (piece : List ℕ) → slice_range piece 0 n ≡ take n piece
-slice_range-front n piece = grind (arith, common_steps)
-
-pub slice_range-same : (at : ℕ) (piece : List ℕ) → slice_range piece at at ≡ []
-slice_range-same at piece = grind (arith, common_steps)
 
 -- past the first bytes of what is ahead
 pub slice_range-skipped : (at end n : ℕ) (piece : List ℕ) → n ≤ end - at
@@ -31,7 +23,8 @@ slice_range-skipped at end n piece most =
     grind (arith, drop-drop n at piece, drop-take n (end - (at + n)) (drop at piece))
 
 -- a piece of which nothing is ahead is used up
-pub used_up : (at end : ℕ) (piece : List ℕ) → at ≤ end → end ≤ length piece → slice_range piece at end ≡ [] → at ≡ end
+pub used_up : (at end : ℕ) (piece : List ℕ) → at ≤ end → end ≤ length piece
+    → slice_range piece at end ≡ [] → at ≡ end
 used_up at end piece ordered within nothing =
     let len : length (slice_range piece at end) ≡ end - at = grind (arith, common_steps) in
     omega (arith, sym len ∙ ap length nothing)
@@ -40,7 +33,7 @@ used_up at end piece ordered within nothing =
 pub still_nothing : (at end : ℕ) (piece other : List ℕ) → at ≤ end → end ≤ length piece
     → slice_range piece at end ≡ [] → slice_range other at end ≡ []
 still_nothing at end piece other ordered within nothing =
-    cc (used_up at end piece ordered within nothing, slice_range-same at other)
+    let same = used_up at end piece ordered within nothing in grind (arith, common_steps)
 
 -- ---- What was read and taken
 
@@ -71,11 +64,6 @@ pub MayCome-before : (old new : Stream) (bytes taken : List ℕ) → Moves old n
     → MayCome old (from_offset n (preceded taken j))
 MayCome-before old new bytes taken m n k j f = grind (arith, append_assoc, MayGive-read, append-nil)
 
-pub Along-before : (old new : Stream) (P : Suffix → Suffix → Type 0) → (run : Along old new P)
-    → (n k : ℕ) (j : Input) → MayCome new (from_offset k j)
-    → MayCome old (from_offset n (preceded run.taken j))
-Along-before old new P run n k j m = MayCome-before old new run.bytes run.taken run.moves n k j m
-
 -- ---- Two parts of what comes
 
 -- the first is these bytes, and then the second
@@ -102,9 +90,6 @@ pub Splits-byte : (i : Suffix) (b : ℕ) (j : Suffix) → Splits i (b ∷ []) j
     → suffix (suc i.offset) j.bytes j.ending ≡ j
 Splits-byte i b j s = grind arith
 
-pub Splits-none : (i j : Suffix) → Splits i [] j → i ≡ j
-Splits-none i j s = grind arith
-
 pub Splits-then : (i : Suffix) (taken : List ℕ) (j : Suffix) (others : List ℕ) (k : Suffix)
     → Splits i taken j → Splits j others k → Splits i (taken ++ others) k
 Splits-then i taken j others k p q = grind (arith, append_assoc, length-append)
@@ -128,38 +113,33 @@ Along-then a b c P Q R first second joined = record {
   bytes = first.bytes ++ second.bytes;
   taken = first.taken ++ second.taken;
   moves = search (rules, Moves-then);
-  fact = λ n k m. let at : ℕ = n + length first.taken in let end : ℕ = at + length second.taken in
-      let j : Input = preceded second.taken k in
-      grind (
-        arith,
-        append_assoc first.taken second.taken k.bytes,
-        offsets n,
-        joined (from_offset n (preceded first.taken j)) (from_offset at j) (from_offset end k) m
-            (first.fact n j (Along-before b c Q second at end k m)) (second.fact at k m),
-      );
+  fact = λ n k m.
+      let at : ℕ = n + length first.taken in let j : Input = preceded second.taken k in
+      let later = MayCome-before b c _ _ second.moves at (at + length second.taken) k m in
+      let both = joined (from_offset n (preceded first.taken j)) (from_offset at j) (from_offset
+      (at + length second.taken) k) m (first.fact n j later) (second.fact at k m) in
+      grind (arith, append_assoc first.taken second.taken k.bytes, length-append);
 }
-  where
-    offsets : (n : ℕ) → (n + length first.taken) + length second.taken
-        ≡ n + length (first.taken ++ second.taken)
-    offsets n = grind (arith, length-append)
 
--- A run that began with no more than 65536 bytes ahead has read no more than so many past what it took.
+-- A run that began with no more than 65536 bytes ahead has read no more than so many past what it
+-- took.
 pub Along-within : (old new : Stream) (P : Suffix → Suffix → Type 0) → length old.ahead ≤ 65536
     → Along old new P → Along old new
     (λ i j. P i j × (bytes_read old.reader new.reader + i.offset ≤ j.offset + 65536))
-Along-within old new P few run = record {
-  bytes = run.bytes;
-  taken = run.taken;
-  moves = run.moves;
-  fact = λ n j m. (run.fact n j m, within n);
-}
-  where
-    within : (n : ℕ) → bytes_read old.reader new.reader + n ≤ n + length run.taken + 65536
-    within n = grind (arith, length-append old.ahead run.bytes, length-append run.taken new.ahead)
+Along-within old new P few run =
+    let read = length-append old.ahead run.bytes in let given = length-append run.taken new.ahead in
+    record {
+      bytes = run.bytes;
+      taken = run.taken;
+      moves = run.moves;
+      fact = λ n j m. (run.fact n j m, grind arith);
+    }
 
 -- a run of no call at all
 pub Along-none : (s : Stream) → Along s s (λ i j. i ≡ j)
-Along-none s = record { bytes = []; taken = []; moves = Moves-nothing s; fact = λ n j m. Splits-none _ _ (Splits-run n [] j) }
+Along-none s =
+    let nothing = Moves-nothing s in
+    record { bytes = []; taken = []; moves = nothing; fact = grind arith }
 
 -- what is made of an input stays where nothing is taken
 pub Along-still : {A : Type 0} (s : Stream) (f : Suffix → A) → Along s s (λ i j. f i ≡ f j)
@@ -182,12 +162,12 @@ Consumes-failed left new kept = Consumes-kept left left new [] (Consumes-nil lef
 -- the byte that was shown is the input's first
 pub shown_byte : (s : Stream) (b : ℕ) (j : Suffix) → 0 < length s.ahead → b ≡ slice_index s.ahead 0
     → MayCome s j → (rest : List ℕ) × (j ≡ suffix j.offset (b ∷ rest) j.ending)
-shown_byte s b j some first m = by s.met m
-  where
-    by : (met : Option Ending) → MayFollow met s.reader.left s.ahead j.bytes j.ending
-        → (rest : List ℕ) × (j ≡ suffix j.offset (b ∷ rest) j.ending)
-    by (Some e) m = (drop 1 s.ahead, grind arith)
-    by None m = (drop 1 s.ahead ++ m.0, grind arith)
+shown_byte s b j some first m =
+    elim s.met as (λ met. MayFollow met s.reader.left s.ahead j.bytes j.ending
+    → (rest : List ℕ) × (j ≡ suffix j.offset (b ∷ rest) j.ending)) [
+      | Some e ↦ λ m. (drop 1 s.ahead, grind arith)
+      | None ↦ λ m. (drop 1 s.ahead ++ m.0, grind arith)
+    ] m
 
 -- the end that was shown is the input's
 pub shown_end : (s : Stream) (e : Ending) (j : Suffix) → s.ahead ≡ [] → s.met ≡ Some e → MayCome s j

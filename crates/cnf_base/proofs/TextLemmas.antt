@@ -1,24 +1,19 @@
 -- A text's listing, byte by byte and run by run.
 use Rattle.std.proofs.Common.{◌≡◌, ℕ, ◌+◌, ◌<◌, ◌==◌, ◌&&◌, cond, Bool, true, false, List, [], ◌∷◌}
-use Rattle.std.proofs.Common.{◌++◌, length, take, zero, suc, not, refl, ap, arith}
-use Rattle.std.specs.Prelude.{slice_index}
+use Rattle.std.proofs.Common.{◌++◌, length, take, zero, suc, not, refl, ap, append-nil, arith}
 use Rattle.std.specs.List.{slice_split, onto_first, list_all}
-use Rattle.std.proofs.lemmas.Bool.{and_parts}
+use Rattle.std.proofs.{Common.slice_index, lemmas.Bool.Decides.nat_tests}
 use Rattle.cnf_base.specs.Stream.{more_count, suffix}
-use Rattle.std.proofs.lemmas.Bool.Decides.{nat_tests}
-use Rattle.cnf_base.specs.Words.{word_of}
 use Rattle.cnf_base.specs.Text.{is_separator, Spot, spot, one_on, next_line, along, Listed}
 use Rattle.cnf_base.specs.Text.{words_of, but_last, is_comment, line_tokens, last_tokens}
 use Rattle.cnf_base.specs.Text.{with_front, lines_listing, lines_of, skips_at, listing_at}
 use Rattle.cnf_base.specs.Code.Text.{col_after, line_after, listed, col_along}
-use Rattle.cnf_base.specs.declared.input.Ending.{Ending}
 use Rattle.cnf_base.specs.declared.input.Ending.TheVariants.{End, Failed}
-use Rattle.cnf_base.specs.declared.place.Place.{Place}
+use Rattle.cnf_base.specs.{Words.word_of, declared.input.Ending.Ending, declared.place.Place.Place}
 use Rattle.cnf_base.specs.declared.token.Token.TheVariants as token
 
 pub append_nil : (xs : List ℕ) → xs ++ [] ≡ xs
-append_nil [] = refl
-append_nil (x ∷ xs) = ap (λ t. x ∷ t) (append_nil xs)
+append_nil xs = append-nil xs
 
 -- each byte passes the test
 pub data Each (p : ℕ → Bool) : List ℕ → Type 0 where
@@ -32,24 +27,19 @@ Each-append p (x ∷ xs) b (more _ _ k e) h = more x (xs ++ b ∷ []) k (Each-ap
 
 pub Each-all : (p : ℕ → Bool) (xs : List ℕ) → list_all (λ x. not (p x)) xs ≡ true → Each p xs
 Each-all p [] h = none
-Each-all p (x ∷ xs) h =
-    let both = and_parts _ _ h in more x xs (not_true (p x) both.0) (Each-all p xs both.1)
-  where
-    not_true : (b : Bool) → not b ≡ true → b ≡ false
-    not_true true h = cc
-    not_true false h = refl
+Each-all p (x ∷ xs) h = let later = Each-all p xs in grind (arith, more)
 
 -- a list that is cut has a first part
 pub first_part : (p : ℕ → Bool) (xs : List ℕ) → (first : List ℕ) × (rest : List (List ℕ))
     × (slice_split p xs ≡ first ∷ rest)
 first_part p [] = ([], [], refl)
-first_part p (x ∷ xs) = by (p x) (first_part p xs)
-  where
-    by : (v : Bool) → (first : List ℕ) × (rest : List (List ℕ)) × (slice_split p xs ≡ first ∷ rest)
-        → (first : List ℕ) × (rest : List (List ℕ))
-        × (cond v ([] ∷ slice_split p xs) (onto_first x (slice_split p xs)) ≡ first ∷ rest)
-    by true f = ([], slice_split p xs, refl)
-    by false f = (x ∷ f.0, f.1, ap (onto_first x) f.2)
+first_part p (x ∷ xs) =
+    let f = first_part p xs in
+    elim (p x) as (λ v. (first : List ℕ) × (rest : List (List ℕ))
+    × (cond v ([] ∷ slice_split p xs) (onto_first x (slice_split p xs)) ≡ first ∷ rest)) [
+      | true ↦ ([], slice_split p xs, refl)
+      | false ↦ (x ∷ f.0, f.1, ap (onto_first x) f.2)
+    ]
 
 -- bytes that don't cut come to the first part
 pub split-append : (p : ℕ → Bool) (xs ys first : List ℕ) (rest : List (List ℕ)) → Each p xs
@@ -59,9 +49,6 @@ split-append p (x ∷ xs) ys first rest (more _ _ k e) h = cc (split-append p xs
 
 pub and_false : (b : Bool) → (b && false) ≡ false
 and_false b = grind arith
-
-pub no_comment : (b : ℕ) → is_separator b ≡ true → (b == 99) ≡ false
-no_comment b h = grind (arith, nat_tests)
 
 pub no_feed : (b : ℕ) → is_separator b ≡ false → (b == 10) ≡ false
 no_feed b h = grind (arith, nat_tests)
@@ -105,23 +92,13 @@ pub listing_at-feed : (p : Place) (n : ℕ) (bs : List ℕ) (ending : Ending)
     ≡ with_front (listed (token.LineEnd p) (suc n) ∷ [])
     (listing_at (line_after p) (suffix (suc n) bs ending))
 listing_at-feed p n bs ending =
-    cc (
-      and_false (p.col == 1),
-      lines_listing-feed false (spot p n) (line_after p) (suc n)
-          [] bs ending refl refl,
-    )
+    let feed = lines_listing-feed false (spot p n) (line_after p) (suc n) [] bs ending refl refl in
+    cc (and_false (p.col == 1))
 
 -- the end
 pub listing_at-end : (p : Place) (n : ℕ) (ending : Ending)
     → listing_at p (suffix n [] ending) ≡ record { tokens = []; end = p; ending = ending }
 listing_at-end p n ending = grind arith
-
--- a comment's bytes
-skipped : (s : Spot) (b : ℕ) (line : List ℕ) (rest : List (List ℕ)) (ending : Ending)
-    → lines_listing true s ((b ∷ line) ∷ rest) ending
-    ≡ lines_listing true (one_on s) (line ∷ rest) ending
-skipped s b line [] ending = refl
-skipped s b line (next ∷ rest) ending = refl
 
 -- the column goes on by the bytes
 pub col_along-length : (p : Place) (run : List ℕ) → 0 < length run
@@ -192,16 +169,11 @@ lines_listing-run s p run line parts [] ending r cut counts =
         cc (split-append is_separator run line [] parts r.each cut, words_of-run s run parts r.some)
     last Failed [] cut counts = grind arith
     last Failed (part ∷ parts) cut counts =
-        cc (
-          split-append is_separator run line [] (part ∷ parts) r.each cut,
-          words_of-run s run (but_last (part ∷ parts)) r.some,
-        )
+        let split = split-append is_separator run line [] (part ∷ parts) r.each cut in
+        cc (words_of-run s run (but_last (part ∷ parts)) r.some)
 lines_listing-run s p run line parts (next ∷ rest) ending r cut counts =
-    cc (
-      split-append is_separator run line [] parts r.each cut,
-      words_of-run s run parts r.some,
-      along-append s run line,
-    )
+    let split = split-append is_separator run line [] parts r.each cut in
+    cc (words_of-run s run parts r.some, along-append s run line)
 
 -- a run that a separator follows
 pub listing_at-run : (p : Place) (n : ℕ) (run : List ℕ) (b : ℕ) (bs : List ℕ) (ending : Ending)
@@ -212,27 +184,23 @@ pub listing_at-run : (p : Place) (n : ℕ) (run : List ℕ) (b : ℕ) (bs : List
 listing_at-run p n run b bs ending r h =
     grind (arith, by (b == 10) refl, along-spot p n run, separator_skips (col_along p run) b bs h)
   where
-    start : Spot
-    start = spot p n
-
     by : (v : Bool) → (b == 10) ≡ v
-        → lines_listing false start (lines_of (run ++ b ∷ bs)) ending
-        ≡ with_front (token_of start run ∷ [])
-        (lines_listing false (along start run) (lines_of (b ∷ bs)) ending)
-    by true feed =
-        let cut : lines_of (b ∷ bs) ≡ [] ∷ lines_of bs = cc in
-        let f = first_part (λ x. x == 10) bs in
+        → lines_listing false (spot p n) (lines_of (run ++ b ∷ bs)) ending
+        ≡ with_front (token_of (spot p n) run ∷ [])
+        (lines_listing false (along (spot p n) run) (lines_of (b ∷ bs)) ending)
+    by true line =
+        let f = first_part (λ x. x == 10) bs in let feed = Each-feed run r.each in
         let some : (lines_of bs ≡ []) × ([] ≡ []) → ending ≡ End = grind arith in
-        cc (
-          split-append (λ x. x == 10) run (b ∷ bs) [] (lines_of bs) (Each-feed run r.each) cut,
-          lines_listing-run start p run [] [] (lines_of bs) ending r refl some,
-        )
+        let cut : lines_of (b ∷ bs) ≡ [] ∷ lines_of bs = cc in
+        let split = split-append (λ x. x == 10) run (b ∷ bs) [] (lines_of bs) feed cut in
+        cc (lines_listing-run (spot p n) p run [] [] (lines_of bs) ending r refl some)
     by false line =
-        let f = first_part (λ x. x == 10) bs in
-        let cut = lines_of-cons b bs f.0 f.1 line f.2 in
-        let g = first_part is_separator f.0 in
-        let some : (f.1 ≡ []) × (slice_split is_separator f.0 ≡ []) → ending ≡ End = grind arith in
-        cc (split-append (λ x. x == 10) run (b ∷ bs) (b ∷ f.0) f.1 (Each-feed run r.each) cut, lines_listing-run start p run (b ∷ f.0) (slice_split is_separator f.0) f.1 ending r (ap (λ v. cond v ([] ∷ slice_split is_separator f.0) (onto_first b (slice_split is_separator f.0))) h) some)
+        let f = first_part (λ x. x == 10) bs in let g = first_part is_separator f.0 in
+        let cut = lines_of-cons b bs f.0 f.1 line f.2 in let feed = Each-feed run r.each in
+        let split = split-append (λ x. x == 10) run (b ∷ bs) (b ∷ f.0) f.1 feed cut in
+        let parts = slice_split is_separator f.0 in
+        let words : slice_split is_separator (b ∷ f.0) ≡ [] ∷ parts = cc in
+        cc (lines_listing-run (spot p n) p run (b ∷ f.0) parts f.1 ending r words (grind arith))
 
 -- a run at the end
 pub listing_at-last_run : (p : Place) (n : ℕ) (run : List ℕ) → IsRun p run
@@ -240,17 +208,17 @@ pub listing_at-last_run : (p : Place) (n : ℕ) (run : List ℕ) → IsRun p run
     ≡ with_front (listed (token.Word p (word_of run)) (n + length run) ∷ [])
     (listing_at (col_along p run) (suffix (n + length run) [] End))
 listing_at-last_run p n run r =
-    cc (skips_at-append p run [] r.some, split-append (λ x. x == 10) run [] [] [] (Each-feed run r.each) refl, lines_listing-run start p run [] [] [] End r refl (λ _. refl), along-spot p n run, listing_at-end (col_along p run) (n + length run) End)
-  where
-    start : Spot
-    start = spot p n
+    let skips = skips_at-append p run [] r.some in let past = along-spot p n run in
+    let lines = split-append (λ x. x == 10) run [] [] [] (Each-feed run r.each) refl in
+    let first = lines_listing-run (spot p n) p run [] [] [] End r refl (λ _. refl) in
+    cc (listing_at-end (col_along p run) (n + length run) End)
 
 -- a run that touches a failed read
 pub listing_at-cut_run : (p : Place) (n : ℕ) (run : List ℕ) → IsRun p run
     → listing_at p (suffix n (run ++ []) Failed)
     ≡ listing_at (col_along p run) (suffix (n + length run) [] Failed)
 listing_at-cut_run p n run r =
-    cc (skips_at-append p run [] r.some, split-append (λ x. x == 10) run [] [] [] (Each-feed run r.each) refl, split-append is_separator run [] [] [] r.each refl, along-append start run [], along-spot p n run, listing_at-end (col_along p run) (n + length run) Failed)
-  where
-    start : Spot
-    start = spot p n
+    let skips = skips_at-append p run [] r.some in let past = along-spot p n run in
+    let lines = split-append (λ x. x == 10) run [] [] [] (Each-feed run r.each) refl in
+    let words = split-append is_separator run [] [] [] r.each refl in
+    cc (along-append (spot p n) run [], listing_at-end (col_along p run) (n + length run) Failed)

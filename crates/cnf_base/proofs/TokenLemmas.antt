@@ -1,11 +1,8 @@
 -- The token that a call gave.
-use Rattle.std.proofs.Common.{◌≡◌, [], arith}
-use Rattle.std.specs.Prelude.{Result, IsErr}
-use Rattle.cnf_base.specs.Stream.{Stream, Along}
-use Rattle.cnf_base.specs.Text.{listing_at, Gives}
-use Rattle.cnf_base.specs.declared.input.Ending.TheVariants.{Failed}
-use Rattle.cnf_base.specs.declared.input.ReadFailed.{ReadFailed}
-use Rattle.cnf_base.specs.declared.token.Token.{Token}
+use Rattle.std.proofs.Common.{◌≡◌, [], arith, Result, IsErr}
+use Rattle.cnf_base.specs.{declared.input.Ending.TheVariants.Failed, declared.token.Token.Token}
+use Rattle.cnf_base.specs.{Stream.Stream, Text.listing_at, declared.input.ReadFailed.ReadFailed}
+use Rattle.cnf_base.specs.{Stream.Along, Text.Gives}
 
 -- by its pattern
 pub told : (now new : Stream) (result token : Result Token ReadFailed)

@@ -1,11 +1,9 @@
 -- Walks over a list of literals: what is so of those so far, through one more.
 use Rattle.std.proofs.Common.{◌≡◌, ℕ, ◌+◌, ◌<◌, ◌||◌, true, eqb, [], ◌∷◌, ◌++◌, arith, length, take}
-use Rattle.std.proofs.Common.{drop, get_or}
-use Rattle.std.proofs.lemmas.List.{take_more, take-append-drop}
-use Rattle.cnf_base.specs.Literals.{Literal, Clause, has}
+use Rattle.std.proofs.{Common.drop, Common.get_or, Common.take-append-drop, lemmas.List.take_more}
 use Rattle.cnf_base.proofs.SetLemmas.{both_pass, has_append_left, has_append_right}
-use Rattle.cnf_base.proofs.SetLemmas.{has_append_cases}
-use Rattle.cnf_base.proofs.SizeLemmas.{has_at}
+use Rattle.cnf_base.specs.{Literals.Literal, Literals.Clause, Literals.has}
+use Rattle.cnf_base.proofs.{SetLemmas.has_append_cases, SizeLemmas.has_at}
 
 -- ---- One more literal at the end
 

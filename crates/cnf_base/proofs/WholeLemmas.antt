@@ -1,24 +1,74 @@
 -- Numbers that stand whole among bytes.
 use Rattle.std.proofs.Common.{◌≡◌, ℕ, zero, suc, ◌+◌, ◌^◌, ◌<◌, ◌≤◌, ◌==◌, Bool, true, false, List}
 use Rattle.std.proofs.Common.{[], ◌∷◌, length, take, drop, refl, sym, ap, arith, add-one}
-use Rattle.std.specs.Prelude.{slice_index, slice_range}
-use Rattle.std.proofs.Math.Seq.{take-length, take-add}
-use Rattle.std.specs.Int.{from_bool}
-use Rattle.std.specs.List.{list_all}
-use Rattle.std.proofs.lemmas.Bool.{and_parts, eqb-true}
-use Rattle.std.proofs.lemmas.List.{get_or-drop, length-drop}
-use Rattle.std.proofs.lemmas.List.Folds.{list_all-append}
-use Rattle.std.proofs.lemmas.List.Sums.{fold-append}
-use Rattle.cnf_base.specs.Words.{is_digit, number}
-use Rattle.cnf_base.specs.Code.Digits.{decimal_after, digits_word, AreDigits}
+use Rattle.std.proofs.Common.{slice_index, slice_range, take-add, eqb-true, get_or-drop}
+use Rattle.std.proofs.Common.{length-drop, ◌-◌, ◌*◌, ◌&&◌, min, ◌++◌, length-append, rules}
+use Rattle.std.proofs.{lemmas.Bool.Decides.nat_tests, lemmas.List.Folds.list_all-append}
+use Rattle.std.proofs.{Math.Seq.take-length, lemmas.List.Sums.fold-append, lemmas.Bool.and_parts}
+use Rattle.std.specs.{Int.from_bool, List.list_all}
+use Rattle.cnf_base.specs.Code.Digits.{decimal_after, digits_word, AreDigits, with_byte}
+use Rattle.cnf_base.specs.Code.Digits.{begins_number, first_digits, Spells, negative, positive}
 use Rattle.cnf_base.specs.Ahead.{is_inner, IsEnded, IsWholeNumber}
-use Rattle.cnf_base.specs.Code.Eight.{unsigned}
-use Rattle.cnf_base.specs.Code.Whole.{GoOn}
-use Rattle.cnf_base.specs.declared.scanner.digits.Digits.{Digits}
-use Rattle.cnf_base.specs.declared.scanner.digits.Digits.TheVariants.{Counting}
-use Rattle.cnf_base.specs.declared.word.Number.{Number}
+use Rattle.cnf_base.specs.declared.scanner.digits.Digits.TheVariants.{Counting, Nothing, Zero}
+use Rattle.cnf_base.specs.Words.{is_digit, number, is_counting, size_of, fixed_word, word_of}
+use Rattle.cnf_base.specs.{declared.scanner.digits.Digits.TheVariants.NoNumber, Code.Eight.unsigned}
+use Rattle.cnf_base.specs.{declared.scanner.digits.Digits.Digits, declared.word.Number.Number}
+use Rattle.cnf_base.specs.{Code.Digits.IsName, Code.Whole.GoOn, declared.word.Word.Word}
 use Rattle.cnf_base.specs.declared.word.Word.TheVariants as words
-use Rattle.cnf_base.proofs.WordLemmas.{negative_word}
+
+-- ---- What a run says, byte by byte
+
+all-last : (ds : List ℕ) (b : ℕ)
+    → list_all is_digit (ds ++ b ∷ []) ≡ (list_all is_digit ds && is_digit b)
+all-last ds b = grind (arith, list_all-append is_digit ds (b ∷ []))
+
+counting-last : (d : ℕ) (ds : List ℕ) (b : ℕ)
+    → is_counting ((d ∷ ds) ++ b ∷ []) ≡ (is_counting (d ∷ ds) && is_digit b)
+counting-last d ds b = grind (arith, all-last)
+
+size-last : (ds : List ℕ) (b : ℕ)
+    → size_of (ds ++ b ∷ []) ≡ min (min (size_of ds * 10) (2 ^ 64 - 1) + (b - 48)) (2 ^ 64 - 1)
+size-last ds b = grind (arith, fold-append)
+
+pub digits-more : (s : Digits) (ds : List ℕ) (b : ℕ) → AreDigits s ds
+    → AreDigits (with_byte s b) (ds ++ b ∷ [])
+digits-more (Counting n) [] b h = absurd (cc)
+digits-more (Counting n) (d ∷ ds) b h = grind (arith, counting-last d ds b, size-last (d ∷ ds) b)
+digits-more NoNumber (d ∷ ds) b h =
+    let longer = length-append (d ∷ ds) (b ∷ []) in grind (arith, counting-last)
+digits-more s ds b h = grind arith
+
+-- the word of digits after a `-`
+pub negative_word : (s : Digits) (ds : List ℕ) → AreDigits s ds
+    → word_of (45 ∷ ds) ≡ digits_word true s
+negative_word s ds h = grind arith
+
+-- the word of digits
+pub positive_word : (s : Digits) (b : ℕ) (bs : List ℕ) → is_digit b ≡ true → AreDigits s (b ∷ bs)
+    → word_of (b ∷ bs) ≡ digits_word false s
+positive_word s b bs digit h = search rules
+
+pub Spells-first : (b : ℕ) → begins_number b ≡ true → Spells (b == 45) (first_digits b) (b ∷ [])
+Spells-first b h = grind (arith, nat_tests, negative, positive, digits-more)
+
+pub Spells-more : (is_negative : Bool) (s : Digits) (run : List ℕ) (b : ℕ)
+    → Spells is_negative s run → Spells is_negative (with_byte s b) (run ++ b ∷ [])
+Spells-more is_negative s run b (negative _ ds h) =
+    negative (with_byte s b) (ds ++ b ∷ []) (digits-more s ds b h)
+Spells-more is_negative s run b (positive _ d ds digit h) =
+    positive (with_byte s b) d (ds ++ b ∷ []) digit (digits-more s (d ∷ ds) b h)
+
+pub Spells-word : (is_negative : Bool) (s : Digits) (run : List ℕ) → Spells is_negative s run
+    → digits_word is_negative s ≡ word_of run
+Spells-word is_negative s run (negative _ ds h) = sym (negative_word s ds h)
+Spells-word is_negative s run (positive _ b bs digit h) = sym (positive_word s b bs digit h)
+
+pub IsName-more : (run : List ℕ) (b : ℕ) → IsName run → IsName (run ++ b ∷ [])
+IsName-more run b n = grind arith
+
+pub IsName-word : (run : List ℕ) (word : Word) → IsName run → word ≡ fixed_word run
+    → word ≡ word_of run
+IsName-word run word n is = search rules
 
 -- one byte more in front
 take-front : (n b : ℕ) (bs : List ℕ) → take (n + 1) (b ∷ bs) ≡ b ∷ take n bs
@@ -55,11 +105,7 @@ counting (b ∷ bs) (suc n) size m some low other = grind arith
 
 digits-inner : (ds : List ℕ) → list_all is_digit ds ≡ true → list_all is_inner ds ≡ true
 digits-inner [] h = refl
-digits-inner (d ∷ ds) h =
-    let both = and_parts _ _ h in rw (inner both.0, digits-inner ds both.1) refl
-  where
-    inner : is_digit d ≡ true → is_inner d ≡ true
-    inner digit = grind arith
+digits-inner (d ∷ ds) h = let later = digits-inner ds in grind (arith, and_parts)
 
 -- digits after a `-`
 IsWholeNumber-negative : (b : ℕ) (bs : List ℕ) (count : ℕ) (digits : Digits) (number : Number)
@@ -83,10 +129,9 @@ GoOn-rest bs n size lead m = grind arith
 pub unsigned-behind : (is_negative : Bool) (bytes : List ℕ) (count : ℕ) → 0 < count
     → count ≤ length bytes → slice_range bytes count (length bytes)
     ≡ slice_range (unsigned is_negative bytes) count (length (unsigned is_negative bytes))
-unsigned-behind false bytes count some inside = refl
 unsigned-behind true bytes zero some inside = absurd (omega (arith, some))
 unsigned-behind true [] (suc n) some inside = absurd (omega (arith, inside))
-unsigned-behind true (b ∷ bs) (suc n) some inside = refl
+unsigned-behind is_negative bytes count some inside = refl
 
 -- digits after an optional `-`
 pub IsWholeNumber-signed : (bytes : List ℕ) (is_negative : Bool) (minus count size : ℕ)
@@ -99,28 +144,14 @@ IsWholeNumber-signed [] is_negative minus count size front sign is lead m some l
 IsWholeNumber-signed (b ∷ bs) true minus zero size front sign is lead m some low alone =
     absurd (omega (arith, some))
 IsWholeNumber-signed (b ∷ bs) true minus (suc n) size front sign is lead m some low alone =
-    grind (
-      arith,
-      add-one n,
-      IsWholeNumber-negative b bs n (Counting size) (number true size)
-          (eqb-true b 45 (sym sign)) (counting bs n size rest.1 rest.0 low other) refl,
-    )
-  where
-    lead' : is_digit (slice_index bs 0) ≡ true
-    lead' = cc
-
-    rest : (0 < n) × GoOn 0 bs n size
-    rest = GoOn-rest bs n size lead' m
-
-    by : (v : Bool) → (slice_index bs 0 == 48) ≡ v → (slice_index bs 0 == 48) ≡ false
-    by true e = grind arith
-    by false e = e
-
-    other : (slice_index bs 0 == 48) ≡ false
-    other = by (slice_index bs 0 == 48) refl
+    let rest = GoOn-rest bs n size (cc) m in
+    let other : (slice_index bs 0 == 48) ≡ false = grind (arith, nat_tests) in
+    let whole = IsWholeNumber-negative b bs n (Counting size) (number true size)
+    (eqb-true b 45 (sym sign)) (counting bs n size rest.1 rest.0 low other) refl in
+    rw (← add-one n) whole
 IsWholeNumber-signed (b ∷ bs) false minus count size front sign is lead m some low alone =
-    by (b == 48) refl
-  where
-    by : (v : Bool) → (b == 48) ≡ v → IsWholeNumber (b ∷ bs) count (number false size)
-    by true e = let one : count ≡ 1 = grind arith in grind arith
-    by false e = IsWholeNumber-positive (b ∷ bs) count (Counting size) (number false size) (counting (b ∷ bs) count size m some low e) refl
+    elim (b == 48) as (λ v. (b == 48) ≡ v → IsWholeNumber (b ∷ bs) count (number false size)) [
+      | true ↦ λ e. let one : count ≡ 1 = grind arith in grind arith
+      | false ↦ λ e. IsWholeNumber-positive (b ∷ bs) count (Counting size) (number false size)
+          (counting (b ∷ bs) count size m some low e) refl
+    ] refl

@@ -1,25 +1,24 @@
 -- A solver's output, one token at a time.
-use Rattle.std.proofs.Common.{arith, ◌≡◌, eqb, refl, sym, ap, subst, ◌∙◌, rules}
-use Rattle.std.proofs.lemmas.Bool.{true≢false, false≢true}
-use Rattle.std.specs.Prelude.{◌||◌, cond, Bool, true, false, List, [], ◌∷◌, Option, None, Some}
-use Rattle.std.specs.Prelude.{Result, Ok, Err}
+use Rattle.std.proofs.Common.{arith, ◌≡◌, eqb, refl, sym, ap, subst, ◌∙◌, rules, true≢false, ◌||◌}
+use Rattle.std.proofs.Common.{cond, Bool, true, false, List, [], ◌∷◌, Option, None, Some, Result}
+use Rattle.std.proofs.{Common.Ok, Common.Err, lemmas.Bool.false≢true}
+use Rattle.cnf_base.specs.declared.word.Word.TheVariants as words
+use Rattle.cnf_base.specs.declared.token.Token as tokens
+use Rattle.cnf_base.specs.declared.token.Token.TheVariants as token
 use Rattle.cnf_base.specs.{Stream.Stream, Stream.Along, Stream.tells_failure, Literals.Literal}
 use Rattle.cnf_base.specs.{Text.Gives, Text.listing_at, Text.Listing, Text.Listed, Literals.has}
 use Rattle.cnf_base.specs.declared.input.Ending.{TheVariants.End, TheVariants.Failed, Ending}
 use Rattle.cnf_base.specs.declared.{input.ReadFailed.ReadFailed as Cut, word.Word.Word}
+use Rattle.cnf_base.specs.declared.{fault.TextFault.TheVariants.LiteralTooLarge, place.Place.Place}
 use Rattle.cnf_base.specs.declared.fault.Fault.{TheVariants.Text, TheVariants.ReadFailed, Fault}
 use Rattle.cnf_base.specs.declared.fault.TextFault.TheVariants.{BadLine, SecondStatus, NotClaimed}
 use Rattle.cnf_base.specs.declared.fault.TextFault.TheVariants.{AfterEnd, Complement}
-use Rattle.cnf_base.specs.declared.{fault.TextFault.TheVariants.LiteralTooLarge, place.Place.Place}
 use Rattle.cnf_base.proofs.StreamLemmas.{Along-then, Along-map, Along-still}
 use Rattle.dimacs.specs.Claim.{LinePosition, at_line_start, after_s, after_status, in_values, Said}
 use Rattle.dimacs.specs.Claim.{on_first, on_status, on_literal, on_value, claim_on_word}
 use Rattle.dimacs.specs.Claim.{on_line_end, placed, claim_on_token, on_end, claim_among}
 use Rattle.dimacs.specs.{Claim.claim_after, Claim.IsClaim, Formula.and_then}
 use Rattle.dimacs.specs.Code.Claiming.{with_listed, ComesTo, Takes}
-use Rattle.cnf_base.specs.declared.word.Word.TheVariants as words
-use Rattle.cnf_base.specs.declared.token.Token as tokens
-use Rattle.cnf_base.specs.declared.token.Token.TheVariants as token
 
 -- ---- Only the set of the listed literals counts
 

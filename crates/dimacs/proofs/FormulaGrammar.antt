@@ -1,14 +1,15 @@
 -- A formula's text, as its grammar has it.
 use Rattle.std.proofs.Common.{◌≡◌, ℕ, ◌+◌, ◌≤◌, nat_le, cond, Bool, true, false, List, [], ◌∷◌}
 use Rattle.std.proofs.Common.{◌++◌, length, map, Option, None, Some, Result, Ok, Err, refl, sym, ap}
-use Rattle.std.proofs.Common.{ap₂, subst, ◌∙◌, append_assoc, arith, rules}
+use Rattle.std.proofs.Common.{subst, ◌∙◌, append_assoc, arith, rules, if◌then◌else◌, codes}
+use Rattle.cnf_base.specs.declared.word.Word.TheVariants as words
+use Rattle.cnf_base.specs.declared.token.Token as tokens
 use Rattle.std.proofs.lemmas.{List.Folds.list_all-append, List.map-append, Bool.Decides.nat_tests}
-use Rattle.std.specs.Prelude.{if◌then◌else◌, codes}
 use Rattle.std.specs.{List.flat_map, List.list_all, Fmt.decimal}
 use Rattle.cnf_base.specs.{Literals.Literal, Literals.Clause, Literals.variable, Text.listing_of}
-use Rattle.cnf_base.specs.Printing.{input_of, is_literal, literal_text, literal_words}
 use Rattle.cnf_base.specs.{Words.number, Words.number_literal, Words.word_of, Text.Listing}
 use Rattle.cnf_base.specs.{declared.input.Ending.Ending, Grammar.word_lines, Text.Listed}
+use Rattle.cnf_base.specs.Printing.{input_of, is_literal, literal_text, literal_words}
 use Rattle.cnf_base.specs.declared.{input.Ending.TheVariants.End, word.Word.Word, place.Place.Place}
 use Rattle.cnf_base.specs.declared.fault.{TextFault.TextFault, Fault.Fault}
 use Rattle.cnf_base.specs.declared.fault.TextFault.TheVariants.{NumberTooLarge, BadToken}
@@ -24,9 +25,6 @@ use Rattle.dimacs.proofs.{FormulaPrinting.judged_literal, HeaderLemmas.after_p}
 use Rattle.dimacs.proofs.GrammarWords.{Lines, and_so, went_on, some_parts, line_then, said_by}
 use Rattle.dimacs.proofs.GrammarWords.{IsSaid, AreSaid, text_lines, filled_words, literal_spelled}
 use Rattle.dimacs.proofs.GrammarWords.{zero_spelled}
-use Rattle.cnf_base.specs.declared.word.Word.TheVariants as words
-use Rattle.cnf_base.specs.declared.token.Token as tokens
-use Rattle.cnf_base.specs.declared.token.Token.TheVariants as token
 
 -- ---- The clauses, where places and faults don't matter
 
@@ -240,12 +238,8 @@ count_spelled limit (w ∷ ws) n rest small e =
     let r = went_on (number_in limit (word_of w)) (λ n. Some (n, ws)) (n, rest) e in
     let same = some_parts (r.0, ws) (n, rest) r.2 in
     let t = number_tested limit (word_of w) r.0 r.1 in
-    let within : n ≤ limit = let s = same.0 in let u = t.1 in omega arith in (
-      ap₂ (λ u us. u ∷ us)
-          ((number_spelled w false r.0 (let u = t.1 in omega arith) t.0).0 ∙ ap decimal same.0)
-          same.1,
-      within,
-    )
+    let spelled = (number_spelled w false r.0 (omega (arith, t.1)) t.0).0 in
+    grind (arith, same.0, same.1, t.1)
 
 end_spelled : (line : List (List ℕ)) (u : Unit {0}) → end_in line ≡ Some u → line ≡ []
 end_spelled line u h = search rules
@@ -284,9 +278,7 @@ header_spelled : (lines : Lines) (h : Header) (rest : Lines) → lines_header li
     → (filled_lines lines ≡ header_words h ∷ filled_lines rest) × IsHeader h
 header_spelled [] h rest e = absurd (let bad : None ≡ Some (h, rest) = e in cc)
 header_spelled ([] ∷ lines) h rest e = header_spelled lines h rest e
-header_spelled ((w ∷ ws) ∷ lines) h rest e =
-    let r = line_spelled lines (w ∷ ws) h rest e in
-    (ap₂ (λ line lines. line ∷ filled_lines lines) r.0 (sym r.2), r.1)
+header_spelled ((w ∷ ws) ∷ lines) h rest e = grind (arith, line_spelled lines (w ∷ ws) h rest e)
 
 -- and the other way round
 count_taken : (limit n : ℕ) (rest : List (List ℕ)) → n ≤ limit → limit ≤ 9223372036854775807
@@ -382,21 +374,15 @@ module _ (h : Header) (small : h.vars ≤ 268435455) where
   clause_taken [] acc k ws cs missing are later = search rules
   clause_taken (l ∷ ls) acc k ws cs missing are later =
       let r = both (is_literal h.vars l) (list_all (is_literal h.vars) ls) are in
-      ap (λ r. on_judged k acc r (λ k acc. clauses_in h k acc (literal_words ls ++ ws)))
-      (judged_literal h small k l missing r.0)
-      ∙ clause_taken ls (acc ++ l ∷ []) k ws cs missing r.1 later
-      ∙ ap (λ c. Some (c ∷ cs)) (append_assoc acc (l ∷ []) ls)
+      rw (judged_literal h small k l missing r.0) (grind (arith, append_assoc, clause_taken ls (acc ++ l ∷ []) k ws cs missing r.1 later))
 
   clauses_taken : (cs : List Clause) (k : ℕ) → h.clauses ≡ k + length cs
       → list_all (list_all (is_literal h.vars)) cs ≡ true
       → clauses_in h k [] (flat_map literal_words cs) ≡ Some cs
   clauses_taken [] k count are = search rules
   clauses_taken (c ∷ cs) k count are =
-      let r = both (list_all (is_literal h.vars) c) (list_all (list_all (is_literal h.vars)) cs)
-      are in
-      let missing : nat_le h.clauses k ≡ false = grind (arith, nat_tests) in
-      clause_taken c [] k (flat_map literal_words cs) cs missing r.0
-      (clauses_taken cs (k + 1) (omega arith) r.1)
+      let r = both (list_all (is_literal h.vars) c) (list_all (list_all (is_literal h.vars)) cs) are in
+      clause_taken c [] k (flat_map literal_words cs) cs (grind (arith, nat_tests)) r.0 (clauses_taken cs (k + 1) (omega arith) r.1)
 
 -- ---- A whole formula
 
@@ -412,12 +398,8 @@ formula_words : (h : Header) (clauses : List Clause) (r : Result (Header × List
     → (rest : Lines) × (o ≡ Some (h, rest)) × (clauses_in h 0 [] (all_words rest) ≡ Some clauses)
 formula_words h clauses (Ok x) (Some y) a e =
     let head : Some x.0 ≡ Some h = ap (λ f. f.header) e in let same : x.0 ≡ h = cc in
-    let given : y.0 ≡ h = sym a.0 ∙ same in (
-      y.1,
-      ap (λ g. Some (g, y.1)) given,
-      sym (text_clauses h x.1 y.1 a.1) ∙ ap (λ g. clean (body_of g 0 [] x.1)) (sym same)
-          ∙ ap (λ f. faultless f.fault f.clauses) e,
-    )
+    let body = text_clauses h x.1 y.1 a.1 in
+    (y.1, grind (arith, a.0), grind (arith, body, e))
 formula_words h clauses r o h2 h3 = search (rules, arith)
 
 formula_taken : (h : Header) (clauses : List Clause)
@@ -425,14 +407,10 @@ formula_taken : (h : Header) (clauses : List Clause)
     → Agree IsHead r o → o ≡ Some (h, rest) → clauses_in h 0 [] (all_words rest) ≡ Some clauses
     → formula_with r ≡ faultless_formula h clauses
 formula_taken h clauses (Ok x) (Some y) rest a o e =
-    let given = some_parts y (h, rest) o in let same : x.0 ≡ h = a.0 ∙ given.0 in
-    let body = text_clauses h x.1 y.1 a.1
-    ∙ ap (λ lines. clauses_in h 0 [] (all_words lines)) given.1 ∙ e in
-    ap (λ g. formula_with (Ok (g, x.1))) same ∙ by (body_of h 0 [] x.1) body
+    let given = some_parts y (h, rest) o in let body = text_clauses h x.1 y.1 a.1 in
+    ap (λ g. formula_with (Ok (g, x.1))) (a.0 ∙ given.0) ∙ by (body_of h 0 [] x.1) (grind (arith, body, given.1, e))
   where
-    by : (b : Body) → clean b ≡ Some clauses
-        → record { header = Some h; clauses = b.clauses; fault = b.fault }
-        ≡ faultless_formula h clauses
+    by : (b : Body) → clean b ≡ Some clauses → record { header = Some h; clauses = b.clauses; fault = b.fault } ≡ faultless_formula h clauses
     by b e = grind arith
 formula_taken h clauses r o rest h2 h3 h4 = grind (arith, rest)
 

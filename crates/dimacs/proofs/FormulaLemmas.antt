@@ -1,13 +1,13 @@
 -- A formula's tokens, one at a time.
 use Rattle.std.proofs.Common.{◌≡◌, ℕ, ◌<◌, ◌≤◌, List, [], ◌∷◌, ◌++◌, Option, None, Some, refl, sym}
-use Rattle.std.proofs.Common.{ap, ◌∙◌, subst, arith, rules}
-use Rattle.std.specs.Prelude.{Bool, true, Result, Ok, Err}
+use Rattle.std.proofs.Common.{ap, ◌∙◌, subst, arith, rules, Bool, true, Result, Ok, Err}
+use Rattle.cnf_base.specs.declared.token.Token.TheVariants as token
 use Rattle.cnf_base.specs.Stream.{Suffix, Stream, Along, most_to_come, tells_failure}
 use Rattle.cnf_base.specs.{Text.Listing, Text.listing_at, Text.Gives, declared.place.Place.Place}
 use Rattle.cnf_base.specs.{declared.input.Ending.TheVariants.End, Literals.Literal}
 use Rattle.cnf_base.specs.declared.{input.ReadFailed.ReadFailed as Cut, word.Word.Word}
-use Rattle.cnf_base.specs.declared.fault.Fault.TheVariants.{Text, ReadFailed, OutOfMemory}
 use Rattle.cnf_base.specs.declared.{fault.TextFault.TextFault, fault.Fault.Fault, token.Token.Token}
+use Rattle.cnf_base.specs.declared.fault.Fault.TheVariants.{Text, ReadFailed, OutOfMemory}
 use Rattle.cnf_base.proofs.ListingLemmas.{Gives-from, listing_at-from}
 use Rattle.cnf_base.proofs.StreamLemmas.{Along-then, Along-map, Along-none}
 use Rattle.dimacs.specs.Reading.{FormulaReading, clauses_to_come, body_unless_ended, GivesClause}
@@ -16,7 +16,6 @@ use Rattle.dimacs.specs.Formula.{Body, body_of, judged, body_on_word, body_at_en
 use Rattle.dimacs.specs.{Formula.whole, Formula.ends_on_word, Formula.ends_after, Reading.GivesEnd}
 use Rattle.dimacs.specs.{declared.header.Header.Header, Reading.ends_to_come, Reading.PassesNoEnd}
 use Rattle.dimacs.proofs.OffsetLemmas.{on_word-from, ends_among-from, gives_no_end}
-use Rattle.cnf_base.specs.declared.token.Token.TheVariants as token
 
 -- a fault is what comes, and it stays
 pub gives_fault : (f : Fault) (c : List Literal) (b : Body) → b ≡ faulty_body f → GivesClause (Err f) c b (faulty_body f)

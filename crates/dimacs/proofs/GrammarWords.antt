@@ -1,17 +1,16 @@
 -- Tokens as the words of lines, where places don't matter, and how words are spelled.
-use Rattle.std.proofs.Common.{◌≡◌, ◌⊎◌, inl, inr, ℕ, ◌+◌, ◌*◌, ◌/◌, ◌%◌, ◌==◌, ◌≤◌, nat_le, cond}
-use Rattle.std.proofs.Common.{Bool, true, false, List, [], ◌∷◌, ◌++◌, Option, None, Some, refl, sym}
-use Rattle.std.proofs.Common.{ap, subst, ◌∙◌, arith, rules}
+use Rattle.std.proofs.Common.{◌≡◌, ◌⊎◌, inl, inr, ℕ, ◌+◌, ◌*◌, ◌/◌, ◌%◌, ◌≤◌, nat_le, cond, Bool}
+use Rattle.std.proofs.Common.{true, false, List, [], ◌∷◌, ◌++◌, Option, None, Some, refl, ap, subst}
+use Rattle.std.proofs.Common.{◌∙◌, arith, rules, ◌&&◌, codes}
+use Rattle.cnf_base.specs.declared.word.Word.TheVariants as words
+use Rattle.cnf_base.specs.declared.token.Token as tokens
+use Rattle.cnf_base.specs.declared.token.Token.TheVariants as token
 use Rattle.std.proofs.lemmas.{Bool.Decides.nat_tests, Fmt.decimal_digit}
-use Rattle.std.specs.Prelude.{◌&&◌, codes}
-use Rattle.std.specs.{Bool.then_some, Fmt.decimal, List.flat_map, List.list_all}
+use Rattle.std.specs.{Bool.then_some, List.flat_map, List.list_all}
 use Rattle.cnf_base.specs.{Literals.Literal, Literals.variable, Grammar.word_lines}
 use Rattle.cnf_base.specs.{Printing.input_of, Printing.literal_text, Text.Listed, Text.listing_of}
 use Rattle.cnf_base.specs.Words.{number, number_literal, word_of}
 use Rattle.cnf_base.specs.declared.word.{Number.Number, Word.Word}
-use Rattle.cnf_base.specs.declared.word.Word.TheVariants as words
-use Rattle.cnf_base.specs.declared.token.Token as tokens
-use Rattle.cnf_base.specs.declared.token.Token.TheVariants as token
 use Rattle.cnf_base.proofs.GrammarLemmas.{said, is_inside, all_said, line_said, text_said}
 use Rattle.cnf_base.proofs.GrammarLemmas.{listing_says, number_text, number_spelled}
 use Rattle.cnf_base.proofs.PrintLemmas.{both}
@@ -119,29 +118,15 @@ literal_spelled w n l is e = by n.is_negative n.size is e
         → then_some (nat_le 1 m && nat_le m 268435455) (cond s (2 * m + 1) (2 * m)) ≡ Some l
         → IsLiteralNumber w (number s m) l
     by true m is e =
-        let r = limited m (2 * m + 1) l e in let half : l / 2 ≡ m = let a = r.2 in omega arith in
-        let odd : (l % 2 == 0) ≡ false = let a = r.2 in let c : l % 2 ≡ 1 =
-        omega arith in grind (arith, nat_tests) in
-        record {
-          text = (number_spelled w true m (let high = r.1 in omega arith) is).0
-              ∙ ap (λ d. 45 ∷ decimal d) (sym half)
-              ∙ ap (λ v. cond v (decimal (l / 2)) (45 ∷ decimal (l / 2))) (sym odd);
-          is = half;
-          some = r.0;
-          within = r.1;
-        }
+        let r = limited m (2 * m + 1) l e in let a = r.2 in let high = r.1 in
+        let half : l / 2 ≡ m = omega arith in let odd : l % 2 ≡ 1 = omega arith in
+        let spelled = (number_spelled w true m (omega arith) is).0 in
+        record { text = grind (arith, nat_tests); is = half; some = r.0; within = r.1 }
     by false m is e =
-        let r = limited m (2 * m) l e in let half : l / 2 ≡ m = let a = r.2 in omega arith in
-        let even : (l % 2 == 0) ≡ true = let a = r.2 in let c : l % 2 ≡ 0 =
-        omega arith in grind (arith, nat_tests) in
-        record {
-          text = (number_spelled w false m (let high = r.1 in omega arith) is).0
-              ∙ ap (λ d. decimal d) (sym half)
-              ∙ ap (λ v. cond v (decimal (l / 2)) (45 ∷ decimal (l / 2))) (sym even);
-          is = half;
-          some = r.0;
-          within = r.1;
-        }
+        let r = limited m (2 * m) l e in let a = r.2 in let high = r.1 in
+        let half : l / 2 ≡ m = omega arith in let even : l % 2 ≡ 0 = omega arith in
+        let spelled = (number_spelled w false m (omega arith) is).0 in
+        record { text = grind (arith, nat_tests); is = half; some = r.0; within = r.1 }
 
 -- the only number within the limit that names no literal
 pub zero_spelled : (w : List ℕ) (n : Number) → word_of w ≡ words.Number n → n.size ≤ 268435455

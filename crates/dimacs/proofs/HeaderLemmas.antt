@@ -1,21 +1,19 @@
 -- A header's parts, one after another.
-use Rattle.std.proofs.Common.{arith}
-use Rattle.std.proofs.Common.{◌≡◌, ℕ, cond, Bool, List, ◌∷◌, refl, sym, ap, subst, ◌∙◌, rules}
-use Rattle.std.specs.Prelude.{if◌then◌else◌, Result, Ok, Err}
+use Rattle.std.proofs.Common.{arith, ◌≡◌, ℕ, cond, Bool, List, ◌∷◌, refl, sym, ap, subst, ◌∙◌}
+use Rattle.std.proofs.Common.{rules, if◌then◌else◌, Result, Ok, Err}
+use Rattle.cnf_base.specs.declared.token.Token.TheVariants as token
 use Rattle.cnf_base.specs.{Stream.Suffix, Stream.Stream, Stream.Along, Text.Listed, Text.Listing}
 use Rattle.cnf_base.specs.{Text.listing_at, Text.Gives, declared.input.ReadFailed.ReadFailed as Cut}
 use Rattle.cnf_base.specs.declared.{place.Place.Place, word.Word.Word, token.Token.Token}
 use Rattle.cnf_base.specs.declared.fault.Fault.{Fault, TheVariants.Text, TheVariants.ReadFailed}
 use Rattle.cnf_base.specs.declared.fault.TextFault.TheVariants.{BadHeader}
-use Rattle.cnf_base.specs.declared.token.Token.TheVariants as token
 use Rattle.cnf_base.proofs.ListingLemmas.{EndFrom, Gives-from}
 use Rattle.cnf_base.proofs.StreamLemmas.{Along-then, Along-map, Along-none}
 use Rattle.dimacs.specs.Formula.{drop_line_ends, skip_blank, next_word, is_p, is_cnf, fixed}
-use Rattle.dimacs.specs.Formula.{count_of, count, line_end, and_then, part, header_of}
-use Rattle.dimacs.specs.Formula.{formula_at, ends_at}
+use Rattle.dimacs.specs.Formula.{count_of, count, line_end, and_then, part, header_of, formula_at}
+use Rattle.dimacs.{specs.Formula.ends_at, proofs.OffsetLemmas.AreFrom}
 use Rattle.dimacs.specs.Code.Reading.{first_end, GivesHeader, GivesPart}
 use Rattle.dimacs.specs.{Reading.PassesNoEnd, Reading.unopened, declared.header.Header.Header}
-use Rattle.dimacs.proofs.OffsetLemmas.{AreFrom}
 
 -- ---- No token's end was passed
 

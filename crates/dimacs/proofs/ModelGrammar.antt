@@ -6,28 +6,26 @@ use Rattle.std.proofs.lemmas.{Bool.Decides.nat_tests, Bool.true≢false, Grind.c
 use Rattle.std.proofs.lemmas.List.{reverse-append, reverse-reverse}
 use Rattle.std.proofs.lemmas.List.Sorted.{IsPermutation-reverse, list_any-IsPermutation}
 use Rattle.std.specs.{Prelude.if◌then◌else◌, Prelude.codes, List.list_all}
+use Rattle.cnf_base.specs.declared.word.Word.TheVariants as words
+use Rattle.cnf_base.specs.declared.token.Token as tokens
 use Rattle.cnf_base.specs.Literals.{Literal, complement, has, variable}
 use Rattle.cnf_base.specs.Printing.{input_of, is_literal, literal_words}
-use Rattle.cnf_base.specs.Text.{Listed, Listing, listing_of}
+use Rattle.cnf_base.specs.Text.{Listed, listing_of}
 use Rattle.cnf_base.specs.{declared.fault.Fault.Fault, Grammar.word_lines, Words.number_literal}
-use Rattle.cnf_base.specs.declared.{fault.TextFault.TextFault, word.Word.Word, place.Place.Place}
 use Rattle.cnf_base.specs.{declared.input.Ending.TheVariants.End, Words.word_of}
+use Rattle.cnf_base.specs.declared.{fault.TextFault.TextFault, word.Word.Word, place.Place.Place}
 use Rattle.cnf_base.proofs.GrammarLemmas.{listing_says, s_spelled, v_spelled, satisfiable_spelled}
 use Rattle.cnf_base.proofs.{TextLemmas.append_nil, SetLemmas.has_tail}
 use Rattle.cnf_base.proofs.PrintLemmas.{both, literal_word, literal_taken}
-use Rattle.dimacs.specs.Formula.{and_then}
+use Rattle.dimacs.{specs.Formula.and_then, proofs.ModelLemmas.IsConsistent-put}
 use Rattle.dimacs.specs.Claim.{LinePosition, at_line_start, after_s, after_status, in_values, Said}
 use Rattle.dimacs.specs.Claim.{on_status, on_value, claim_on_word, on_line_end, claim_at_end}
 use Rattle.dimacs.specs.Claim.{placed, claim_on_token, on_end, claim_among, claim_of, IsConsistent}
 use Rattle.dimacs.specs.Grammar.{filled_lines, all_words, ModelText, ModelIsGrammar}
 use Rattle.dimacs.specs.Printing.{status_words, value_words, IsModel}
-use Rattle.dimacs.proofs.ModelLemmas.{IsConsistent-put}
 use Rattle.dimacs.proofs.ModelPrinting.{AreAmong, no_complement, among_more}
 use Rattle.dimacs.proofs.GrammarWords.{Lines, and_so, went_on, some_parts, line_then, said_by}
 use Rattle.dimacs.proofs.GrammarWords.{IsSaid, AreSaid, text_lines, literal_spelled, zero_spelled}
-use Rattle.cnf_base.specs.declared.word.Word.TheVariants as words
-use Rattle.cnf_base.specs.declared.token.Token as tokens
-use Rattle.cnf_base.specs.declared.token.Token.TheVariants as token
 
 -- ---- What is claimed, where places and faults don't matter
 
@@ -81,11 +79,7 @@ module _ (p : Place) where
 text_claim : (bytes : List ℕ) → known (claim_of (input_of bytes))
     ≡ claim_says (at at_line_start false false []) (said_by (word_lines bytes))
 text_claim bytes =
-    let l : Listing = listing_of (input_of bytes) in
-    ap (λ e. known (claim_among (at at_line_start false false []) l.tokens l.end e))
-    (listing_says bytes).ending
-    ∙ among_said l.end l.tokens (said_by (word_lines bytes)) (at at_line_start false false [])
-    (text_lines bytes)
+    grind (arith, listing_says bytes, among_said (listing_of (input_of bytes)).end (listing_of (input_of bytes)).tokens (said_by (word_lines bytes)) (at at_line_start false false []) (text_lines bytes))
 
 -- ---- Lines
 
@@ -186,8 +180,9 @@ rest_read ((w ∷ ws) ∷ lines) e ls r is = elim (line_read true e ls w ws line
       let y = rest_read lines x.ended x.listed r x.later in
       record {
         after = ws ∷ y.after;
-        lines_are = ap₂ (λ w more. (w ∷ ws) ∷ more) x.first y.lines_are;
-        values = values_before e ls ws (all_words y.after) (x.ended, x.listed) (true, r) x.line y.values;
+        lines_are = grind (arith, x.first, y.lines_are);
+        values = values_before e ls ws (all_words y.after) (x.ended, x.listed) (true, r) x.line
+            y.values;
       }
   | inr x ↦ absurd (true≢false x.none_yet)
 ]
@@ -249,8 +244,9 @@ lines_read ((w ∷ ws) ∷ lines) e ls r is = elim (line_read false e ls w ws li
       record {
         before = ws ∷ y.before;
         after = y.after;
-        lines_are = ap₂ (λ w more. (w ∷ ws) ∷ more) x.first y.lines_are;
-        values = values_before e ls ws (all_words (y.before ++ y.after)) (x.ended, x.listed) (true, r) x.line y.values;
+        lines_are = grind (arith, x.first, y.lines_are);
+        values = values_before e ls ws (all_words (y.before ++ y.after)) (x.ended, x.listed)
+            (true, r) x.line y.values;
       }
   | inr s ↦
       let x = status_read e ls ws (said_by lines) r s.later in
@@ -258,8 +254,7 @@ lines_read ((w ∷ ws) ∷ lines) e ls r is = elim (line_read false e ls w ws li
       record {
         before = [];
         after = y.after;
-        lines_are = ap (λ more. (w ∷ ws) ∷ more) y.lines_are
-            ∙ ap₂ (λ w ws. (w ∷ ws) ∷ map value_words y.after) s.first x.words;
+        lines_are = grind (arith, y.lines_are, s.first, x.words);
         values = y.values;
       }
 ]
@@ -374,8 +369,8 @@ model_is_written : (bytes : List ℕ) (literals : List Literal) → claim_of (in
 model_is_written bytes literals e =
     let x = lines_read (word_lines bytes) false [] (reverse literals)
     (sym (text_claim bytes) ∙ ap (λ r. known r) e) in
-    let y = values_spelled (all_words (x.before ++ x.after)) [] (reverse literals)
-    (λ l h. absurd (no_literal h)) x.values in
+    let y = values_spelled (all_words (x.before ++ x.after)) [] (reverse literals) (grind arith)
+    x.values in
     let back : reverse literals ≡ reverse y.literals = y.listed ∙ append_nil (reverse y.literals) in
     let same : y.literals ≡ literals =
     sym (reverse-reverse y.literals) ∙ ap reverse (sym back) ∙ reverse-reverse literals in (
@@ -390,20 +385,14 @@ model_is_written bytes literals e =
         values = y.words ∙ ap literal_words same;
       },
     )
-  where
-    no_literal : false ≡ true → ⊥
-    no_literal h = cc
 
 model_is_read : (bytes : List ℕ) (literals : List Literal) → IsModel literals
     → ModelText (word_lines bytes) literals → claim_of (input_of bytes) ≡ Ok (reverse literals)
 model_is_read bytes literals m text = known_is (claim_of (input_of bytes)) (reverse literals)
     (text_claim bytes ∙ lines_taken (word_lines bytes) text.before text.after false []
     (reverse literals) text.one_status (ap (values_in false []) text.values
-    ∙ values_taken literals m.consistent literals [] m.literals (λ k h. absurd (no_literal h))
-    (λ k h. h) ∙ ap (λ t. Some (true, t)) (append_nil (reverse literals))))
-  where
-    no_literal : false ≡ true → ⊥
-    no_literal h = cc
+    ∙ values_taken literals m.consistent literals [] m.literals (grind arith) (λ k h. h)
+    ∙ ap (λ t. Some (true, t)) (append_nil (reverse literals))))
 
 -- a model is read exactly where the output's text is the grammar's
 pub model_grammar : ModelIsGrammar

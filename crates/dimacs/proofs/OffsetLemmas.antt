@@ -1,7 +1,7 @@
 -- Where the clauses of a formula end, and the token at fault.
-use Rattle.std.proofs.Common.{◌≡◌, ℕ, ◌≤◌, List, [], ◌∷◌, length, Option, Some, rules}
-use Rattle.std.proofs.lemmas.Option.{none-some}
-use Rattle.std.specs.Prelude.{Bool, true, Result, Ok, slice_get}
+use Rattle.std.proofs.Common.{◌≡◌, ℕ, ◌≤◌, List, [], ◌∷◌, length, Option, Some, rules, Bool, true}
+use Rattle.std.proofs.{Common.Result, Common.Ok, Common.slice_get, lemmas.Option.none-some}
+use Rattle.cnf_base.specs.declared.token.Token.TheVariants as token
 use Rattle.cnf_base.specs.{Text.Listed, Text.Listing, Text.listing_of, Stream.Suffix}
 use Rattle.cnf_base.specs.{declared.input.Ending.Ending, Literals.Literal, Stream.Input}
 use Rattle.cnf_base.specs.declared.{place.Place.Place, fault.Fault.Fault, fault.TextFault.TextFault}
@@ -9,7 +9,6 @@ use Rattle.cnf_base.proofs.ListingLemmas.{EndFrom}
 use Rattle.dimacs.specs.Formula.{judged, Body, body_on_word, body_among, header_of, formula_with}
 use Rattle.dimacs.specs.Formula.{formula_of, ends_on_word, ends_among, ends_with, ends_of}
 use Rattle.dimacs.specs.{Reading.PassesNoEnd, Reading.GivesEnd, declared.header.Header.Header}
-use Rattle.cnf_base.specs.declared.token.Token.TheVariants as token
 
 -- each of these is this offset or a later one
 abbrev pub AreFrom : ℕ → List ℕ → Type 0

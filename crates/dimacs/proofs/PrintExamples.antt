@@ -1,6 +1,5 @@
 -- The examples of printed texts.
-use Rattle.std.proofs.Common.{[], ◌∷◌, rules}
-use Rattle.std.specs.Fmt.{digits}
+use Rattle.std.{proofs.Common.[], proofs.Common.◌∷◌, proofs.Common.rules, specs.Fmt.digits}
 use Rattle.cnf_base.specs.Literals.{complement}
 use Rattle.dimacs.specs.{Printing.FormulasLookSo, Claim.IsConsistent}
 

@@ -1,13 +1,12 @@
 -- A formula and a model that were printed are read back, since their lines are the grammar's.
 use Rattle.std.proofs.Common.{rules, ◌≡◌, ℕ, ◌≤◌, ◌==◌, true, false, List, [], ◌∷◌, ◌++◌, map}
-use Rattle.std.proofs.Common.{filter, refl, sym, ap, ◌∙◌, append_assoc, subst, arith}
-use Rattle.std.proofs.lemmas.List.{append-nil, map-append}
-use Rattle.std.proofs.lemmas.{List.Folds.list_all-append, Bool.Decides.nat_tests}
-use Rattle.std.specs.{Prelude.codes, Fmt.decimal}
-use Rattle.std.specs.List.{concat, flat_map, list_all, slice_split}
+use Rattle.std.proofs.Common.{filter, refl, sym, ap, ◌∙◌, append_assoc, subst, arith, append-nil}
+use Rattle.std.proofs.Common.{flat_map}
+use Rattle.std.proofs.lemmas.{List.map-append, List.Folds.list_all-append, Bool.Decides.nat_tests}
+use Rattle.std.specs.{Prelude.codes, Fmt.decimal, List.concat, List.list_all, List.slice_split}
 use Rattle.cnf_base.specs.{Grammar.is_word, Grammar.words_in, Grammar.word_lines, Literals.Clause}
-use Rattle.cnf_base.specs.Printing.{words_line, is_literal, literal_text, literal_words}
 use Rattle.cnf_base.specs.{Text.is_separator, Text.is_comment, Text.lines_of, Literals.Literal}
+use Rattle.cnf_base.specs.Printing.{words_line, is_literal, literal_text, literal_words}
 use Rattle.cnf_base.proofs.TextLemmas.{append_nil, Each, none, more, split-append}
 use Rattle.cnf_base.proofs.PrintLemmas.{decimal_plain, zero_plain, literal_plain, after_word, both}
 use Rattle.cnf_base.proofs.PrintLemmas.{literal_no_comment, words_line-cons, IsPlain, fixed_plain}

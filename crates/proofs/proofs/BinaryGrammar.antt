@@ -1,22 +1,168 @@
 -- The steps of a binary DRAT proof, both ways.
-use Rattle.std.proofs.Common.{◌≡◌, ℕ, suc, ◌+◌, ◌*◌, ◌%◌, ◌<◌, ◌≤◌, ◌==◌, ◌&&◌, nat_le, cond}
-use Rattle.std.proofs.Common.{Bool, true, false, List, [], ◌∷◌, ◌++◌, length, map, Option, None}
-use Rattle.std.proofs.Common.{Some, refl, sym, ap, ◌∙◌, append_assoc, subst, arith, rules}
-use Rattle.std.proofs.lemmas.{Bool.Decides.nat_tests, Grind.flat_map-append}
-use Rattle.std.proofs.lemmas.List.{Elements.All-cons, append-nil}
-use Rattle.std.specs.{Option.option_map, Prelude.All, List.flat_map, List.list_all}
+use Rattle.std.proofs.Common.{◌≡◌, ℕ, suc, ◌+◌, ◌*◌, ◌%◌, ◌<◌, ◌≤◌, ◌==◌, ◌&&◌, nat_le, Bool}
+use Rattle.std.proofs.Common.{true, false, List, [], ◌∷◌, ◌++◌, length, map, Option, None, Some}
+use Rattle.std.proofs.Common.{refl, sym, ap, ◌∙◌, append_assoc, arith, rules, append-nil}
+use Rattle.std.proofs.Common.{option_map, All, flat_map, zero, ◌-◌, ◌/◌, fold, length-append}
+use Rattle.std.proofs.lemmas.{Bool.Decides.nat_tests, Int.Digits.digits_of_step}
+use Rattle.std.proofs.lemmas.{Grind.flat_map-append, List.Elements.All-cons, List.reverse-append}
+use Rattle.std.specs.List.{list_all}
 use Rattle.cnf_base.specs.Printing.{input_of, is_literal}
+use Rattle.cnf_base.proofs.PrintLemmas.{both, literal_range}
 use Rattle.cnf_base.specs.{declared.input.Ending.TheVariants.End, Stream.next_count}
-use Rattle.cnf_base.proofs.PrintLemmas.{both}
-use Rattle.proofs.specs.{declared.step_end.StepEnd.TheVariants.Byte, Reading.PlacedStep}
-use Rattle.proofs.specs.{Steps.Step, Steps.named, Steps.with_literal, Grammar.BinaryIsGrammar}
+use Rattle.proofs.specs.Steps.{Step, named, with_literal}
 use Rattle.proofs.specs.Binary.{groups_value, BinarySpot, at_tag, in_step, in_number, BinaryMove}
 use Rattle.proofs.specs.Binary.{goes, completes, faults, tag_move, group_move, binary_number_move}
 use Rattle.proofs.specs.Binary.{binary_move_of, on_binary_move, binary_steps_among, binary_steps}
 use Rattle.proofs.specs.Printing.{ReadStep, read_of, printed_steps, seven_bit_groups, group_bytes}
-use Rattle.proofs.specs.Printing.{number_bytes, tag_bytes, binary_step, IsDratStep}
-use Rattle.proofs.proofs.BinaryPrinting.{groups_step, groups_are, group_bytes-cons, binary_read}
+use Rattle.proofs.specs.Printing.{number_bytes, tag_bytes, binary_step, IsDratStep, ReadProof}
 use Rattle.proofs.proofs.GrammarText.{none_some, bare, bare-ReadsAs, bare-with_step, all_more}
+use Rattle.proofs.proofs.GrammarText.{with_read, printed_from, with_literals, drat_step}
+use Rattle.proofs.specs.declared.step_buf.StepKind.TheVariants.{Add, Delete}
+use Rattle.proofs.specs.{declared.step_end.StepEnd.TheVariants.Byte, Grammar.BinaryIsGrammar}
+use Rattle.proofs.specs.{Printing.proof_of, Reading.PlacedStep, declared.step_buf.StepKind.StepKind}
+use Rattle.proofs.proofs.GrammarText.{drat_step_is}
+
+-- ---- A DRAT proof that was printed in binary, as it is read
+
+-- ---- A number
+
+-- a number in groups of 7 bits, lowest first
+pub data IsGroups : ℕ → List ℕ → Type 0 where
+  last : (n : ℕ) → 0 < n → n < 128 → IsGroups n (n ∷ [])
+  more : (n g : ℕ) (gs : List ℕ) → g < 128 → IsGroups n gs → IsGroups (g + 128 * n) (g ∷ gs)
+
+pub group_bytes-cons : (n g : ℕ) (gs : List ℕ) → IsGroups n gs
+    → group_bytes (g ∷ gs) ≡ (128 + g) ∷ group_bytes gs
+group_bytes-cons n g gs h = search rules
+
+-- the lowest group of a number, and those above it
+pub groups_step : (n : ℕ) → 0 < n → seven_bit_groups n ≡ n % 128 ∷ seven_bit_groups (n / 128)
+groups_step n some = search (rules, digits_of_step, reverse-append)
+
+-- the groups of a number
+pub groups_are : (most n : ℕ) → n ≤ most → 0 < n → IsGroups n (seven_bit_groups n)
+groups_are zero n le some = absurd (omega arith)
+groups_are (suc most) n le some =
+    let groups = groups_step n some in
+    elim (nat_le 128 n) as (λ v. nat_le 128 n ≡ v → IsGroups n (seven_bit_groups n)) [
+      | true ↦ λ e.
+          let large : 128 ≤ n = grind (arith, nat_tests) in
+          let later = groups_are most (n / 128) (omega arith) (omega arith) in
+          let is : n % 128 + 128 * (n / 128) ≡ n = omega arith in
+          rw groups (rw is at (more (n / 128) (n % 128) (seven_bit_groups (n / 128))
+          (omega arith) later))
+      | false ↦ λ e.
+          let small : n < 128 = grind (arith, nat_tests) in let none : n / 128 ≡ 0 = omega arith in
+          let is : n % 128 ≡ n = omega arith in rw (groups, none, is) (last n some small)
+    ] refl
+
+-- what the bytes of a number spell
+groups_valued : (n : ℕ) (gs : List ℕ) → IsGroups n gs → groups_value (group_bytes gs) ≡ n
+groups_valued _ _ (last n some small) = omega arith
+groups_valued _ _ (more n g gs small groups) =
+    search (rules, groups_value, group_bytes-cons, (groups_valued n gs groups))
+
+-- bytes are read so from this offset on, whatever the number of the first one
+abbrev IsRead : BinarySpot → Step → ℕ → List ℕ → ReadProof → Type 0
+IsRead spot s offset bytes result =
+    (at : ℕ) → read_of (binary_steps_among spot s at offset bytes End) ≡ result
+
+-- groups after those of a number that were read, and what follows the number
+groups_read : (n : ℕ) (gs : List ℕ) → IsGroups n gs
+    → (whole : ℕ) (before rest : List ℕ) (first offset end : ℕ) (s : Step) (result : ReadProof)
+    → offset + length (group_bytes gs) ≡ end → groups_value (before ++ group_bytes gs) ≡ whole
+    → 2 ≤ whole → whole ≤ 536870911 → IsRead in_step (with_literal s whole) end rest result
+    → IsRead (in_number first before) s offset (group_bytes gs ++ rest) result
+groups_read _ _ (last n some small) whole before rest first offset end s result ends value low high
+    later at =
+    let past : suc offset ≡ end = omega (arith, ends) in
+    let plain : nat_le 128 n ≡ false = grind (arith, nat_tests) in
+    let nonzero : (n == 0) ≡ false = grind (arith, nat_tests) in
+    let large : nat_le whole 1 ≡ false = grind (arith, nat_tests) in
+    let fits : nat_le whole 536870911 ≡ true = grind (arith, nat_tests) in
+    let move : group_move s first before n ≡ goes in_step (with_literal s whole) =
+    rw (plain, nonzero, value, large, fits) refl in rw (move, past) (later (next_count at))
+groups_read _ _ (more n g gs small groups) whole before rest first offset end s result ends value low
+    high later at =
+    let marks : nat_le 128 (128 + g) ≡ true = grind (arith, nat_tests) in
+    let goes_on : group_move s first before (128 + g)
+    ≡ goes (in_number first (before ++ (128 + g) ∷ [])) s = rw marks refl in
+    let bytes = group_bytes-cons n g gs groups in let all = ap length bytes in
+    let same = append_assoc before ((128 + g) ∷ []) (group_bytes gs) in
+    let value' : groups_value ((before ++ (128 + g) ∷ []) ++ group_bytes gs) ≡ whole =
+    rw (same, ← bytes) value in
+    rw (bytes, goes_on) (groups_read n gs groups whole (before ++ (128 + g) ∷ []) rest first
+    (suc offset) end s result (omega (arith, all, ends)) value' low high later (next_count at))
+
+-- a number's first byte is no step's end
+groups_begin : (n : ℕ) (gs : List ℕ) → IsGroups n gs → (rest : List ℕ) (at offset : ℕ) (s : Step)
+    → binary_steps_among in_step s at offset (group_bytes gs ++ rest) End
+    ≡ binary_steps_among (in_number at []) s at offset (group_bytes gs ++ rest) End
+groups_begin n gs h rest at offset s = grind (arith, group_bytes-cons, completes, group_move)
+
+-- a literal, and what follows it
+literal_read : (l : ℕ) (rest : List ℕ) (offset : ℕ) (s : Step) (result : ReadProof)
+    → is_literal 268435455 l ≡ true
+    → IsRead in_step (with_literal s l) (offset + length (number_bytes l)) rest result
+    → IsRead in_step s offset (number_bytes l ++ rest) result
+literal_read l rest offset s result is later at =
+    let r = literal_range 268435455 l is in
+    let groups = groups_are l l (omega arith) (omega arith) in
+    ap read_of (groups_begin l (seven_bit_groups l) groups rest at offset s)
+    ∙ groups_read l (seven_bit_groups l) groups l [] rest at offset _ s result refl
+    (groups_valued l (seven_bit_groups l) groups) (omega arith) (omega arith) later at
+
+-- ---- Steps
+
+-- literals, the step's end, and what follows it
+literals_read : (ls : List ℕ) (rest : List ℕ) (offset end : ℕ) (s : Step) (result : ReadProof)
+    → offset + length (flat_map number_bytes ls ++ 0 ∷ []) ≡ end
+    → list_all (is_literal 268435455) ls ≡ true → IsRead at_tag (named 0) end rest result
+    → IsRead in_step s offset (flat_map number_bytes ls ++ 0 ∷ rest)
+    (with_read (fold with_literal s ls) end result)
+literals_read [] rest offset end s result ends are later at =
+    let past : suc offset ≡ end = omega (arith, ends) in
+    rw past (ap (with_read s end) (later (next_count at)))
+literals_read (l ∷ ls) rest offset end s result ends are later at =
+    let r = both (is_literal 268435455 l) (list_all (is_literal 268435455) ls) are in
+    let all = length-append (number_bytes l) (flat_map number_bytes ls ++ 0 ∷ []) in
+    let same = ap length (append_assoc (number_bytes l) (flat_map number_bytes ls) (0 ∷ [])) in
+    rw append_assoc (literal_read l (flat_map number_bytes ls ++ 0 ∷ rest) offset s _ r.0
+    (literals_read ls rest (offset + length (number_bytes l)) end (with_literal s l) result
+    (omega (arith, all, same, ends)) r.1 later) at)
+
+-- a step, and what follows it
+step_read : (kind : StepKind) (ls : List ℕ) (rest : List ℕ) (offset end : ℕ) (result : ReadProof)
+    → offset + length (tag_bytes kind ++ flat_map number_bytes ls ++ 0 ∷ []) ≡ end
+    → list_all (is_literal 268435455) ls ≡ true → IsRead at_tag (named 0) end rest result
+    → IsRead at_tag (named 0) offset
+    ((tag_bytes kind ++ flat_map number_bytes ls ++ 0 ∷ []) ++ rest)
+    (with_read (drat_step kind ls) end result)
+step_read Add ls rest offset end result ends are later at =
+    let same = append_assoc (flat_map number_bytes ls) (0 ∷ []) rest in
+    let read = literals_read ls rest (suc offset) end (drat_step Add []) result
+    (omega (arith, ends)) are later (next_count at) in cc (with_literals (drat_step Add []) ls)
+step_read Delete ls rest offset end result ends are later at =
+    let same = append_assoc (flat_map number_bytes ls) (0 ∷ []) rest in
+    let read = literals_read ls rest (suc offset) end (drat_step Delete []) result
+    (omega (arith, ends)) are later (next_count at) in cc (with_literals (drat_step Delete []) ls)
+
+-- the steps from a byte on
+steps_read : (steps : List Step) (offset : ℕ) → All IsDratStep steps
+    → IsRead at_tag (named 0) offset
+    (flat_map binary_step steps) (printed_from [] binary_step offset steps)
+steps_read [] offset are at = refl
+steps_read (s ∷ ss) offset are at =
+    let f : IsDratStep s = are 0 s (omega arith) in let end : ℕ = offset + length (binary_step s) in
+    let later = steps_read ss end (λ k d l. are (suc k) d (omega arith)) in
+    let read = step_read s.kind s.lits (flat_map binary_step ss) offset end _ refl
+    f.literals later at
+    in let same : end - 0 ≡ end = omega arith in cc (drat_step_is s f)
+
+-- a printed proof is read back
+pub binary_read : (steps : List Step) → All IsDratStep steps
+    → read_of (binary_steps (input_of (flat_map binary_step steps))) ≡ proof_of [] binary_step steps
+binary_read steps are = steps_read steps 0 are 1
 
 -- ---- A number
 
@@ -43,8 +189,7 @@ number_spelled (c ∷ bytes) b marked some small =
 
     step : (m : ℕ) → 0 < m → 128 ≤ c → c ≤ 255 → number_bytes m ≡ bytes ++ b ∷ []
         → number_bytes (c % 128 + 128 * m) ≡ c ∷ bytes ++ b ∷ []
-    step m some low high later =
-        grind (arith, group_bytes, groups_step, seven_bit_groups, group_bytes-cons, groups_are, number_bytes)
+    step m some low high later = grind (arith, groups_step, group_bytes-cons, groups_are)
 
 -- ---- The bytes of a step so far
 
@@ -81,25 +226,19 @@ last_spelled : (s : Step) (first : ℕ) (bytes : List ℕ) (b : ℕ) → HasLite
     → list_all is_marked bytes ≡ true → b < 128 → Spells (step_bytes s ++ bytes) b
     (binary_number_move s first b (groups_value (bytes ++ b ∷ [])))
 last_spelled s first bytes b has marked small =
-    grind (arith, groups_value, faults, goes, in_step, with_literal, all_more, tag_bytes, flat_map-append, number_bytes, append-nil, number_spelled, append_assoc)
+    grind (arith, all_more, flat_map-append, append-nil, number_spelled, append_assoc)
 
 -- one more byte of a number
 group_spelled : (s : Step) (first : ℕ) (bytes : List ℕ) (b : ℕ) → HasLiterals s
     → list_all is_marked bytes ≡ true → b < 256
     → Spells (step_bytes s ++ bytes) b (group_move s first bytes b)
-group_spelled s first bytes b has marked byte =
-    grind (arith, goes, in_number, binary_number_move, groups_value, all_more, append_assoc, last_spelled)
+group_spelled s first bytes b has marked byte = grind (arith, all_more, append_assoc, last_spelled)
 
 byte_moves : (spot : BinarySpot) (s : Step) (at b : ℕ) → b < 256 → Fits spot s
     → Spells (so_far spot s) b (binary_move_of spot s at b)
 byte_moves at_tag s at b byte fits = tag_spelled s at b fits
-byte_moves in_step s at b byte fits = by (b == 0) refl
-  where
-    by : (v : Bool) → (b == 0) ≡ v
-        → Spells (step_bytes s) b (cond v (completes s) (group_move s at [] b))
-    by true e = grind arith
-    by false e = subst (λ bs. Spells bs b (group_move s at [] b)) (append-nil (step_bytes s))
-        (group_spelled s at [] b fits refl byte)
+byte_moves in_step s at b byte fits =
+    let group = rw append-nil at (group_spelled s at [] b fits refl byte) in grind arith
 byte_moves (in_number first bytes) s at b byte fits = search (rules, group_spelled)
 
 -- ---- Steps
@@ -113,11 +252,13 @@ bytes_spelled : (bs : List ℕ) (spot : BinarySpot) (s : Step) (at offset : ℕ)
     → bare (binary_steps_among spot s at offset bs End) ≡ Some steps → AreSpelled spot s bs steps
 bytes_spelled (b ∷ bs) spot s at offset steps are fits e =
     by (binary_move_of spot s at b) (byte_moves spot s at b (are 0 b (omega arith)) fits)
-    (λ spot s at offset steps. bytes_spelled bs spot s at offset steps (λ k d l. are (suc k) d (omega arith))) e
+    (λ spot s at offset steps. bytes_spelled bs spot s at offset steps
+    (λ k d l. are (suc k) d (omega arith))) e
   where
     IsSo : Type 0
     IsSo = (spot : BinarySpot) (s : Step) (at offset : ℕ) (steps : List Step) → Fits spot s
-        → bare (binary_steps_among spot s at offset bs End) ≡ Some steps → AreSpelled spot s bs steps
+        → bare (binary_steps_among spot s at offset bs End) ≡ Some steps
+        → AreSpelled spot s bs steps
 
     onto : (before : List ℕ) → before ≡ so_far spot s ++ b ∷ []
         → so_far spot s ++ b ∷ bs ≡ before ++ bs
@@ -138,7 +279,7 @@ bytes_spelled (b ∷ bs) spot s at offset steps are fits e =
         (λ spot s. binary_steps_among spot s (next_count at) (suc offset) bs End)) ≡ Some steps
         → AreSpelled spot s (b ∷ bs) steps
     by (goes next t) m later e =
-        let r = later next t (next_count at) (suc offset) steps m.0 e in (r.0, onto (so_far next t) m.1 ∙ r.1)
+        let r = later next t (next_count at) (suc offset) steps m.0 e in grind (arith, onto)
     by (completes t) m later e =
         let rest = binary_steps_among at_tag (named 0) (next_count at) (suc offset) bs End in
         completed t m.0 m.1 later (bare rest) refl
@@ -147,7 +288,8 @@ bytes_spelled (b ∷ bs) spot s at offset steps are fits e =
 bytes_spelled bs spot s at offset steps h h2 h3 = grind (arith, none_some)
 
 -- steps that are read back are read
-read_steps : (offset : ℕ) (steps : List Step) → map (λ r. r.step) (printed_steps [] binary_step offset steps) ≡ steps
+read_steps : (offset : ℕ) (steps : List Step)
+    → map (λ r. r.step) (printed_steps [] binary_step offset steps) ≡ steps
 read_steps offset [] = refl
 read_steps offset (s ∷ ss) = ap (λ t. s ∷ t) (read_steps (offset + length (binary_step s)) ss)
 
@@ -164,11 +306,9 @@ binary_both_ways = record {
       (bare-ReadsAs (binary_steps (input_of bytes)) steps reads) in
       record { within = r.0; spelled = r.1 };
   written_is_read = λ bytes steps is.
-      let back = ap (λ bs. read_of (binary_steps (input_of bs))) is.spelled
-      ∙ binary_read steps is.within in
-      record {
-        all = sym (placed_steps (binary_steps (input_of bytes)).steps)
-            ∙ ap (λ p. map (λ (r : ReadStep). r.step) p.steps) back ∙ read_steps 0 steps;
-        no_fault = ap (λ p. p.fault) back;
-      };
+      let same : bytes ≡ flat_map binary_step steps = is.spelled in
+      let back = rw (← same) at (binary_read steps is.within) in
+      let bare = placed_steps (binary_steps (input_of bytes)).steps in
+      let all = ap (λ p. map (λ (r : ReadStep). r.step) p.steps) back in
+      record { all = cc (read_steps 0 steps); no_fault = ap (λ p. p.fault) back };
 }

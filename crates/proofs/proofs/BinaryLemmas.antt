@@ -1,116 +1,134 @@
 -- A binary proof's bytes, one at a time.
-use Rattle.std.proofs.Common.{◌≡◌, ℕ, ◌<◌, ◌≤◌, [], ◌∷◌, length, Option, None, Some, refl, sym, ap}
-use Rattle.std.proofs.Common.{◌∙◌, subst, arith, rules}
-use Rattle.std.specs.Prelude.{Bool, true, Result, Ok, Err, slice_index}
+use Rattle.std.proofs.Common.{◌≡◌, ℕ, ◌<◌, ◌≤◌, [], ◌∷◌, length, Option, None, Some, refl, ap}
+use Rattle.std.proofs.Common.{◌∙◌, arith, rules, Bool, true, Result, Ok, Err, slice_index}
 use Rattle.cnf_base.specs.Stream.{Suffix, Stream, Along, IsLook, bumped, next_count, most_to_come}
-use Rattle.cnf_base.specs.{Stream.tells_failure, Readers.Keeps}
-use Rattle.cnf_base.specs.declared.input.Ending.TheVariants.{End, Failed}
-use Rattle.cnf_base.specs.declared.fault.Fault.TheVariants.{Binary, ReadFailed, OutOfMemory}
-use Rattle.cnf_base.specs.declared.fault.{BinaryFault.BinaryFault, Fault.Fault}
+use Rattle.cnf_base.specs.declared.fault.Fault.{TheVariants.Binary, TheVariants.OutOfMemory, Fault}
 use Rattle.cnf_base.proofs.StreamLemmas.{Splits-first, Splits-byte, Along-then, Along-map}
 use Rattle.cnf_base.proofs.StreamLemmas.{Along-look, Along-bumped, Along-still, shown_end}
 use Rattle.cnf_base.proofs.StreamLemmas.{most_to_come-bumped, most_to_come-look, IsLook-still}
-use Rattle.proofs.specs.{declared.step_end.StepEnd.StepEnd, Steps.Step, Steps.named, Reading.Proof}
-use Rattle.proofs.specs.declared.{step_end.StepEnd.TheVariants.Byte, moved.Moved.Moved}
-use Rattle.proofs.specs.{declared.drat_binary.part.BinaryPart.BinaryPart, Reading.GivesStep}
-use Rattle.proofs.specs.{declared.drat_binary.stopped.Stopped.Stopped, Reading.PassesNoEnd}
-use Rattle.proofs.specs.Code.{Reading.proof_unless_ended, Whole.RunsOn, TextMoves.EndsProof}
-use Rattle.proofs.specs.Code.Binary.{binary_steps_from, binary_steps_at}
-use Rattle.proofs.specs.Code.BinaryMoves.{MovesBinary, binary_left}
+use Rattle.cnf_base.specs.{Stream.tells_failure, declared.fault.BinaryFault.BinaryFault}
+use Rattle.cnf_base.specs.{declared.input.Ending.TheVariants.End, Readers.Keeps}
+use Rattle.proofs.specs.Reading.{Proof, GivesStep, PassesNoEnd}
 use Rattle.proofs.specs.Binary.{BinarySpot, at_tag, BinaryMove, goes, completes, faults}
 use Rattle.proofs.specs.Binary.{binary_move_of, on_binary_move, binary_at_end}
-use Rattle.proofs.proofs.ReachLemmas.{on_binary_move-from, binary_steps_among-from}
-use Rattle.proofs.proofs.TextLemmas.{gives_fault}
+use Rattle.proofs.proofs.TextLemmas.{on_binary_move-from, binary_steps_among-from, gives_fault}
+use Rattle.proofs.specs.{declared.drat_binary.part.BinaryPart.BinaryPart, Code.TextMoves.EndsProof}
+use Rattle.proofs.specs.{declared.drat_binary.stopped.Stopped.Stopped, Code.BinaryMoves.MovesBinary}
+use Rattle.proofs.specs.{declared.step_end.StepEnd.TheVariants.Byte, Code.Binary.binary_steps_from}
+use Rattle.proofs.specs.{declared.step_end.StepEnd.StepEnd, Code.Reading.proof_unless_ended}
+use Rattle.proofs.specs.{Code.BinaryMoves.binary_left, Code.Binary.binary_steps_at, Steps.named}
+use Rattle.proofs.specs.{Steps.Step, declared.moved.Moved.Moved, Code.Whole.RunsOn}
 
 -- from one moment to another bytes of one step were read
 pub record Between (old now : Stream) (spot : BinarySpot) (s : Step) : Type 0 where
-  pub text : Along old now (λ i j. binary_steps_at old.byte_no i ≡ binary_steps_from spot s now.byte_no j)
+  pub text : Along old now
+      (λ i j. binary_steps_at old.byte_no i ≡ binary_steps_from spot s now.byte_no j)
   pub fewer : most_to_come now ≤ most_to_come old
   pub mark : tells_failure now.reader ≡ tells_failure old.reader
 
 pub Between-none : (s : Stream) → Between s s at_tag (named 0)
-Between-none s = record { text = Along-still s (binary_steps_at s.byte_no); fewer = omega arith; mark = refl }
+Between-none s =
+    record { text = Along-still s (binary_steps_at s.byte_no); fewer = omega arith; mark = refl }
 
 -- what is left after an answer, where it is kept if it is an end
-pub binary_kept : (result : Result Bool Fault) (kept : Option (Result Bool Fault)) (at : ℕ) (i : Suffix) → Keeps result kept
+pub binary_kept : (result : Result Bool Fault) (kept : Option (Result Bool Fault)) (at : ℕ)
+    (i : Suffix) → Keeps result kept
     → binary_left result at i ≡ proof_unless_ended kept (binary_steps_at at i)
 binary_kept result kept at i h = search rules
 
-ends_so : (last : Proof) (result : Result Bool Fault) (end : Option StepEnd) (s : Step) (before : Proof) (at : ℕ) (j : Suffix)
-    → EndsProof result last → before ≡ last → GivesStep result end s before (binary_left result at j) j
+ends_so : (last : Proof) (result : Result Bool Fault) (end : Option StepEnd) (s : Step)
+    (before : Proof) (at : ℕ) (j : Suffix) → EndsProof result last → before ≡ last
+    → GivesStep result end s before (binary_left result at j) j
 ends_so last result end s before at j h h2 = search rules
 
-module _ (old now new : Stream) (spot : BinarySpot) (s : Step) (so_far : Between old now spot s) (look : IsLook now new) where
-  looked : Along old new (λ i j. binary_steps_at old.byte_no i ≡ binary_steps_from spot s new.byte_no j)
-  looked = Along-then old now new _ _ _ so_far.text (Along-look now new look) (λ i j k m q r.
-      q ∙ ap (binary_steps_from spot s now.byte_no) r ∙ ap (λ n. binary_steps_from spot s n k) (sym look.byte_no))
+module _ (old now new : Stream) (spot : BinarySpot) (s : Step) (so_far : Between old now spot s)
+    (look : IsLook now new) where
+  looked : Along old new (λ i j. binary_steps_at old.byte_no i ≡ binary_steps_from spot s
+      new.byte_no j)
+  looked =
+      let number = look.byte_no in Along-then old now new _ _ _ so_far.text
+      (Along-look now new look)
+      (λ i j k m q r. cc)
 
   -- an answer at a moment, what is to come, and that no end was passed
   abbrev Gave : Stream → Result Bool Fault → Option StepEnd → Step → Type 0
-  Gave last result end t = Along old last (λ i j. GivesStep result end t (binary_steps_at old.byte_no i) (binary_left result last.byte_no j) j
+  Gave last result end t = Along old last (λ i j.
+      GivesStep result end t (binary_steps_at old.byte_no i) (binary_left result last.byte_no j) j
       × PassesNoEnd (binary_steps_at old.byte_no i) j)
 
   -- so it is of steps that are so
   passes : (p q : Proof) (j : Suffix) → p ≡ q → PassesNoEnd q j → PassesNoEnd p j
-  passes p q j is h = let P : Proof → Type 0 = λ x. PassesNoEnd x j in subst P (sym is) h
+  passes p q j is h = rw is h
 
   -- a byte was taken
   module _ (b : ℕ) (some : 0 < length new.ahead) (first : b ≡ slice_index new.ahead 0) where
     abbrev follows : Suffix → BinaryMove → Proof
-    follows j move = on_binary_move new.byte_no j.offset move (λ spot s. binary_steps_from spot s (next_count new.byte_no) j)
+    follows j move = on_binary_move new.byte_no j.offset move
+        (λ spot s. binary_steps_from spot s (next_count new.byte_no) j)
 
-    byte_text : Along old (bumped new) (λ i j. binary_steps_at old.byte_no i ≡ follows j (binary_move_of spot s new.byte_no b))
-    byte_text = Along-then old new (bumped new) _ _ _ looked (Along-bumped new b some first) (λ i j k m q r.
+    abbrev move : BinaryMove
+    move = binary_move_of spot s new.byte_no b
+
+    byte_text : Along old (bumped new) (λ i j. binary_steps_at old.byte_no i ≡ follows j move)
+    byte_text =
+        Along-then old new (bumped new) _ _ _ looked (Along-bumped new b some first) (λ i j k m q r.
         q ∙ ap (binary_steps_from spot s new.byte_no) (Splits-first j (b ∷ []) k r)
-        ∙ ap (λ t. follows t (binary_move_of spot s new.byte_no b)) (Splits-byte j b k r))
+        ∙ ap (λ t. follows t move) (Splits-byte j b k r))
 
     -- whatever the byte did, nothing that was to come ends before what is left
     follows-from : (j : Suffix) (move : BinaryMove) → PassesNoEnd (follows j move) j
     follows-from j move = search (rules, arith, on_binary_move-from, binary_steps_among-from)
 
-    pub Between-byte : (next : BinarySpot) (t : Step) → binary_move_of spot s new.byte_no b ≡ goes next t → tells_failure new.reader ≡ tells_failure now.reader
-        → Between old (bumped new) next t
+    pub Between-byte : (next : BinarySpot) (t : Step) → move ≡ goes next t
+        → tells_failure new.reader ≡ tells_failure now.reader → Between old (bumped new) next t
     Between-byte next t is mark = search (rules, byte_text, most_to_come-look, most_to_come-bumped)
 
     -- what is made of the move is given
     gave : (result : Result Bool Fault) (end : Option StepEnd) (t : Step)
-        → ((i j : Suffix) → binary_steps_at old.byte_no i ≡ follows j (binary_move_of spot s new.byte_no b)
-        → GivesStep result end t (binary_steps_at old.byte_no i) (binary_left result (bumped new).byte_no j) j) → Gave (bumped new) result end t
-    gave result end t gives = Along-map old (bumped new) _ _ byte_text (λ i j m q. grind (arith, passes, binary_move_of, follows-from))
+        → ((i j : Suffix) → binary_steps_at old.byte_no i ≡ follows j move → GivesStep result end t
+        (binary_steps_at old.byte_no i) (binary_left result (bumped new).byte_no j) j)
+        → Gave (bumped new) result end t
+    gave result end t gives =
+        Along-map old (bumped new) _ _ byte_text (λ i j m q. grind (arith, passes, follows-from))
 
-    pub Between-step : (end : Option StepEnd) → end ≡ Some (Byte new.byte_no) → (t : Step) → binary_move_of spot s new.byte_no b ≡ completes t
-        → Gave (bumped new) (Ok true) end t
+    pub Between-step : (end : Option StepEnd) → end ≡ Some (Byte new.byte_no) → (t : Step)
+        → move ≡ completes t → Gave (bumped new) (Ok true) end t
     Between-step end at t is = search (rules, gave)
 
-    pub Between-fault : (f : BinaryFault) (at : ℕ) (t : Step) → binary_move_of spot s new.byte_no b ≡ faults f at → Gave (bumped new) (Err (Binary f at)) None t
+    pub Between-fault : (f : BinaryFault) (at : ℕ) (t : Step) → move ≡ faults f at
+        → Gave (bumped new) (Err (Binary f at)) None t
     Between-fault f at t is = search (rules, gave, gives_fault)
 
     pub Between-refused : (t : Step) → Gave (bumped new) (Err OutOfMemory) None t
     Between-refused t = gave (Err OutOfMemory) None t (λ i j q. refl)
 
   -- and none before the rest
-  rest-from : (i j : Suffix) → binary_steps_at old.byte_no i ≡ binary_steps_from spot s new.byte_no j → PassesNoEnd (binary_steps_at old.byte_no i) j
+  rest-from : (i j : Suffix) → binary_steps_at old.byte_no i ≡ binary_steps_from spot s
+      new.byte_no j
+      → PassesNoEnd (binary_steps_at old.byte_no i) j
   rest-from i j is = search (rules, passes, binary_steps_among-from)
 
-  pub Between-end : (result : Result Bool Fault) (end : Option StepEnd) → new.ahead ≡ [] → new.met ≡ Some End → EndsProof result (binary_at_end spot new.byte_no End)
+  pub Between-end : (result : Result Bool Fault) (end : Option StepEnd) → new.ahead ≡ []
+      → new.met ≡ Some End → EndsProof result (binary_at_end spot new.byte_no End)
       → Gave new result end s
   Between-end result end nothing met ends =
       search (rules, looked, shown_end, ends_so, binary_at_end, binary_steps_from, rest-from)
 
-  pub Between-failed : new.ahead ≡ [] → new.met ≡ Some Failed → Gave new (Err ReadFailed) None s
-  Between-failed nothing met =
-      search (rules, looked, gives_fault, binary_steps_from, shown_end, rest-from)
-
 -- literals were taken at once
-pub Between-on : (old now new : Stream) (spot : BinarySpot) (s t : Step) → Between old now spot s → RunsOn spot now new s t → Between old new spot t
+pub Between-on : (old now new : Stream) (spot : BinarySpot) (s t : Step) → Between old now spot s
+    → RunsOn spot now new s t → Between old new spot t
 Between-on old now new spot s t so_far on = grind (arith, Along-then)
 
 -- memory was refused there
 pub Between-out : (old now : Stream) (spot : BinarySpot) (s t : Step) → Between old now spot s
-    → Along old now (λ i j. GivesStep (Err OutOfMemory) None t (binary_steps_at old.byte_no i) (binary_left (Err OutOfMemory) now.byte_no j) j × PassesNoEnd (binary_steps_at old.byte_no i) j)
-Between-out old now spot s t so_far = Along-map old now _ _ so_far.text (λ i j m q. (refl, rest-from old now now spot s so_far (IsLook-still now) i j q))
+    → Along old now (λ i j. GivesStep (Err OutOfMemory) None t (binary_steps_at old.byte_no i)
+    (binary_left (Err OutOfMemory) now.byte_no j) j × PassesNoEnd (binary_steps_at old.byte_no i) j)
+Between-out old now spot s t so_far = Along-map old now _ _ so_far.text
+    (λ i j m q. (refl, rest-from old now now spot s so_far (IsLook-still now) i j q))
 
 -- what a byte was found to do, by the answer's pattern, and by the byte's number
-pub moves_told : (result answer : Result (Moved BinaryPart) Stopped) (spot : BinarySpot) (s t : Step) (at known b : ℕ)
-    → MovesBinary result (binary_move_of spot s at b) t → at ≡ known → result ≡ answer → MovesBinary answer (binary_move_of spot s known b) t
+pub moves_told : (result answer : Result (Moved BinaryPart) Stopped)
+    (spot : BinarySpot) (s t : Step)
+    (at known b : ℕ) → MovesBinary result (binary_move_of spot s at b) t → at ≡ known
+    → result ≡ answer → MovesBinary answer (binary_move_of spot s known b) t
 moves_told result answer spot s t at known b moves number is = search rules

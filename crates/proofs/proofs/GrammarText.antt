@@ -1,26 +1,151 @@
 -- The steps of a text by its words alone, in whatever format.
 use Rattle.std.proofs.Common.{◌≡◌, ℕ, suc, ◌+◌, ◌*◌, ◌≤◌, nat_le, cond, Bool, true, List, [], ◌∷◌}
 use Rattle.std.proofs.Common.{◌++◌, map, fold, Option, None, Some, refl, sym, ap, ◌∙◌, append_assoc}
-use Rattle.std.proofs.lemmas.{List.Elements.All-cons, Fmt.decimal_digit}
-use Rattle.std.proofs.{lemmas.List.Folds.list_all-append, Common.arith, Common.rules}
-use Rattle.std.specs.{Prelude.All, Prelude.codes, Option.option_map}
-use Rattle.std.specs.List.{flat_map, filter_map, cons_option, list_all}
-use Rattle.cnf_base.specs.{Grammar.text_words, Words.word_of, Literals.Literal, Text.Listed}
-use Rattle.cnf_base.specs.Printing.{input_of, is_literal, literal_text}
-use Rattle.cnf_base.specs.{declared.input.Ending.TheVariants.End, Text.listing_of}
-use Rattle.cnf_base.specs.declared.{fault.Fault.Fault, place.Place.Place, word.Number.Number}
-use Rattle.cnf_base.specs.declared.{fault.TextFault.TheVariants.LiteralTooLarge, word.Word.Word}
+use Rattle.std.proofs.Common.{arith, rules, All, codes, option_map, flat_map, filter_map, ◌-◌, ◌<◌}
+use Rattle.std.proofs.{Common.ℤ, lemmas.List.Elements.All-cons, lemmas.List.Folds.list_all-append}
+use Rattle.std.proofs.{Common.false, Common.length, lemmas.Fmt.decimal_digit}
+use Rattle.std.specs.{List.list_all}
+use Rattle.cnf_base.specs.Text.{Listed, listing_of, Listing, is_comment}
+use Rattle.cnf_base.specs.Printing.{input_of, is_literal, literal_text, words_line}
 use Rattle.cnf_base.proofs.GrammarLemmas.{said, number_text, IsSpelled, listing_says, listing_words}
-use Rattle.cnf_base.proofs.PrintLemmas.{both}
-use Rattle.proofs.specs.{Reading.Proof, Reading.PlacedStep, Reading.with_step, Steps.with_literal}
-use Rattle.proofs.specs.TextSteps.{Move, goes, completes, faults, Format, move_of, on_move}
+use Rattle.cnf_base.proofs.PrintLemmas.{both, first_word, along_from_one, past_from_one, Begins}
+use Rattle.cnf_base.proofs.PrintLemmas.{next_word, next_line, IsPlain, zero_plain, line_from}
+use Rattle.cnf_base.specs.{Grammar.text_words, declared.fault.TextFault.TheVariants.LiteralTooLarge}
+use Rattle.cnf_base.specs.{declared.input.Ending.TheVariants.End, declared.word.Number.Number}
+use Rattle.cnf_base.specs.{Literals.Literal, declared.fault.Fault.Fault, declared.place.Place.Place}
+use Rattle.cnf_base.specs.{declared.word.Word.Word, Code.Text.line_after, Code.Text.col_along}
+use Rattle.cnf_base.specs.{Words.word_of, Words.number, Stream.suffix}
+use Rattle.cnf_base.proofs.{PrintLemmas.end_of_line, PrintLemmas.end_of_line-next, PrintLemmas.past}
+use Rattle.proofs.specs.Steps.{with_literal, Step, named, with_hint}
+use Rattle.proofs.specs.TextSteps.{Move, goes, completes, faults, Format, move_of}
 use Rattle.proofs.specs.TextSteps.{literal_or_end, literal_or_fault, steps_among, steps_of}
-use Rattle.proofs.specs.Grammar.{ReadsAs, IsTextOf, IsGrammar}
-use Rattle.proofs.specs.{declared.step_end.StepEnd.StepEnd, Steps.Step, Steps.named}
+use Rattle.proofs.specs.Printing.{ReadProof, read_of, printed_steps, IsDratStep}
+use Rattle.proofs.specs.{declared.step_end.StepEnd.StepEnd, declared.step_buf.StepKind.StepKind}
+use Rattle.proofs.specs.{TextSteps.steps_from, Code.TextSteps.steps_listed, Code.TextSteps.steps_at}
+use Rattle.proofs.specs.{Reading.PlacedStep, Reading.with_step, Grammar.IsTextOf, Grammar.IsGrammar}
+use Rattle.proofs.specs.{Reading.Proof, Grammar.ReadsAs}
 use Rattle.cnf_base.specs.declared.word.Word.TheVariants as words
-use Rattle.cnf_base.specs.declared.token.Token as tokens
 use Rattle.cnf_base.specs.declared.token.Token.TheVariants as token
-use Rattle.proofs.specs.declared.step_end.StepEnd.TheVariants as ends
+
+-- ---- A proof that was printed as text, as it is read, in whatever format
+
+-- many literals, and many hints
+pub with_literals : (s : Step) (ls : List Literal)
+    → fold with_literal s ls ≡ record s { lits = s.lits ++ ls }
+with_literals s [] = search rules
+with_literals s (l ∷ ls) =
+    search (rules, with_literal, append_assoc, (with_literals (with_literal s l) ls))
+
+pub with_hints : (s : Step) (hs : List ℤ)
+    → fold with_hint s hs ≡ record s { hints = s.hints ++ hs }
+with_hints s [] = search rules
+with_hints s (h ∷ hs) = search (rules, with_hint, append_assoc, (with_hints (with_hint s h) hs))
+
+-- what is read of a proof, with one more step in front
+abbrev pub with_read : Step → ℕ → ReadProof → ReadProof
+with_read s offset p = record p { steps = record { step = s; offset = offset } ∷ p.steps }
+
+-- what is read of steps that are printed from an offset on
+abbrev pub printed_from : List ℕ → (Step → List ℕ) → ℕ → List Step → ReadProof
+printed_from end text offset steps =
+    record { steps = printed_steps end text offset steps; fault = None }
+
+-- an addition or a deletion of these literals in DRAT
+abbrev pub drat_step : StepKind → List Literal → Step
+drat_step kind ls = record { kind = kind; id = 0; lits = ls; hints = [] }
+
+pub drat_step_is : (s : Step) → IsDratStep s → drat_step s.kind s.lits ≡ s
+drat_step_is s f = search rules
+
+-- from this offset on a text is read so, wherever that stands
+abbrev pub IsRead : {Part : Type 0} → Format Part → ℕ → List ℕ → ReadProof → Type 0
+IsRead format n bytes result =
+    (p : Place) → 0 < p.col → read_of (steps_at format p (suffix n bytes End)) ≡ result
+
+-- and so it is where so much of a step was read, and these words are left of its line
+abbrev pub IsReadOn : {Part : Type 0} → Format Part → Part → Step → ℕ → List (List ℕ) → List ℕ
+    → ReadProof → Type 0
+IsReadOn format part s n words rest result =
+    (p : Place) → 0 < p.col → read_of (steps_from format part s (line_from p n words rest)) ≡ result
+
+module _ {Part : Type 0} (format : Format Part) where
+  -- a word of a step, and the last one
+  word_goes : (part : Part) (s : Step) {l m : Listing} {p : Place} {w : Word} {n : ℕ} {next : Part}
+      {later : Step} → Begins l (token.Word p w) n m → move_of format part s w ≡ goes next later
+      → steps_from format part s l ≡ steps_from format next later m
+  word_goes part s b e = rw (b.is, e) refl
+
+  pub word_completes : (part : Part) (s : Step) {l m o : Listing} {p q : Place} {w : Word}
+      {n f : ℕ} {whole : Step} (end : ℕ) (result : ReadProof) → Begins l (token.Word p w) n m
+      → Begins m (token.LineEnd q) f o → move_of format part s w ≡ completes whole → n ≡ end
+      → read_of (steps_listed format o) ≡ result
+      → read_of (steps_from format part s l) ≡ with_read whole end result
+  word_completes part s end result b c e at later = rw (b.is, c.is, e, at) (cc)
+
+  module _ (n : ℕ) (w : List ℕ) (ws : List (List ℕ)) (rest : List ℕ) {result : ReadProof}
+      {next : Part} {later : Step} where
+    -- a line's first word, and the next one
+    pub first_read : is_comment w ≡ false → IsPlain w
+        → move_of format format.start (named 0) (word_of w) ≡ goes next later
+        → IsReadOn format next later (n + length w) ws rest result
+        → IsRead format n (words_line (w ∷ ws) ++ rest) result
+    first_read no_comment plain e on p from_one =
+        let first = first_word p n w ws rest no_comment plain in
+        ap read_of (word_goes format.start (named 0) first e)
+        ∙ on (col_along p w) (along_from_one p w from_one)
+
+    pub word_read : (part : Part) (s : Step) → IsPlain w
+        → move_of format part s (word_of w) ≡ goes next later
+        → IsReadOn format next later (suc n + length w) ws rest result
+        → IsReadOn format part s n (w ∷ ws) rest result
+    word_read part s plain e on p from_one =
+        ap read_of (word_goes part s (next_word p n w ws rest from_one plain) e)
+        ∙ on (past p w) (past_from_one p w)
+
+  -- many words that do the same, and then those that follow
+  pub list_read : {A : Type 0} (printed : A → List ℕ) (fits : A → Bool) (with : Step → A → Step)
+      (part : Part) → ((x : A) → fits x ≡ true → IsPlain (printed x))
+      → ((s : Step) (x : A) → fits x ≡ true
+      → move_of format part s (word_of (printed x)) ≡ goes part (with s x))
+      → (xs : List A) (ws : List (List ℕ)) (rest : List ℕ) (result : ReadProof)
+      (s : Step) (n end : ℕ)
+      → end_of_line n (map printed xs ++ ws) ≡ end → list_all fits xs ≡ true
+      → ((m : ℕ) → end_of_line m ws ≡ end
+      → IsReadOn format part (fold with s xs) m ws rest result)
+      → IsReadOn format part s n (map printed xs ++ ws) rest result
+  list_read printed fits with part plain moves [] ws rest result s n end ends are
+      later = later n ends
+  list_read printed fits with part plain moves (x ∷ xs) ws rest result s n end ends are later =
+      let r = both (fits x) (list_all fits xs) are in
+      word_read n (printed x) (map printed xs ++ ws) rest part s (plain x r.0) (moves s x r.0)
+      (list_read printed fits with part plain moves xs ws rest result (with s x) _ end
+      (end_of_line-next n (printed x) (map printed xs ++ ws) ∙ ends) r.1 later)
+
+  -- the `0` that ends a step and its line, and what follows
+  pub zero_read : (part : Part) (s whole : Step) (rest : List ℕ) (result : ReadProof) (n end : ℕ)
+      → end_of_line n (codes "0" ∷ []) ≡ end
+      → move_of format part s (words.Number (number false 0)) ≡ completes whole
+      → IsRead format end rest result
+      → IsReadOn format part s n (codes "0" ∷ []) rest (with_read whole (end - 1) result)
+  zero_read part s whole rest result n end ends move later p from_one =
+      let q : Place = past p (codes "0") in
+      let zero = next_word p n (codes "0") [] rest from_one zero_plain in
+      let feed : suc (suc n + 1) ≡ end = omega (arith, ends) in
+      word_completes part s (end - 1) result zero (next_line q (suc n + 1) rest) move
+      (omega (arith, ends)) (rw feed (later (line_after q) (omega arith)))
+
+  -- steps in lines of their own, from a line on, where each such line is read as its step
+  pub lines_read : (line : Step → List ℕ) (Fits : Step → Type 0)
+      → format.is_start format.start ≡ true
+      → ((s : Step) → Fits s → (rest : List ℕ) (result : ReadProof) (n : ℕ)
+      → IsRead format (n + length (line s)) rest result
+      → IsRead format n (line s ++ rest) (with_read s (n + length (line s) - 1) result))
+      → (steps : List Step) (n : ℕ) → All Fits steps
+      → IsRead format n (flat_map line steps) (printed_from (codes "\n") line n steps)
+  lines_read line Fits starts read [] n are p from_one = search rules
+  lines_read line Fits starts read (s ∷ ss) n are p from_one =
+      read s (are 0 s (omega arith)) (flat_map line ss) _ n
+      (lines_read line Fits starts read ss _ (λ k d l. are (suc k) d (omega arith))) p from_one
 
 -- ---- The steps of a proof without a fault
 
@@ -64,36 +189,18 @@ module _ {Part : Type 0} (format : Format Part) where
       → bare (steps_among format part s ts p End)
       ≡ word_steps part s (filter_map (λ t. said t.0) ts)
   tokens_bare part s [] p = search rules
-  tokens_bare part s (t ∷ ts) p = by (λ part s. tokens_bare part s ts p) t.0
-    where
-      words : List Word
-      words = filter_map (λ t. said t.0) ts
-
-      IsSo : Type 0
-      IsSo = (part : Part) (s : Step)
-          → bare (steps_among format part s ts p End) ≡ word_steps part s words
-
-      moved : IsSo → (at : Place) (m : Move Part)
-          → bare (on_move format at t.1 m (λ part s. steps_among format part s ts p End))
-          ≡ on_word m (λ part s. word_steps part s words)
-      moved h at m = grind (arith, bare-with_step, steps_among, named)
-
-      by : IsSo → (token : tokens.Token)
-          → bare (steps_among format part s ((token, t.1) ∷ ts) p End)
-          ≡ word_steps part s (cons_option (said token) words)
-      by h token = grind (arith, moved, move_of)
+  tokens_bare part s (t ∷ ts) p =
+      let later = λ (part : Part) (s : Step). tokens_bare part s ts p in
+      grind (arith, bare-with_step, move_of)
 
   -- a text is read as its words are
   pub text_bare : (bytes : List ℕ) → bare (steps_of format (input_of bytes))
       ≡ word_steps format.start (named 0) (map word_of (text_words bytes))
-  text_bare bytes = ap (λ ending. bare
-      (steps_among format format.start (named 0) tokens (listing_of (input_of bytes)).end ending))
-      (listing_says bytes).ending
-      ∙ tokens_bare format.start (named 0) tokens (listing_of (input_of bytes)).end
-      ∙ ap (word_steps format.start (named 0)) (listing_words bytes)
-    where
-      tokens : List Listed
-      tokens = (listing_of (input_of bytes)).tokens
+  text_bare bytes =
+      let tokens = (listing_of (input_of bytes)).tokens in
+      let end = (listing_says bytes).ending in
+      let all = tokens_bare format.start (named 0) tokens (listing_of (input_of bytes)).end in
+      rw (end, all, listing_words bytes)
 
 -- ---- Both ways
 
@@ -156,8 +263,7 @@ module _ {Part : Type 0} (format : Format Part) (g : Spelling Part) (is : IsSpel
       by : (m : Move Part) → Spells g part s run m → IsSo
           → on_word format m (λ part s. word_steps format part s (map word_of runs)) ≡ Some steps
           → AreSpelled part s (run ∷ runs) steps
-      by (goes next t) m later e =
-          let r = later next t steps m.0 e in (r.0, onto (g.so_far next t) m.1 ∙ r.1)
+      by (goes next t) m later e = let r = later next t steps m.0 e in grind (arith, onto)
       by (completes t) m later e = grind (arith, completed, named)
       by (faults f) m later e = absurd (none_some steps e)
 
@@ -165,28 +271,21 @@ module _ {Part : Type 0} (format : Format Part) (g : Spelling Part) (is : IsSpel
   words_read : (steps : List Step) → All g.IsStep steps
       → word_steps format format.start (named 0) (map word_of (flat_map g.whole steps)) ≡ Some steps
   words_read [] are = ap (λ v. cond v (Some []) None) is.starts
-  words_read (s ∷ ss) are = is.reads s (are 0 s (omega arith)) (flat_map g.whole ss)
-      ∙ ap (option_map (λ ss. s ∷ ss)) (words_read ss (λ k d l. are (suc k) d (omega arith)))
-
-  -- a text that is read as steps has their words
-  text_spelled : (bytes : List ℕ) (steps : List Step)
-      → ReadsAs (steps_of format (input_of bytes)) steps
-      → All g.IsStep steps × (text_words bytes ≡ flat_map g.whole steps)
-  text_spelled bytes steps reads =
-      grind (arith, words_spelled (text_words bytes) format.start (named 0) steps is.begins (sym (text_bare format bytes) ∙ bare-ReadsAs (steps_of format (input_of bytes)) steps reads))
-
-  -- and one that has their words is read as them
-  text_read : (bytes : List ℕ) (steps : List Step) → All g.IsStep steps
-      → text_words bytes ≡ flat_map g.whole steps → ReadsAs (steps_of format (input_of bytes)) steps
-  text_read bytes steps are words =
-      grind (arith, steps_of format (input_of bytes), text_bare format bytes, named 0, words_read steps are)
+  words_read (s ∷ ss) are =
+      let later = words_read ss (λ k d l. are (suc k) d (omega arith)) in
+      cc (is.reads s (are 0 s (omega arith)) (flat_map g.whole ss))
 
   -- so a text is read as steps exactly where its words are theirs
   pub text_both_ways : IsGrammar (steps_of format) (IsTextOf g.IsStep g.whole)
   text_both_ways = record {
     read_is_written = λ bytes steps reads.
-        let r = text_spelled bytes steps reads in record { within = r.0; words = r.1 };
-    written_is_read = λ bytes steps written. text_read bytes steps written.within written.words;
+        let read = sym (text_bare format bytes)
+        ∙ bare-ReadsAs (steps_of format (input_of bytes)) steps reads in
+        let r = words_spelled (text_words bytes) format.start (named 0) steps is.begins read in
+        record { within = r.0; words = cc };
+    written_is_read = λ bytes steps written.
+        let words = written.words in let all = words_read steps written.within in
+        let bare = text_bare format bytes in grind arith;
   }
 
 -- ---- What several formats have
@@ -206,9 +305,8 @@ pub list_words : {Part : Type 0} (format : Format Part) {A : Type 0} (printed : 
 list_words format printed fits with part moves [] runs s are = refl
 list_words format printed fits with part moves (x ∷ xs) runs s are =
     let r = both (fits x) (list_all fits xs) are in
-    ap (λ m. on_word format m
-    (λ part s. word_steps format part s (map word_of (map printed xs ++ runs)))) (moves s x r.0)
-    ∙ list_words format printed fits with part moves xs runs (with s x) r.1
+    let later = list_words format printed fits with part moves xs runs (with s x) r.1 in
+    cc (moves s x r.0)
 
 -- the literal of a number within the limit
 literal_is : (is_negative : Bool) (size : ℕ) → 1 ≤ size → size ≤ 268435455

@@ -1,14 +1,7 @@
-pub mod ReachLemmas
 pub mod TextLemmas
-pub mod GroupLemmas
 pub mod BinaryLemmas
 pub mod GrammarText
-pub mod PrintedText
-pub mod DratPrinting
-pub mod LratPrinting
 pub mod DratGrammar
 pub mod LratGrammar
-pub mod BinaryPrinting
 pub mod BinaryGrammar
-pub mod PrintExamples
 pub mod WholeLemmas

@@ -1,27 +1,165 @@
 -- The steps of an LRAT text, both ways.
-use Rattle.std.proofs.Common.{◌≡◌, ℕ, ◌≤◌, cond, Bool, true, false, List, [], ◌∷◌, ◌++◌, map}
-use Rattle.std.proofs.Common.{fold, Option, refl, sym, ap, ◌∙◌, append_assoc, arith, rules}
-use Rattle.std.proofs.lemmas.List.{append-nil, map-append}
-use Rattle.std.specs.Prelude.{codes, ℤ, pos, neg_ℤ}
-use Rattle.std.specs.{Option.option_map, List.list_all, Fmt.decimal, Fmt.signed_decimal}
-use Rattle.cnf_base.specs.{Literals.Literal, Words.word_of}
-use Rattle.cnf_base.specs.Printing.{is_literal, literal_text, literal_words}
-use Rattle.cnf_base.specs.declared.word.{Number.Number, Word.Word}
-use Rattle.cnf_base.proofs.PrintLemmas.{both}
+use Rattle.std.proofs.Common.{◌≡◌, ℕ, ◌≤◌, cond, Bool, true, false, List, [], ◌∷◌, ◌++◌, map, fold}
+use Rattle.std.proofs.Common.{Option, refl, sym, ap, ◌∙◌, append_assoc, arith, rules, append-nil}
+use Rattle.std.proofs.Common.{codes, ℤ, pos, neg_ℤ, option_map, decimal, suc, ◌+◌, ◌-◌, ◌&&◌}
+use Rattle.std.proofs.Common.{nat_le, length, All, negsuc, flat_map}
+use Rattle.std.proofs.{lemmas.List.map-append, lemmas.Bool.Decides.nat_tests}
+use Rattle.std.specs.{List.list_all, Fmt.signed_decimal}
+use Rattle.cnf_base.specs.Printing.{is_literal, literal_text, literal_words, input_of, words_line}
+use Rattle.cnf_base.proofs.PrintLemmas.{both, end_of_line, end_of_line-next, end_of_line-first}
+use Rattle.cnf_base.proofs.PrintLemmas.{IsPlain, fixed_plain, decimal_plain, minus_plain}
+use Rattle.cnf_base.proofs.PrintLemmas.{decimal_no_comment, decimal_word, minus_word, zero_plain}
+use Rattle.cnf_base.proofs.PrintLemmas.{literal_word, literal_plain, literal_taken}
 use Rattle.cnf_base.proofs.GrammarLemmas.{number_text, IsSpelled, word_spelled}
-use Rattle.proofs.specs.{declared.step_buf.StepKind.StepKind, Grammar.LratIsGrammar}
-use Rattle.proofs.specs.declared.step_buf.StepKind.TheVariants.{Add, Delete}
+use Rattle.cnf_base.specs.Words.{word_of, number}
+use Rattle.cnf_base.specs.{Literals.Literal, declared.fault.TextFault.TheVariants.LiteralTooLarge}
+use Rattle.cnf_base.specs.{declared.word.Number.Number, declared.word.Word.Word}
 use Rattle.proofs.specs.Steps.{Step, is_small, is_hint, named, with_literal, with_hint}
-use Rattle.proofs.specs.TextSteps.{Move, goes, completes, faults, move_of}
+use Rattle.proofs.specs.TextSteps.{Move, goes, completes, faults, move_of, literal_or_end}
 use Rattle.proofs.specs.Lrat.{LratSpot, at_identifier, after_identifier, in_literals, in_hints}
-use Rattle.proofs.specs.Lrat.{in_deletion, lrat, is_identifier, identifier, literal, hint, deleted}
-use Rattle.proofs.specs.Printing.{hint_words, lrat_words, IsLratStep}
-use Rattle.proofs.proofs.PrintedText.{with_literals, with_hints}
-use Rattle.proofs.proofs.LratPrinting.{identifier_move, first_literal_move, literal_move, hint_part}
-use Rattle.proofs.proofs.LratPrinting.{hint_move, hint_zero, step_of}
+use Rattle.proofs.specs.Lrat.{in_deletion, lrat, identifier, literal, hint, deleted, lrat_steps}
+use Rattle.proofs.specs.Printing.{hint_words, lrat_words, IsLratStep, ReadProof, read_of, proof_of}
+use Rattle.proofs.proofs.GrammarText.{with_literals, with_hints, with_read, IsRead, list_read}
+use Rattle.proofs.proofs.GrammarText.{IsReadOn, first_read, word_read, zero_read, lines_read}
 use Rattle.proofs.proofs.GrammarText.{on_word, word_steps, Spelling, Spells, IsSpelling, zero_text}
 use Rattle.proofs.proofs.GrammarText.{text_both_ways, list_words, all_more, literal_cases}
+use Rattle.proofs.specs.declared.step_buf.StepKind.TheVariants.{Delete, Add}
+use Rattle.proofs.specs.{Grammar.LratIsGrammar, declared.step_buf.StepKind.StepKind}
+use Rattle.proofs.specs.Printing.{lrat_line}
 use Rattle.cnf_base.specs.declared.word.Word.TheVariants as words
+
+-- ---- An LRAT proof that was printed, as it is read
+
+-- ---- Words
+
+-- a step's identifier
+pub identifier_move : (s : Step) (id : ℕ) → 1 ≤ id → is_small id ≡ true
+    → move_of lrat at_identifier s (word_of (decimal id)) ≡ goes after_identifier (named id)
+identifier_move s id some small = search (rules, nat_le, move_of, lrat, at_identifier, decimal_word)
+
+-- a literal's word
+pub first_literal_move : (s : Step) (l : Literal) → is_literal 268435455 l ≡ true
+    → move_of lrat after_identifier s (word_of (literal_text l))
+    ≡ goes in_literals (with_literal s l)
+first_literal_move s l is =
+    let taken = literal_taken 268435455 l (omega arith)
+    is (literal_or_end in_literals (goes in_hints)
+    s) (faults LiteralTooLarge) in cc (literal_word 268435455 l (omega arith) is)
+
+pub literal_move : (s : Step) (l : Literal) → is_literal 268435455 l ≡ true
+    → move_of lrat in_literals s (word_of (literal_text l)) ≡ goes in_literals (with_literal s l)
+literal_move s l is =
+    let taken = literal_taken 268435455 l (omega arith)
+    is (literal_or_end in_literals (goes in_hints)
+    s) (faults LiteralTooLarge) in cc (literal_word 268435455 l (omega arith) is)
+
+-- an identifier within the limit
+id_range : (k : ℕ) → (nat_le 1 k && is_small k) ≡ true → (1 ≤ k) × (k ≤ 9223372036854775807)
+id_range k h = grind (arith, nat_tests)
+
+id_tests : (k : ℕ) → (nat_le 1 k && is_small k) ≡ true → (nat_le k 0 ≡ false) × (is_small k ≡ true)
+id_tests k h = let r = id_range k h in (grind (arith, nat_tests), grind (arith, nat_tests))
+
+-- where hints stand, or identifiers that are deleted
+abbrev pub hint_part : StepKind → LratSpot
+hint_part Add = in_hints
+hint_part Delete = in_deletion
+
+hint_plain : (kind : StepKind) (h : ℤ) → is_hint kind h ≡ true → IsPlain (signed_decimal h)
+hint_plain Add (pos k) is = let r = id_range k is in decimal_plain k (omega arith)
+hint_plain Add (negsuc k) is = let r = id_range (suc k) is in minus_plain (suc k) (omega arith)
+hint_plain Delete (pos k) is = let r = id_range k is in decimal_plain k (omega arith)
+hint_plain Delete (negsuc k) is = absurd (let bad : false ≡ true = is in cc)
+
+pub hint_move : (kind : StepKind) (s : Step) (h : ℤ) → is_hint kind h ≡ true
+    → move_of lrat (hint_part kind) s (word_of (signed_decimal h)) ≡ goes (hint_part kind)
+    (with_hint s h)
+hint_move kind s h h2 = search (rules, arith, id_range, id_tests, decimal_word, minus_word)
+
+-- the `0` after them
+pub hint_zero : (kind : StepKind) (s : Step)
+    → move_of lrat (hint_part kind) s (words.Number (number false 0)) ≡ completes s
+hint_zero kind s = search rules
+
+-- ---- Lines
+
+-- a step
+abbrev pub step_of : StepKind → ℕ → List Literal → List ℤ → Step
+step_of kind id ls hs = record { kind = kind; id = id; lits = ls; hints = hs }
+
+module _ (rest : List ℕ) (result : ReadProof) (end : ℕ) (later : IsRead lrat end rest result) where
+  -- hints, or identifiers that are deleted, after a word of a step, and the step's end
+  hints_read : (kind : StepKind) (id : ℕ) (ls : List Literal) (hs : List ℤ) (n : ℕ)
+      → end_of_line n (hint_words hs) ≡ end → list_all (is_hint kind) hs ≡ true
+      → IsReadOn lrat (hint_part kind) (step_of kind id ls []) n (hint_words hs) rest
+      (with_read (step_of kind id ls hs) (end - 1) result)
+  hints_read kind id ls hs n ends are p from_one =
+      list_read lrat signed_decimal (is_hint kind) with_hint (hint_part kind) (hint_plain kind)
+      (hint_move kind) hs (codes "0" ∷ []) rest _ (step_of kind id ls []) n end ends are (λ m ends'.
+      zero_read lrat (hint_part kind) _ (fold with_hint (step_of kind id ls []) hs)
+      rest result m end
+      ends' (hint_zero kind _) later) p from_one
+      ∙ ap (λ s. with_read s (end - 1) result) (with_hints (step_of kind id ls []) hs)
+
+  -- what follows the identifier of an addition
+  addition_read : (id : ℕ) (ls : List Literal) (hs : List ℤ) (n : ℕ)
+      → end_of_line n (literal_words ls ++ hint_words hs) ≡ end
+      → list_all (is_literal 268435455) ls ≡ true → list_all (is_hint Add) hs ≡ true
+      → IsReadOn lrat after_identifier (named id) n (literal_words ls ++ hint_words hs) rest
+      (with_read (step_of Add id ls hs) (end - 1) result)
+  addition_read id [] hs n ends are hints =
+      let ends' = end_of_line-next n (codes "0") (hint_words hs) ∙ ends in
+      word_read lrat n (codes "0") (hint_words hs) rest after_identifier (named id) zero_plain refl
+      (hints_read Add id [] hs _ ends' hints)
+  addition_read id (l ∷ ls) hs n ends are hints =
+      let r = both (is_literal 268435455 l) (list_all (is_literal 268435455) ls) are in
+      let plain = λ (l : Literal) (is : is_literal 268435455 l ≡ true).
+      literal_plain 268435455 l (omega arith) is in
+      let words = append_assoc (map literal_text ls) (codes "0" ∷ []) (hint_words hs) in
+      let first : Step = step_of Add id (l ∷ []) [] in let m : ℕ =
+      suc n + length (literal_text l) in
+      let ends' = end_of_line-next n (literal_text l) (literal_words ls ++ hint_words hs) ∙ ends in
+      word_read lrat n (literal_text l) (literal_words ls ++ hint_words hs) rest after_identifier
+      (named id) (plain l r.0) (first_literal_move (named id) l r.0) (rw words
+      (list_read lrat literal_text (is_literal 268435455) with_literal in_literals
+      plain literal_move
+      ls (codes "0" ∷ hint_words hs) rest _ first m end (ap (end_of_line m) (sym words) ∙ ends') r.1
+      (λ k zero_ends. rw (with_literals first ls)
+      (word_read lrat k (codes "0") (hint_words hs) rest in_literals (step_of Add id (l ∷ ls) [])
+      zero_plain refl (hints_read Add id (l ∷ ls) hs _
+      (end_of_line-next k (codes "0") (hint_words hs) ∙ zero_ends) hints)))))
+
+  -- a step's line
+  step_read : (kind : StepKind) (id : ℕ) (ls : List Literal) (hs : List ℤ) (n : ℕ)
+      → n + length (words_line (lrat_words kind id ls hs)) ≡ end → 1 ≤ id → is_small id ≡ true
+      → list_all (is_literal 268435455) ls ≡ true → (kind ≡ Delete → ls ≡ [])
+      → list_all (is_hint kind) hs ≡ true
+      → IsRead lrat n (words_line (lrat_words kind id ls hs) ++ rest)
+      (with_read (step_of kind id ls hs) (end - 1) result)
+  step_read Add id ls hs n ends some small are empty hints =
+      let most : id ≤ 9223372036854775807 = grind (arith, nat_tests) in
+      let ends' = end_of_line-first n (decimal id) (literal_words ls ++ hint_words hs) ∙ ends in
+      first_read lrat n (decimal id) (literal_words ls ++ hint_words hs) rest
+      (decimal_no_comment id (omega arith)) (decimal_plain id (omega arith))
+      (identifier_move (named 0) id some small) (addition_read id ls hs _ ends' are hints)
+  step_read Delete id ls hs n ends some small are empty hints =
+      let most : id ≤ 9223372036854775807 = grind (arith, nat_tests) in
+      let m : ℕ = n + length (decimal id) in
+      let ends' = end_of_line-next m (codes "d") (hint_words hs)
+      ∙ end_of_line-first n (decimal id) (codes "d" ∷ hint_words hs) ∙ ends in
+      rw (empty refl) (first_read lrat n (decimal id) (codes "d" ∷ hint_words hs) rest
+      (decimal_no_comment id (omega arith)) (decimal_plain id (omega arith))
+      (identifier_move (named 0) id some small)
+      (word_read lrat m (codes "d") (hint_words hs) rest after_identifier (named id)
+      (fixed_plain 100 [] refl) refl (hints_read Delete id [] hs _ ends' hints)))
+
+-- a printed proof is read back
+pub lrat_read : (steps : List Step) → All IsLratStep steps
+    → read_of (lrat_steps (input_of (flat_map lrat_line steps))) ≡ proof_of (codes "\n")
+    lrat_line steps
+lrat_read steps are = lines_read lrat lrat_line IsLratStep refl (λ s f rest result n later.
+    step_read rest result _ later s.kind s.id s.lits s.hints n refl f.some f.small f.literals
+    f.deletion f.hints) steps 0 are (record { line = 1; col = 1 }) (omega arith)
 
 -- ---- The words of a step so far
 
@@ -84,7 +222,8 @@ TakesLiteral part s run = (l : Literal) → is_literal 268435455 l ≡ true → 
 -- a literal just after the identifier, or the `0` there
 first_spelled : IsNumberSpelled after_identifier literal
 first_spelled s run n fits spelled =
-    literal_cases (Spells spelling after_identifier s run) in_literals (goes in_hints) s n run spelled
+    literal_cases (Spells spelling after_identifier s run) in_literals (goes in_hints) s
+    n run spelled
     tt taken ended
   where
     none : s.lits ≡ []
@@ -118,12 +257,11 @@ hint_is is_negative size h h2 = grind arith
 -- a hint, or the `0` that ends the step
 hint_spelled : IsNumberSpelled in_hints hint
 hint_spelled s run n fits spelled =
-    grind (arith, is_small, in_hints, append_assoc, completes, goes, with_hint, faults, other, is_hint, lrat_words, zero_text, hint_is, all_more, map-append)
+    grind (arith, append_assoc, other, zero_text, hint_is, all_more, map-append)
 
 -- an identifier that is deleted, or the `0` that ends the step
 deleted_spelled : IsNumberSpelled in_deletion deleted
-deleted_spelled s run n fits spelled =
-    grind (arith, is_small, in_deletion, faults, completes, goes, with_hint, number_text, is_hint, lrat_words, zero_text, all_more, map-append)
+deleted_spelled s run n fits spelled = grind (arith, zero_text, all_more, map-append)
 
 -- the `d`
 d_spelled : (part : LratSpot) (s : Step) (run : List ℕ) → Fits part s → run ≡ codes "d"
@@ -137,7 +275,8 @@ number_spelled at_identifier s run fits n spelled = identifier_spelled s run n s
 number_spelled part s run h n h2 =
     search (rules, arith, first_spelled, literal_spelled, hint_spelled, deleted_spelled)
 
-word_moves : (part : LratSpot) (s : Step) (run : List ℕ) → Fits part s → (w : Word) → IsSpelled w run
+word_moves : (part : LratSpot) (s : Step) (run : List ℕ) → Fits part s → (w : Word)
+    → IsSpelled w run
     → Spells spelling part s run (move_of lrat part s w)
 word_moves part s run fits (words.Number n) spelled = number_spelled part s run fits n spelled
 word_moves part s run fits words.D spelled = d_spelled part s run fits spelled
@@ -150,37 +289,32 @@ module _ (rest : List (List ℕ)) where
   later = word_steps lrat at_identifier (named 0) (map word_of rest)
 
   -- hints, or identifiers that are deleted, and the step's end
-  hints_read : (kind : StepKind) (hs : List ℤ) (s : Step) → list_all (is_hint kind) hs ≡ true
+  hint_words_read : (kind : StepKind) (hs : List ℤ) (s : Step) → list_all (is_hint kind) hs ≡ true
       → word_steps lrat (hint_part kind) s (map word_of (hint_words hs ++ rest))
       ≡ option_map (λ ss. fold with_hint s hs ∷ ss) later
-  hints_read kind hs s are = ap (λ ws. word_steps lrat (hint_part kind) s (map word_of ws))
-      (append_assoc (map signed_decimal hs) (codes "0" ∷ []) rest)
-      ∙ list_words lrat signed_decimal (is_hint kind) with_hint (hint_part kind) (hint_move kind) hs
-      (codes "0" ∷ rest) s are
-      ∙ ap (λ m. on_word lrat m (λ part s. word_steps lrat part s (map word_of rest)))
-      (hint_zero kind (fold with_hint s hs))
+  hint_words_read kind hs s are =
+      let words = append_assoc (map signed_decimal hs) (codes "0" ∷ []) rest in
+      let read = list_words lrat signed_decimal (is_hint kind) with_hint (hint_part kind)
+      (hint_move kind) hs (codes "0" ∷ rest) s are in
+      rw (words, read, hint_zero kind (fold with_hint s hs))
 
   -- an addition after its identifier
-  addition_read : (id : ℕ) (ls : List Literal) (hs : List ℤ) → are_literals ls ≡ true
+  addition_words_read : (id : ℕ) (ls : List Literal) (hs : List ℤ) → are_literals ls ≡ true
       → list_all (is_hint Add) hs ≡ true → word_steps lrat after_identifier (named id)
       (map word_of ((literal_words ls ++ hint_words hs) ++ rest))
       ≡ option_map (λ ss. step_of Add id ls hs ∷ ss) later
-  addition_read id [] hs are hints = hints_read Add hs (named id) hints
+  addition_words_read id [] hs are hints = hint_words_read Add hs (named id) hints
       ∙ ap (λ s. option_map (λ ss. s ∷ ss) later) (with_hints (named id) hs)
-  addition_read id (l ∷ ls) hs are hints =
+  addition_words_read id (l ∷ ls) hs are hints =
       let r = both (is_literal 268435455 l) (are_literals ls) are in
       let first : Step = step_of Add id (l ∷ []) [] in
-      ap (λ m. on_word lrat m (λ part s. word_steps lrat part s
-      (map word_of ((literal_words ls ++ hint_words hs) ++ rest))))
-      (first_literal_move (named id) l r.0)
-      ∙ ap (λ ws. word_steps lrat in_literals first (map word_of ws))
-      (append_assoc (literal_words ls) (hint_words hs) rest
-      ∙ append_assoc (map literal_text ls) (codes "0" ∷ []) (hint_words hs ++ rest))
-      ∙ list_words lrat literal_text (is_literal 268435455) with_literal in_literals literal_move ls
-      (codes "0" ∷ hint_words hs ++ rest) first r.1
-      ∙ ap (λ s. word_steps lrat in_hints s (map word_of (hint_words hs ++ rest)))
-      (with_literals first ls) ∙ hints_read Add hs (step_of Add id (l ∷ ls) []) hints
-      ∙ ap (λ s. option_map (λ ss. s ∷ ss) later) (with_hints (step_of Add id (l ∷ ls) []) hs)
+      let words = append_assoc (literal_words ls) (hint_words hs) rest
+      ∙ append_assoc (map literal_text ls) (codes "0" ∷ []) (hint_words hs ++ rest) in
+      let read = list_words lrat literal_text (is_literal 268435455) with_literal in_literals
+      literal_move ls (codes "0" ∷ hint_words hs ++ rest) first r.1 in
+      let first_move = first_literal_move (named id) l r.0 in
+      let hints_are = hint_words_read Add hs (step_of Add id (l ∷ ls) []) hints in
+      rw (first_move, words, read, with_literals first ls, hints_are, with_hints)
 
   words_read : (kind : StepKind) (id : ℕ) (ls : List Literal) (hs : List ℤ) → 1 ≤ id
       → is_small id ≡ true → are_literals ls ≡ true → (kind ≡ Delete → ls ≡ [])
@@ -188,17 +322,14 @@ module _ (rest : List (List ℕ)) where
       → word_steps lrat at_identifier (named 0) (map word_of (lrat_words kind id ls hs ++ rest))
       ≡ option_map (λ ss. step_of kind id ls hs ∷ ss) later
   words_read Add id ls hs some small are empty hints =
-      simp (on_word, word_steps, hint_words, identifier_move, named, addition_read)
-  words_read Delete id ls hs some small are empty hints = ap (λ m. on_word lrat m
-      (λ part s. word_steps lrat part s (map word_of (codes "d" ∷ hint_words hs ++ rest))))
-      (identifier_move (named 0) id some small)
-      ∙ hints_read Delete hs (step_of Delete id [] []) hints
-      ∙ ap (λ s. option_map (λ ss. s ∷ ss) later) (with_hints (step_of Delete id [] []) hs
-      ∙ ap (λ t. step_of Delete id t hs) (sym (empty refl)))
+      simp (on_word, word_steps, hint_words, identifier_move, named, addition_words_read)
+  words_read Delete id ls hs some small are empty hints =
+      let first_move = identifier_move (named 0) id some small in
+      let hints_are = hint_words_read Delete hs (step_of Delete id [] []) hints in
+      rw (first_move, hints_are, with_hints, empty refl)
 
 is_spelling : IsSpelling lrat spelling
-is_spelling =
-    grind (arith, word_moves, word_spelled, words_read, is_identifier, at_identifier, after_identifier, inside, in_literals, in_hints, in_deletion)
+is_spelling = grind (arith, word_moves, word_spelled, words_read, inside)
 
 pub lrat_both_ways : LratIsGrammar
 lrat_both_ways = text_both_ways lrat spelling is_spelling

@@ -1,14 +1,7 @@
-pub mod Deciding
 pub mod Existence
-pub mod Growth
-pub mod Holds
-pub mod Keeping
-pub mod KeptUnits
 pub mod Losses
 pub mod Reasons
 pub mod Rules
-pub mod Scans
 pub mod Sizes
 pub mod Truth
-pub mod Uniqueness
 pub mod Verdicts

@@ -1,4 +1,3 @@
-pub mod Chains
 pub mod LiveSets
 pub mod SameSets
 pub mod States

@@ -1,6 +1,5 @@
 pub mod Conflicts
 pub mod Covers
 pub mod Forced
-pub mod Lacking
 pub mod Open
 pub mod Unit

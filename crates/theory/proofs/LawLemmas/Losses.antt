@@ -1,19 +1,128 @@
 -- What deletions lose.
-use Rattle.std.proofs.Common.{arith, ◌≡◌, ◌≢◌, true, List, [], ◌∷◌, slice_get, sym, subst, inl, inr}
-use Rattle.std.proofs.{Common.rules, lemmas.Bool.cases_eq}
-use Rattle.cnf_base.specs.Literals.{Literal, Clause, complement, has}
-use Rattle.cnf_base.proofs.SetLemmas.{same_itself}
-use Rattle.proofs.specs.Steps.{Step}
-use Rattle.theory.specs.{Drat.take_off, Drat.SameLive, Drat.delete, Laws.LostWithReason}
+use Rattle.std.proofs.Common.{false, arith, ◌≡◌, ◌≢◌, true, List, [], ◌∷◌, slice_get, sym}
+use Rattle.std.proofs.Common.{inl, inr, rules, ℕ, suc, cond, Some, Ok, ◌⊎◌, IsTrue}
+use Rattle.std.proofs.{lemmas.Bool.false≢true, lemmas.Bool.cases_Bool, lemmas.Bool.cases_eq}
+use Rattle.cnf_base.specs.Literals.{Literal, Clause, complement, has, same_clause}
+use Rattle.cnf_base.proofs.{SetLemmas.same_itself, SetLemmas.same_there, SetLemmas.same_back}
+use Rattle.theory.specs.Drat.{take_off, SameLive, delete, after_drat, DratStep, add, AnswersListed}
 use Rattle.theory.specs.Losses.{LosesLiteral, LosesRootLiteral, DeleteLoses, StepLoses, HasLost}
-use Rattle.theory.specs.Propagation.{Live, Forced, Clash, IsRootReason, by_both}
-use Rattle.theory.specs.Rules.{State, by_copies, Same}
-use Rattle.theory.specs.declared.accepted.Accepted.{Accepted, TheVariants.Deleted}
-use Rattle.theory.proofs.DratLemmas.Copies.{covers_of, after_same as after_drat_same}
-use Rattle.theory.proofs.LawLemmas.KeptUnits.{forced_still, forced_without}
-use Rattle.theory.proofs.LawLemmas.{Reasons.reason_decided, Rules.after_same}
+use Rattle.theory.specs.Propagation.{Live, Forced, Clash, IsRootReason, by_both, IsClosed}
 use Rattle.theory.proofs.PropagationLemmas.Covers.{Covers, forced_covers, clash_covers}
-use Rattle.theory.proofs.PropagationLemmas.Covers.{reason_covers}
+use Rattle.theory.proofs.{DratLemmas.Copies.after_same as after_drat_same, LawLemmas.Reasons.IsAll}
+use Rattle.theory.proofs.{PropagationLemmas.Covers.reason_covers, LawLemmas.Reasons.reason_decided}
+use Rattle.theory.proofs.{LawLemmas.Reasons.all_that_follows, PropagationLemmas.Forced.forced_unit}
+use Rattle.theory.proofs.{LawLemmas.Truth.take_off_from, DratLemmas.Copies.covers_of}
+use Rattle.theory.proofs.LawLemmas.Rules.{after_same}
+use Rattle.theory.specs.{declared.accepted.Accepted.TheVariants.Deleted, Verdicts.DeletesReason}
+use Rattle.theory.specs.{Verdicts.DeletedReason, declared.drat_rules.DratRules.DratRules}
+use Rattle.theory.specs.{Drat.AnswersDrat, Laws.LostWithReason, declared.accepted.Accepted.Accepted}
+use Rattle.theory.specs.{Verdicts.Ending, Laws.UnitsAreKept, Laws.ReasonsAreKept, Rules.by_copies}
+use Rattle.theory.specs.{Drat.drat_step, Verdicts.Ends, Rules.State, Rules.Same, Rules.Answers}
+use Rattle.proofs.specs.{Steps.Step, Steps.clause_part, Steps.witness_part}
+
+-- ---- What follows with nothing assumed, and where the rules keep it
+
+-- what follows from some clauses follows from these and others
+forced_more : (live more : Live)
+    → ((k : ℕ) (c : Clause) → live k ≡ Some c → (j : ℕ) × (more j ≡ Some c))
+    → (l : Literal) → Forced live [] l → Forced more [] l
+forced_more live more each l f =
+    record { in_each = λ passes closed given. f.in_each passes (search rules) given }
+
+-- ---- Without one copy of a clause
+
+module _ (c : Clause) where
+  -- each clause is still there, or it is a copy of the one that was taken off
+  left_of : (live : List Clause) (k : ℕ) (d : Clause) → slice_get live k ≡ Some d
+      → (same_clause c d ≡ true) ⊎ ((j : ℕ) × (slice_get (take_off c live) j ≡ Some d))
+  left_of (e ∷ live) (suc k) d at =
+      elim (same_clause c e) as (λ b. (same_clause c d ≡ true)
+      ⊎ ((j : ℕ) × (slice_get (cond b live (e ∷ take_off c live)) j ≡ Some d))) [
+        | true ↦ inr (k, at)
+        | false ↦ elim (left_of live k d at) [ inl is ↦ inl is | inr w ↦ inr (suc w.0, w.1) ]
+      ]
+  left_of live k d at = search rules
+
+  -- what follows without it followed
+  pub fewer_forced : (live : List Clause) (l : Literal) → Forced (slice_get (take_off c live)) [] l
+      → Forced (slice_get live) [] l
+  fewer_forced live = forced_more (slice_get (take_off c live)) (slice_get live)
+      (take_off_from c live)
+
+  -- Where each literal that the clause makes hold still holds without it, so does all that held:
+  -- what follows without the clause is closed under its unit rule too.
+  pub forced_still : (live : List Clause) → ((m : Literal) → has c m ≡ true → Forced (slice_get live) [] m → ((k : Literal) → has c k ≡ true → k ≢ m → Forced (slice_get live) [] (complement k)) → Forced (slice_get (take_off c live)) [] m)
+      → (l : Literal) → Forced (slice_get live) [] l → Forced (slice_get (take_off c live)) [] l
+  forced_still live still l f = all.1.sound l (f.in_each _ closed (search rules))
+    where
+      all : (found : List Literal) × IsAll (slice_get (take_off c live)) [] found
+      all = all_that_follows (take_off c live) []
+
+      back : (x : Literal) → has all.0 x ≡ true → Forced (slice_get live) [] x
+      back x h = fewer_forced live x (all.1.sound x h)
+
+      found : (x : Literal) → Forced (slice_get (take_off c live)) [] x → has all.0 x ≡ true
+      found x g = g.in_each (λ k. has all.0 k) all.1.closed (λ a h. absurd (false≢true h))
+
+      closed : IsClosed (slice_get live) (λ x. has all.0 x)
+      closed = record {
+        unit = λ k d at m member others. elim (left_of live k d at) [
+          | inr w ↦ all.1.closed.unit w.0 d w.1 m member others
+          | inl same ↦ grind (arith, found, same_back, forced_unit, back, same_there)
+        ];
+      }
+
+  -- a clause that is the reason of no root-level literal takes nothing with it
+  pub forced_without : (live : List Clause) → (IsRootReason (slice_get live) c → ⊥) → (l : Literal)
+      → Forced (slice_get live) [] l
+      → Forced (slice_get (take_off c live)) [] l
+  forced_without live none = search (rules, forced_still)
+
+-- ---- Steps
+
+kept_by_step : (rules : DratRules) (live : List Clause) (step : DratStep) (word : Accepted)
+    (l : Literal) → IsTrue rules.keep_units
+    → AnswersDrat rules live step (Ok word) → Forced (slice_get live) [] l
+    → Forced (slice_get (after_drat live step word)) [] l
+kept_by_step rules live (add c set) word l on answers f = forced_more (slice_get live)
+    (slice_get (c ∷ live)) (λ k d at. (suc k, at)) l f
+kept_by_step rules live step word l on answers f = grind (arith, forced_more, forced_without)
+
+pub units_are_kept : UnitsAreKept
+units_are_kept rules live last (step ∷ steps) (word ∷ words) l on leads f =
+    units_are_kept rules (after_drat live step word) last steps words l on
+    leads.1 (kept_by_step rules live step word l on leads.0 f)
+units_are_kept rules live last steps words l on leads f = grind arith
+
+-- ---- Reasons
+
+-- no addition is accepted as a deletion
+none_added : (live : List Clause) (c set : List Literal) → AnswersListed (slice_get live) c
+    set (Ok Deleted) → ⊥
+none_added live c set h = search rules
+
+step_keeps : (rules : DratRules) (live : List Clause) (step : Step) (word : Accepted)
+    → IsTrue rules.keep_units → Answers (by_copies rules live) step (Ok word)
+    → DeletesReason (by_copies rules live) step word → ⊥
+step_keeps rules live step word h h2 h3 = grind (arith, none_added, clause_part, witness_part)
+
+none_before : (steps : List Step) (state : State) → DeletedReason state steps [] → ⊥
+none_before [] state d = d
+none_before (step ∷ steps) state d = d
+
+ends_keep : (rules : DratRules) (steps : List Step) (live : List Clause) (words : List Accepted)
+    (ending : Ending) → IsTrue rules.keep_units
+    → Ends (by_copies rules live) steps words ending → DeletedReason (by_copies rules live) steps
+    words → ⊥
+ends_keep rules (step ∷ steps) live (word ∷ words) ending on ends deleted =
+    let rest = after_drat live (drat_step rules step) word in
+    let later = ends_keep rules steps rest words ending on in
+    grind (arith, step_keeps, cases_Bool, none_before)
+ends_keep rules steps live words ending on ends deleted = deleted
+
+pub reasons_are_kept : ReasonsAreKept
+reasons_are_kept rules formula steps words ending on verdict deleted =
+    grind (arith, cases_Bool, none_before, ends_keep)
 
 -- ---- One deletion, where nothing clashes
 
@@ -26,44 +135,50 @@ module _ (live : List Clause) (c : Clause) (quiet : ¬ Clash (slice_get live) []
   none_held none loses = search (rules, forced_still)
 
   -- the one that did still does
-  pub still_held : (l : Literal) → has c l ≡ true → Forced (slice_get live) [] l → Forced (slice_get (take_off c live)) [] l → ¬ Loses
-  still_held l member held still loses = grind (arith, by, forced_still)
-    where
-      by : (m : Literal) → has c m ≡ true → Forced (slice_get live) [] m → ((k : Literal) → has c k ≡ true → k ≢ m → Forced (slice_get live) [] (complement k)) → Forced (slice_get (take_off c live)) [] m
-      by m m_there forced others = elim (cases_eq l m) [
-        | inl same ↦ subst (Forced (slice_get (take_off c live)) []) same still
+  pub still_held : (l : Literal) → has c l ≡ true → Forced (slice_get live) [] l
+      → Forced (slice_get (take_off c live)) [] l → ¬ Loses
+  still_held l member held still loses =
+      let all = forced_still c live (λ m m_there forced others. elim (cases_eq l m) [
+        | inl same ↦ rw same at still
         | inr ne ↦ absurd (quiet (by_both l held (others l member ne)))
-      ]
+      ]) loses.literal loses.forced in
+      loses.lost all
 
 -- it was no reason
-pub no_reason_kept : (live : List Clause) (c : Clause) → ¬ IsRootReason (slice_get live) c → ¬ DeleteLoses live c Deleted
+pub no_reason_kept : (live : List Clause) (c : Clause) → ¬ IsRootReason (slice_get live) c
+    → ¬ DeleteLoses live c Deleted
 no_reason_kept live c h = search (rules, forced_without)
 
 -- ---- The same clauses
 
-loses_covers : (a b s t : Live) → Covers a s → Covers s a → Covers t b → (c : Clause) → LosesRootLiteral a b c → LosesRootLiteral s t c
-loses_covers a b s t there back left c (inl p) = inl (clash_covers a s there [] p.0, reason_covers a s there c c (same_itself c) p.1)
-loses_covers a b s t there back left c (inr p) = inr (
-  λ clash. p.0 (clash_covers s a back [] clash),
-  record {
-    literal = p.1.literal;
-    forced = forced_covers a s there [] p.1.literal p.1.forced;
-    lost = λ f. p.1.lost (forced_covers t b left [] p.1.literal f);
-  },
-)
+loses_covers : (a b s t : Live) → Covers a s → Covers s a → Covers t b → (c : Clause)
+    → LosesRootLiteral a b c → LosesRootLiteral s t c
+loses_covers a b s t there back left c (inl p) =
+    inl (clash_covers a s there [] p.0, reason_covers a s there c c (same_itself c) p.1)
+loses_covers a b s t there back left c (inr p) =
+    let quiet = clash_covers s a back [] in let held = forced_covers a s there [] p.1.literal
+    p.1.forced in
+    let lost = forced_covers t b left [] p.1.literal in
+    inr (
+      λ clash. p.0 (quiet clash),
+      record { literal = p.1.literal; forced = held; lost = λ f. p.1.lost (lost f) },
+    )
 
-delete_loses_same : (c : Clause) (first second : List Clause) → SameLive first second → (word : Accepted) → DeleteLoses first c word → DeleteLoses second c word
+delete_loses_same : (c : Clause) (first second : List Clause) → SameLive first second
+    → (word : Accepted) → DeleteLoses first c word → DeleteLoses second c word
 delete_loses_same c first second same Deleted loses =
-    loses_covers _ _ _ _ (covers_of first second same) (covers_of second first (back first second same)) (covers_of _ _ (back _ _ (after_drat_same first second (delete c) Deleted same))) c loses
-  where
-    back : (x y : List Clause) → SameLive x y → SameLive y x
-    back x y s = record { copies = λ e. sym (s.copies e) }
+    let back = λ (x y : List Clause) (s : SameLive x y).
+    covers_of y x (record { copies = λ e. sym (s.copies e) }) in
+    loses_covers _ _ _ _ (covers_of first second same) (back first second same)
+    (back _ _ (after_drat_same first second (delete c) Deleted same)) c loses
 delete_loses_same c first second same word loses = absurd loses
 
-step_loses_same : (step : Step) (word : Accepted) (first second : State) → Same first second → StepLoses first step word → StepLoses second step word
+step_loses_same : (step : Step) (word : Accepted) (first second : State) → Same first second
+    → StepLoses first step word → StepLoses second step word
 step_loses_same step word first second h h2 = search (rules, delete_loses_same)
 
-pub lost_same : (steps : List Step) (words : List Accepted) (first second : State) → Same first second → HasLost first steps words → HasLost second steps words
+pub lost_same : (steps : List Step) (words : List Accepted) (first second : State)
+    → Same first second → HasLost first steps words → HasLost second steps words
 lost_same (step ∷ steps) (word ∷ words) first second same lost = elim lost [
   | inl now ↦ inl (step_loses_same step word first second same now)
   | inr later ↦ inr (lost_same steps words _ _ (search (rules, after_same)) later)

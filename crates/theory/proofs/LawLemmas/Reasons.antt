@@ -2,15 +2,59 @@
 -- assumed is a list, past a clash too.
 use Rattle.std.proofs.Common.{◌≡◌, ℕ, zero, suc, ◌≤◌, Bool, true, false, not, ◌||◌, ◌&&◌, eqb}
 use Rattle.std.proofs.Common.{eqb-true, eq-eqb, Some, List, [], ◌∷◌, slice_get, refl, inl, inr}
-use Rattle.std.proofs.{Common.arith, Common.rules, lemmas.Option.none-some}
-use Rattle.std.proofs.lemmas.Bool.{false≢true, true≢false, cases_Bool, cases_eq, or_cases, or_left}
-use Rattle.std.proofs.lemmas.Bool.{or_right, and_parts, and_from, not_from_false}
+use Rattle.std.proofs.Common.{arith, rules, true≢false, ◌<◌, ◌++◌, ◌⊎◌, ◌+◌, cond}
+use Rattle.std.proofs.lemmas.Bool.{false≢true, cases_Bool, cases_eq, or_cases, or_left, or_right}
+use Rattle.std.proofs.lemmas.Bool.{and_parts, and_from}
 use Rattle.std.specs.List.{list_any, list_all}
+use Rattle.std.proofs.lemmas.{Option.none-some, List.Sums.sum_by-cons}
 use Rattle.cnf_base.specs.Literals.{Literal, complement, Clause, has}
-use Rattle.cnf_base.proofs.SetLemmas.{any_from, any_some, all_each, each_all}
+use Rattle.cnf_base.proofs.SetLemmas.{any_from, any_some, any_none, all_each, each_all, has_head, has_tail}
+use Rattle.cnf_base.proofs.SetLemmas.{has_append_left, has_append_right}
 use Rattle.theory.specs.Code.{Propagation.OthersFail, Propagation.IsClosedAt, Sets.lacking}
 use Rattle.theory.specs.Propagation.{Live, IsClosed, Forced, IsRootReason}
-use Rattle.theory.proofs.LawLemmas.Growth.{IsDecided, lacking_more, all_literals, has-all_literals}
+use Rattle.theory.proofs.PropagationLemmas.Forced.{forced_assumed}
+
+-- ---- How many literals are not found yet
+
+module _ (first second : List Literal) (grows : (l : Literal) → has first l ≡ true
+    → has second l ≡ true) where
+  lacking-cons : (found : List Literal) (l : Literal) (ls : List Literal) → lacking found (l ∷ ls)
+      ≡ cond (not (has found l)) 1 0 + lacking found ls
+  lacking-cons found l ls = sum_by-cons (λ k. cond (not (has found k)) 1 0) l ls
+
+  pub lacking_le : (ls : List Literal) → lacking second ls ≤ lacking first ls
+  lacking_le [] = omega arith
+  lacking_le (l ∷ ls) =
+      let first_is = lacking-cons first l ls in let second_is = lacking-cons second l ls in
+      let less = lacking_le ls in let there = grows l in grind arith
+
+  pub lacking_falls : (m : Literal) → has first m ≡ false → has second m ≡ true
+      → (ls : List Literal) → has ls m ≡ true → lacking second ls < lacking first ls
+  lacking_falls m absent new [] h = absurd (false≢true h)
+  lacking_falls m absent new (l ∷ ls) h =
+      let first_is = lacking-cons first l ls in let second_is = lacking-cons second l ls in
+      let less = lacking_le ls in let later = lacking_falls m absent new ls in
+      let there = grows l in grind arith
+
+-- ---- How far a list of literals can grow that follow from clauses
+
+abbrev pub IsDecided : Type 0 → Type 0
+IsDecided A = A ⊎ ¬ A
+
+pub lacking_more : (found : List Literal) (m : Literal) → has found m ≡ false → (ls : List Literal)
+    → has ls m ≡ true → lacking (m ∷ found) ls < lacking found ls
+lacking_more found m new ls h = search (rules, lacking_falls, has_tail, has_head)
+
+abbrev pub all_literals : List Clause → List Literal
+all_literals [] = []
+all_literals (c ∷ live) = c ++ all_literals live
+
+pub has-all_literals : (live : List Clause) (k : ℕ) (c : Clause) (l : Literal)
+    → slice_get live k ≡ Some c → has c l ≡ true → has (all_literals live) l ≡ true
+has-all_literals [] k c l at h = absurd (none-some c at)
+has-all_literals (d ∷ live) zero c l at h = search (rules, has_append_left)
+has-all_literals (d ∷ live) (suc k) c l at h = has_append_right d (all_literals live)
+    l (has-all_literals live k c l at h)
 
 -- ---- One clause
 
@@ -18,20 +62,25 @@ use Rattle.theory.proofs.LawLemmas.Growth.{IsDecided, lacking_more, all_literals
 abbrev others_fail : List Literal → Clause → Literal → Bool
 others_fail found c m = list_all (λ l. eqb l m || has found (complement l)) c
 
-fail_each : (found : List Literal) (c : Clause) (m : Literal) → others_fail found c m ≡ true → OthersFail (has found) c m
+fail_each : (found : List Literal) (c : Clause) (m : Literal) → others_fail found c m ≡ true
+    → OthersFail (has found) c m
 fail_each found c m all l member ne = search (rules, or_cases, all_each, eqb-true)
 
-each_fail : (found : List Literal) (c : Clause) (m : Literal) → OthersFail (has found) c m → others_fail found c m ≡ true
+each_fail : (found : List Literal) (c : Clause) (m : Literal) → OthersFail (has found) c m
+    → others_fail found c m ≡ true
 each_fail found c m others = search (rules, each_all, cases_eq, or_left, eq-eqb, or_right)
 
 -- ---- What follows
 
 data Found (live : Live) (found : List Literal) : Type 0 where
-  one_more : (k : ℕ) (c : Clause) → live k ≡ Some c → (m : Literal) → has c m ≡ true → OthersFail (has found) c m → has found m ≡ false → Found live found
+  one_more : (k : ℕ) (c : Clause) → live k ≡ Some c → (m : Literal) → has c m ≡ true
+      → OthersFail (has found) c m → has found m ≡ false → Found live found
   all_found : ((k : ℕ) (c : Clause) → live k ≡ Some c → IsClosedAt (has found) c) → Found live found
 
-found_more : (found : List Literal) (d : Clause) (live : List Clause) → IsClosedAt (has found) d → Found (slice_get live) found → Found (slice_get (d ∷ live)) found
-found_more found d live first (one_more k c at m member others new) = one_more (suc k) c at m member others new
+found_more : (found : List Literal) (d : Clause) (live : List Clause) → IsClosedAt (has found) d
+    → Found (slice_get live) found → Found (slice_get (d ∷ live)) found
+found_more found d live first (one_more k c at m member others new) = one_more (suc k) c at m member
+    others new
 found_more found d live first (all_found rest) = search rules
 
 -- whether the clause gives a literal that is not found yet
@@ -40,39 +89,49 @@ gives found c m = not (has found m) && others_fail found c m
 
 look : (found : List Literal) (live : List Clause) → Found (slice_get live) found
 look found [] = all_found (λ k c at. absurd (none-some c at))
-look found (d ∷ live) = elim (cases_Bool (list_any (gives found d) d)) [
-  | inl some ↦
-      let w = any_some (gives found d) d some in
-      one_more zero d refl w.0 w.1 (search (rules, fail_each)) (search rules)
-  | inr none ↦ found_more found d live (λ m member others. elim (cases_Bool (has found m)) [
-    | inl h ↦ h
-    | inr new ↦ grind (arith, true≢false, any_from, and_from, not_from_false, each_fail)
-  ]) (look found live)
-]
+look found (d ∷ live) =
+    let later = look found live in
+    elim (cases_Bool (list_any (gives found d) d)) [
+      | inl some ↦
+          let w = any_some (gives found d) d some in
+          one_more zero d refl w.0 w.1 (search (rules, fail_each)) (search rules)
+      | inr none ↦ found_more found d live (grind (arith, any_none, each_fail)) later
+    ]
 
 -- a list of all that follows
-pub record IsAll (live : Live) (found : List Literal) : Type 0 where
-  pub sound : (l : Literal) → has found l ≡ true → Forced live [] l
+pub record IsAll (live : Live) (assumed found : List Literal) : Type 0 where
+  pub sound : (l : Literal) → has found l ≡ true → Forced live assumed l
+  pub start : (a : Literal) → has assumed a ≡ true → has found a ≡ true
   pub closed : IsClosed live (λ l. has found l)
 
-module _ (live : List Clause) where
+module _ (live : List Clause) (assumed : List Literal) where
   -- at most `fuel` literals are not found yet
-  grow : (fuel : ℕ) (found : List Literal) → ((l : Literal) → has found l ≡ true → Forced (slice_get live) [] l) → lacking found (all_literals live) ≤ fuel → Found (slice_get live) found → (all : List Literal) × IsAll (slice_get live) all
-  grow fuel found sound bound (all_found closed) = (found, record { sound = sound; closed = record { unit = λ k c at. closed k c at } })
-  grow zero found sound bound (one_more k c at m member others new) =
-      absurd (let less = lacking_more found m new (all_literals live) (has-all_literals live k c m at member) in let wrong : ⊥ = omega arith in wrong)
-  grow (suc fuel) found sound bound (one_more k c at m member others new) =
+  grow : (fuel : ℕ) (found : List Literal)
+      → ((l : Literal) → has found l ≡ true → Forced (slice_get live) assumed l)
+      → ((a : Literal) → has assumed a ≡ true → has found a ≡ true)
+      → lacking found (all_literals live) ≤ fuel → Found (slice_get live) found
+      → (all : List Literal) × IsAll (slice_get live) assumed all
+  grow fuel found sound start bound (all_found closed) =
+      (found, record { sound = sound; start = start; closed = record { unit = closed } })
+  grow zero found sound start bound (one_more k c at m member others new) =
+      let less = lacking_more found m new (all_literals live)
+      (has-all_literals live k c m at member)
+      in absurd (omega arith)
+  grow (suc fuel) found sound start bound (one_more k c at m member others new) =
       let less = lacking_more found m new _ (has-all_literals live k c m at member) in
-      grow fuel (m ∷ found) (search rules) (omega arith) (look (m ∷ found) live)
+      grow fuel (m ∷ found) (search rules) (λ a h. has_tail m found a (start a h)) (omega arith)
+      (look (m ∷ found) live)
 
-  pub all_that_follows : (all : List Literal) × IsAll (slice_get live) all
-  all_that_follows = grow (lacking [] (all_literals live)) [] (λ l h. absurd (false≢true h)) (omega arith) (look [] live)
+  pub all_that_follows : (all : List Literal) × IsAll (slice_get live) assumed all
+  all_that_follows = grow (lacking assumed (all_literals live)) assumed
+      (forced_assumed (slice_get live) assumed) (λ a h. h) (omega arith) (look assumed live)
 
+module _ (live : List Clause) where
   -- ---- Reasons
 
   pub reason_decided : (c : Clause) → IsDecided (IsRootReason (slice_get live) c)
   reason_decided c =
-      let w = all_that_follows in
+      let w = all_that_follows live [] in
       let all = w.0 in
       elim (cases_Bool (list_any (λ m. has all m && others_fail all c m) c)) [
         | inl some ↦

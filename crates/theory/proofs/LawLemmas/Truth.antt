@@ -1,76 +1,109 @@
--- What is true under an assignment, and the assignment that makes a witness true.
+-- What is true under an assignment, the assignment that makes a witness true, and that accepted
+-- steps keep satisfiability.
 use Rattle.std.proofs.Common.{◌∷◌, ◌++◌, sym, ap, ◌∙◌, inl, inr, if◌then◌else◌, ne_eqb, rules, ◌≡◌}
 use Rattle.std.proofs.Common.{arith, ◌≢◌, ℕ, ◌+◌, ◌*◌, ◌/◌, true, false, not, ◌||◌, Some, List, []}
-use Rattle.std.proofs.lemmas.Bool.{false≢true, true≢false, cases_Bool, cases_eq, not-true}
+use Rattle.std.proofs.Common.{true≢false, zero, suc, cond, Ok, slice_get}
+use Rattle.std.proofs.lemmas.Bool.{false≢true, cases_Bool, cases_eq, not-true, true_from_ne_false}
+use Rattle.std.proofs.{lemmas.Bool.Decides.nat_tests, lemmas.Option.none-some}
 use Rattle.cnf_base.specs.Literals.{Literal, complement, Clause, has, complements, without}
 use Rattle.cnf_base.proofs.LiteralLemmas.{complement-complement, complement-other}
 use Rattle.cnf_base.proofs.SetLemmas.{has_head, any_from, any_some, any_none, has_append_cases}
 use Rattle.cnf_base.proofs.SetLemmas.{complements_has, without_has, filter_has}
+use Rattle.cnf_base.specs.Literals.{same_clause}
 use Rattle.theory.specs.Propagation.{Live, IsClosed, Forced, Clash, HasRup, HasRat, HasPr}
 use Rattle.theory.specs.Propagation.{open_literals, by_empty, by_both}
-use Rattle.theory.specs.Models.{Assignment, holds, satisfies, Models}
-use Rattle.theory.proofs.LawLemmas.Holds.{holds-complement}
+use Rattle.theory.specs.Models.{Assignment, holds, satisfies, Models, HasModel}
+use Rattle.theory.specs.declared.accepted.Accepted.TheVariants.{Rup, Rat, Pr, Empty, Ignored}
+use Rattle.theory.specs.Drat.{after_drat, DratStep, add, delete, AnswersDrat, AnswersListed}
+use Rattle.theory.specs.Lrat.{LratState, LratStep, add as add_lrat, delete as delete_lrat}
+use Rattle.theory.specs.Lrat.{AnswersLrat, after_lrat, with_clause, without_ids}
+use Rattle.theory.proofs.LratLemmas.Steps.{lrat_redundant, deletion_word}
+use Rattle.theory.specs.{declared.drat_rules.DratRules.DratRules, Laws.IsRedundant, Drat.take_off}
+use Rattle.theory.specs.declared.accepted.Accepted.{Accepted}
 
-pub complement_false : (v : Assignment) (l : Literal) → holds v l ≡ true → holds v (complement l) ≡ true → ⊥
+-- ---- What an assignment says of a complement
+
+pub holds-complement : (v : Assignment) (l : Literal) → holds v (complement l) ≡ not (holds v l)
+unfolding complement holds
+holds-complement v l = grind (arith, nat_tests)
+
+pub complement_false : (v : Assignment) (l : Literal) → holds v l ≡ true
+    → holds v (complement l) ≡ true → ⊥
 complement_false v l h g = true≢false (sym g ∙ holds-complement v l ∙ ap not h)
 
-pub complement_true : (v : Assignment) (l : Literal) → holds v (complement l) ≡ false → holds v l ≡ true
+pub complement_true : (v : Assignment) (l : Literal) → holds v (complement l) ≡ false
+    → holds v l ≡ true
 complement_true v l h = search (rules, cases_Bool, true≢false, holds-complement)
 
--- the true literals of a model are closed under the unit rule
-pub closed_by_model : (v : Assignment) (live : Live) → Models v live → IsClosed live (holds v)
-closed_by_model v live models = record { unit = go }
-  where
-    go : (k : ℕ) (c : Clause) → live k ≡ Some c → (m : Literal) → has c m ≡ true → ((l : Literal) → has c l ≡ true → l ≢ m → holds v (complement l) ≡ true) → holds v m ≡ true
-    go k c at m member others =
-        let w = any_some (holds v) c (models k c at) in
-        search (rules, cases_eq, complement_false)
+-- these literals are true
+abbrev AreTrue : Assignment → List Literal → Type 0
+AreTrue v ls = (a : Literal) → has ls a ≡ true → holds v a ≡ true
 
--- under an assignment that makes all live clauses and all assumed literals true, what is forced is true
-pub forced_true : (v : Assignment) (live : Live) (assumed : List Literal) (l : Literal) → Models v live → ((a : Literal) → has assumed a ≡ true → holds v a ≡ true) → Forced live assumed l → holds v l ≡ true
-forced_true v live assumed l models true_at forced = forced.in_each (holds v) (closed_by_model v live models) true_at
+module _ (v : Assignment) (live : Live) where
+  -- the true literals of a model are closed under the unit rule
+  pub closed_by_model : Models v live → IsClosed live (holds v)
+  closed_by_model models = record { unit = go }
+    where
+      go : (k : ℕ) (c : Clause) → live k ≡ Some c → (m : Literal) → has c m ≡ true
+          → ((l : Literal) → has c l ≡ true → l ≢ m → holds v (complement l) ≡ true)
+          → holds v m ≡ true
+      go k c at m member others =
+          let w = any_some (holds v) c (models k c at) in
+          search (rules, cases_eq, complement_false)
 
-pub clash_false : (v : Assignment) (live : Live) (assumed : List Literal) → Models v live → ((a : Literal) → has assumed a ≡ true → holds v a ≡ true) → Clash live assumed → ⊥
-clash_false v live assumed models true_at (by_empty k at) = false≢true (models k [] at)
-clash_false v live assumed models true_at (by_both l f g) =
-    complement_false v l (search (rules, forced_true)) (search (rules, forced_true))
+  -- under an assignment that makes all live clauses and all assumed literals true, what is forced
+  -- is true
+  pub forced_true : (assumed : List Literal) (l : Literal) → Models v live → AreTrue v assumed
+      → Forced live assumed l → holds v l ≡ true
+  forced_true assumed l models true_at forced =
+      forced.in_each (holds v) (closed_by_model models) true_at
 
--- the complements of a clause that is false are true
-pub complements_true : (v : Assignment) (c : Clause) → satisfies v c ≡ false → (a : Literal) → has (complements c) a ≡ true → holds v a ≡ true
-complements_true v c fails a member = complement_true v a (any_none (holds v) c (complement a) fails (complements_has c a member))
+  pub clash_false : (assumed : List Literal) → Models v live → AreTrue v assumed
+      → Clash live assumed → ⊥
+  clash_false assumed models true_at (by_empty k at) = false≢true (models k [] at)
+  clash_false assumed models true_at (by_both l f g) =
+      complement_false v l (search (rules, forced_true)) (search (rules, forced_true))
 
--- a clause with RUP is true in every model
-pub rup_true : (v : Assignment) (live : Live) (c : Clause) → Models v live → HasRup live c → satisfies v c ≡ true
-rup_true v live c models rup =
-    elim (cases_Bool (satisfies v c)) [ inl e ↦ e | inr e ↦ absurd (clash_false v live (complements c) models (complements_true v c e) rup) ]
+  -- a clause with RUP is true in every model
+  pub rup_true : (c : Clause) → Models v live → HasRup live c → satisfies v c ≡ true
+  rup_true c models rup =
+      true_from_ne_false _ (λ fails. clash_false (complements c) models (λ a member.
+      complement_true v a (any_none (holds v) c (complement a) fails (complements_has c a member)))
+      rup)
 
 -- ---- The assignment in which a witness is true
 
 unfoldable pub override : Assignment → List Literal → Assignment
-override v witness x = if has witness (2 * x) then true else if has witness (2 * x + 1) then false else v x
+override v witness x =
+    if has witness (2 * x) then true else if has witness (2 * x + 1) then false else v x
 
 -- a literal is the even or the odd one of its variable
 data Parity (l : Literal) : Type 0 where
-  even : l ≡ 2 * (l / 2) → complement l ≡ 2 * (l / 2) + 1 → ((v : Assignment) → holds v l ≡ v (l / 2)) → Parity l
-  odd : l ≡ 2 * (l / 2) + 1 → complement l ≡ 2 * (l / 2) → ((v : Assignment) → holds v l ≡ not (v (l / 2))) → Parity l
+  even : l ≡ 2 * (l / 2) → complement l ≡ 2 * (l / 2) + 1
+      → ((v : Assignment) → holds v l ≡ v (l / 2)) → Parity l
+  odd : l ≡ 2 * (l / 2) + 1 → complement l ≡ 2 * (l / 2)
+      → ((v : Assignment) → holds v l ≡ not (v (l / 2))) → Parity l
 
 parity : (l : Literal) → Parity l
 unfolding complement holds
 parity l = search rules
 
-pub override_true : (v : Assignment) (witness : List Literal) (l : Literal) → has witness l ≡ true → has witness (complement l) ≡ false → holds (override v witness) l ≡ true
-unfolding override
-override_true v witness l member absent = elim (parity l) [
-  | even at other value ↦ search rules
-  | odd at other value ↦ search rules
-]
+module _ (v : Assignment) (witness : List Literal) (l : Literal) where
+  pub override_true : has witness l ≡ true → has witness (complement l) ≡ false
+      → holds (override v witness) l ≡ true
+  unfolding override
+  override_true member absent = elim (parity l) [
+    | even at other value ↦ search rules
+    | odd at other value ↦ search rules
+  ]
 
-pub override_keeps : (v : Assignment) (witness : List Literal) (l : Literal) → holds v l ≡ true → has witness (complement l) ≡ false → holds (override v witness) l ≡ true
-unfolding override
-override_keeps v witness l h absent = elim (parity l) [
-  | even at other value ↦ search rules
-  | odd at other value ↦ search rules
-]
+  pub override_keeps : holds v l ≡ true → has witness (complement l) ≡ false
+      → holds (override v witness) l ≡ true
+  unfolding override
+  override_keeps h absent = elim (parity l) [
+    | even at other value ↦ search rules
+    | odd at other value ↦ search rules
+  ]
 
 -- ---- RAT and PR keep satisfiability
 
@@ -78,49 +111,143 @@ override_keeps v witness l h absent = elim (parity l) [
 abbrev pub HasModelWith : Live → Clause → Type 0
 HasModelWith live c = (v : Assignment) × Models v live × (satisfies v c ≡ true)
 
--- Where a clause is false and has PR, making the witness true makes it true and keeps every live clause true.
-pub pr_keeps : (v : Assignment) (live : Live) (c : Clause) (witness : List Literal) → Models v live → HasPr live c witness → HasModelWith live c
-pr_keeps v live c witness models pr =
-    elim (cases_Bool (satisfies v c)) [ inl e ↦ (v, models, e) | inr e ↦ (override v witness, kept e, any_from _ c pr.meets.0 pr.meets.1 (override_true v witness pr.meets.0 pr.meets.2 (pr.consistent pr.meets.0 pr.meets.2))) ]
-  where
-    in_rest : satisfies v c ≡ false → (d : Clause) → (l : Literal) → has (c ++ open_literals witness d) l ≡ true → holds v l ≡ true → (has d l ≡ true) × (has witness (complement l) ≡ false)
-    in_rest fails d l member h =
-        grind (arith, has_append_cases, true≢false, any_none, filter_has, not-true)
+module _ (v : Assignment) (live : Live) (c : Clause) where
+  -- Where a clause is false and has PR, making the witness true makes it true and keeps every live
+  -- clause true.
+  pub pr_keeps : (witness : List Literal) → Models v live → HasPr live c witness
+      → HasModelWith live c
+  pr_keeps witness models pr =
+      let meets = any_from (holds (override v witness)) c pr.meets.0 pr.meets.1 (override_true v
+      witness pr.meets.0 pr.meets.2 (pr.consistent pr.meets.0 pr.meets.2)) in
+      elim (cases_Bool (satisfies v c)) [
+        | inl e ↦ (v, models, e)
+        | inr e ↦ (override v witness, kept e, meets)
+      ]
+    where
+      in_rest : satisfies v c ≡ false → (d : Clause) → (l : Literal)
+          → has (c ++ open_literals witness d) l ≡ true → holds v l ≡ true
+          → (has d l ≡ true) × (has witness (complement l) ≡ false)
+      in_rest fails d l member h =
+          grind (arith, has_append_cases, true≢false, any_none, filter_has, not-true)
 
-    kept : satisfies v c ≡ false → Models (override v witness) live
-    kept fails k d at = elim (pr.others k d at) [
-      | inl m ↦ any_from _ d m.0 m.1 (override_true v witness m.0 m.2 (pr.consistent m.0 m.2))
-      | inr rup ↦
-          let w = any_some (holds v) _ (rup_true v live _ models rup) in
-          let r = in_rest fails d w.0 w.1 w.2 in
-          any_from _ d w.0 r.0 (override_keeps v witness w.0 w.2 r.1)
-    ]
+      kept : satisfies v c ≡ false → Models (override v witness) live
+      kept fails k d at = elim (pr.others k d at) [
+        | inl m ↦ any_from _ d m.0 m.1 (override_true v witness m.0 m.2 (pr.consistent m.0 m.2))
+        | inr rup ↦
+            let w = any_some (holds v) _ (rup_true v live _ models rup) in
+            let r = in_rest fails d w.0 w.1 w.2 in
+            any_from _ d w.0 r.0 (override_keeps v witness w.0 w.2 r.1)
+      ]
 
--- the same for RAT, where the pivot is made true
-pub rat_keeps : (v : Assignment) (live : Live) (c : Clause) (pivot : Literal) → Models v live → HasRat live c pivot → HasModelWith live c
-rat_keeps v live c pivot models rat =
-    elim (cases_Bool (satisfies v c)) [ inl e ↦ (v, models, e) | inr e ↦ (changed, kept e, any_from _ c pivot rat.holds_pivot made_true) ]
-  where
-    changed : Assignment
-    changed = override v (pivot ∷ [])
+  -- the same for RAT, where the pivot is made true
+  pub rat_keeps : (pivot : Literal) → Models v live → HasRat live c pivot → HasModelWith live c
+  rat_keeps pivot models rat =
+      elim (cases_Bool (satisfies v c)) [
+        | inl e ↦ (v, models, e)
+        | inr e ↦ (changed, kept e, any_from _ c pivot rat.holds_pivot made_true)
+      ]
+    where
+      changed : Assignment
+      changed = override v (pivot ∷ [])
 
-    other : (l : Literal) → pivot ≢ complement l → has (pivot ∷ []) (complement l) ≡ false
-    other l ne = ap (λ b. b || false) (ne_eqb pivot (complement l) ne)
+      other : (l : Literal) → pivot ≢ complement l → has (pivot ∷ []) (complement l) ≡ false
+      other l ne = ap (λ b. b || false) (ne_eqb pivot (complement l) ne)
 
-    made_true : holds changed pivot ≡ true
-    made_true = search (rules, arith, override_true, has_head, other, complement-other)
+      made_true : holds changed pivot ≡ true
+      made_true = search (rules, arith, override_true, has_head, other, complement-other)
 
-    in_rest : satisfies v c ≡ false → (d : Clause) (l : Literal) → has (c ++ without d (complement pivot)) l ≡ true → holds v l ≡ true → (has d l ≡ true) × (pivot ≢ complement l)
-    in_rest fails d l member h =
-        grind (arith, has_append_cases, true≢false, any_none, without_has, complement-complement)
+      in_rest : satisfies v c ≡ false → (d : Clause) (l : Literal)
+          → has (c ++ without d (complement pivot)) l ≡ true → holds v l ≡ true
+          → (has d l ≡ true) × (pivot ≢ complement l)
+      in_rest fails d l member h =
+          grind (arith, has_append_cases, true≢false, any_none, without_has, complement-complement)
 
-    kept : satisfies v c ≡ false → Models changed live
-    kept fails k d at = elim (cases_Bool (has d (complement pivot))) [
-      | inl member ↦
-          let w = any_some _ _ (rup_true v live _ models (rat.candidates k d at member)) in
-          let r = in_rest fails d w.0 w.1 w.2 in
-          any_from _ d w.0 r.0 (override_keeps v (pivot ∷ []) w.0 w.2 (other w.0 r.1))
-      | inr absent ↦
-          let w = any_some (holds v) d (models k d at) in
-          search (rules, any_from, override_keeps, true≢false, complement-complement)
-    ]
+      kept : satisfies v c ≡ false → Models changed live
+      kept fails k d at = elim (cases_Bool (has d (complement pivot))) [
+        | inl member ↦
+            let w = any_some _ _ (rup_true v live _ models (rat.candidates k d at member)) in
+            let r = in_rest fails d w.0 w.1 w.2 in
+            any_from _ d w.0 r.0 (override_keeps v (pivot ∷ []) w.0 w.2 (other w.0 r.1))
+        | inr absent ↦
+            let w = any_some (holds v) d (models k d at) in
+            search (rules, any_from, override_keeps, true≢false, complement-complement)
+      ]
+
+-- ---- Accepted steps keep satisfiability, and a verified formula has no model
+
+-- a clause that was accepted is true in some model of those before it
+redundant_keeps : (live : Live) (c : List Literal) (word : Accepted) → IsRedundant live c word
+    → HasModel live → HasModelWith live c
+redundant_keeps live c Rup rup m = (m.0, m.1, rup_true m.0 live c m.1 rup)
+redundant_keeps live [] Empty rup m = (m.0, m.1, rup_true m.0 live [] m.1 rup)
+redundant_keeps live (pivot ∷ rest) Rat rat m = rat_keeps m.0 live (pivot ∷ rest) pivot m.1 rat
+redundant_keeps live c Pr pr m = pr_keeps m.0 live c pr.0 m.1 pr.1
+redundant_keeps live c word never m = grind arith
+
+-- no model makes the empty clause true
+empty_refutes : (live : Live) (c : List Literal) → IsRedundant live c Empty → HasModel live → ⊥
+empty_refutes live [] rup m = false≢true (rup_true m.0 live [] m.1 rup)
+empty_refutes live (l ∷ c) never m = never
+
+-- ---- DRAT
+
+listed_redundant : (live : List Clause) (c set : List Literal) (word : Accepted)
+    → AnswersListed (slice_get live) c set (Ok word) → IsRedundant (slice_get live) c word
+listed_redundant live c (l ∷ set) Rup a = a.1
+listed_redundant live c set word a = grind arith
+
+models_more : (v : Assignment) (live : List Clause) (c : Clause) → Models v (slice_get live)
+    → satisfies v c ≡ true → Models v (slice_get (c ∷ live))
+models_more v live c h h2 = search rules
+
+-- the clauses that are left were there before
+pub take_off_from : (c : Clause) (live : List Clause) (k : ℕ) (d : Clause)
+    → slice_get (take_off c live) k ≡ Some d → (j : ℕ) × (slice_get live j ≡ Some d)
+take_off_from c [] k d at = absurd (none-some d at)
+take_off_from c (e ∷ live) k d at =
+    let later = λ (i : ℕ). take_off_from c live i d in
+    elim (same_clause c e) as (λ b. slice_get (cond b live (e ∷ take_off c live)) k ≡ Some d
+    → (j : ℕ) × (slice_get (e ∷ live) j ≡ Some d)) [
+      | true ↦ λ at. (suc k, at)
+      | false ↦ elim k as (λ k. slice_get (e ∷ take_off c live) k ≡ Some d
+          → (j : ℕ) × (slice_get (e ∷ live) j ≡ Some d)) [
+            | zero ↦ λ at. (0, at)
+            | suc k ↦ λ at. let w = later k at in (suc w.0, w.1)
+          ]
+    ] at
+
+taken_off_keeps : (live : List Clause) (c : Clause) → HasModel (slice_get live)
+    → HasModel (slice_get (take_off c live))
+taken_off_keeps live c m = (m.0, grind (arith, take_off_from))
+
+pub drat_keeps : (rules : DratRules) (live : List Clause) (step : DratStep) (word : Accepted) → AnswersDrat rules live step (Ok word) → HasModel (slice_get live) → HasModel (slice_get (after_drat live step word))
+drat_keeps rules live (add c set) word answer m =
+    grind (arith, redundant_keeps, slice_get, listed_redundant, models_more)
+drat_keeps rules live (delete c) Ignored answer m = m
+drat_keeps rules live (delete c) word answer m = taken_off_keeps live c m
+
+pub drat_refutes : (rules : DratRules) (live : List Clause) (step : DratStep)
+    → AnswersDrat rules live step (Ok Empty) → HasModel (slice_get live) → ⊥
+drat_refutes rules live (add c set) answer m = grind (arith, empty_refutes, listed_redundant)
+drat_refutes rules live (delete c) answer m = answer
+
+-- ---- LRAT
+
+models_with : (v : Assignment) (live : Live) (id : ℕ) (c : Clause) → Models v live
+    → satisfies v c ≡ true → Models v (with_clause live id c)
+models_with v live id c models h k d at = search rules
+
+models_without_all : (v : Assignment) (ids : List ℕ) (live : Live) → Models v live
+    → Models v (without_ids live ids)
+models_without_all v [] live models = models
+models_without_all v (id ∷ ids) live models = models_without_all v ids _ (search rules)
+
+pub lrat_keeps : (state : LratState) (step : LratStep) (word : Accepted)
+    → AnswersLrat state step (Ok word) → HasModel state.live → HasModel (after_lrat state step).live
+lrat_keeps state (add_lrat id c units groups) word answer m =
+    search (rules, redundant_keeps, lrat_redundant, models_with)
+lrat_keeps state (delete_lrat ids) word answer m = (m.0, models_without_all m.0 ids state.live m.1)
+
+pub lrat_refutes : (state : LratState) (step : LratStep) → AnswersLrat state step (Ok Empty)
+    → HasModel state.live → ⊥
+lrat_refutes state step h h2 = search (rules, empty_refutes, lrat_redundant, deletion_word)

@@ -1,8 +1,7 @@
 -- A proof has one verdict, which depends on the clauses alone, and a verified formula has no model.
-use Rattle.std.proofs.Common.{arith, ◌≡◌, zero, suc, Bool, true, false, Ok, Err, List, [], ◌∷◌}
-use Rattle.std.proofs.Common.{slice_get, refl, sym, ◌∙◌, subst, inl, inr, rules}
-use Rattle.std.proofs.lemmas.Bool.{false≢true, cases_Bool}
-use Rattle.std.specs.{Bool.MatchBool, List.list_any}
+use Rattle.std.proofs.Common.{arith, ◌≡◌, zero, suc, true, false, Ok, Err, List, [], ◌∷◌}
+use Rattle.std.proofs.Common.{slice_get, refl, sym, ◌∙◌, rules}
+use Rattle.std.{proofs.lemmas.Bool.false≢true, proofs.lemmas.Bool.cases_Bool, specs.List.list_any}
 use Rattle.cnf_base.specs.Literals.{Clause}
 use Rattle.proofs.specs.Steps.{Step}
 use Rattle.theory.specs.declared.accepted.Accepted.{Accepted, TheVariants.Empty}
@@ -16,91 +15,83 @@ use Rattle.theory.proofs.{LawLemmas.Rules.started, LratLemmas.Steps.ok_is, LratL
 
 -- ---- The same clauses
 
-pub ends_same : (steps : List Step) (words : List Accepted) (ending : Ending) (first second : State) → Same first second → Ends first steps words ending → Ends second steps words ending
+pub ends_same : (steps : List Step) (words : List Accepted) (ending : Ending) (first second : State)
+    → Same first second → Ends first steps words ending → Ends second steps words ending
 ends_same [] [] ending first second same e = e
 ends_same [] (word ∷ words) ending first second same e = absurd e
 ends_same (step ∷ steps) [] ending first second same e = search (rules, answers_same)
-ends_same (step ∷ steps) (word ∷ words) ending first second same e = search (
-  rules,
-  answers_same,
-  after_same,
-  (ends_same steps words ending (after first step word) _ (after_same first second step word same)),
-)
+ends_same (step ∷ steps) (word ∷ words) ending first second same e =
+    let later = ends_same steps words ending (after first step word) (after second step word)
+    (after_same first second step word same) in search (rules, answers_same)
 
 -- ---- At most one verdict
 
 err_is : (first second : Refusal) → ◌≡◌ {A = StepAnswer} (Err first) (Err second) → first ≡ second
 err_is first second e = cc
 
-ends_unique : (steps : List Step) (s : State) (first second : List Accepted) (ending other : Ending) → Ends s steps first ending → Ends s steps second other → (first ≡ second) × (ending ≡ other)
+ends_unique : (steps : List Step) (s : State) (first second : List Accepted) (ending other : Ending)
+    → Ends s steps first ending → Ends s steps second other → (first ≡ second) × (ending ≡ other)
 ends_unique [] s [] [] ending other a b = (refl, a ∙ sym b)
 ends_unique [] s [] (w ∷ ws) ending other a b = absurd b
 ends_unique [] s (w ∷ ws) second ending other a b = absurd a
 ends_unique (step ∷ steps) s [] [] ending other a b = search (rules, err_is, answer_unique)
 ends_unique (step ∷ steps) s [] (w ∷ ws) ending other a b = search (rules, ok_err, answer_unique)
 ends_unique (step ∷ steps) s (w ∷ ws) [] ending other a b = search (rules, ok_err, answer_unique)
-ends_unique (step ∷ steps) s (w ∷ ws) (x ∷ xs) ending other a b = grind (
-  arith,
-  ok_is,
-  answer_unique,
-  cases_Bool,
-  (ends_unique steps (after s step w) ws xs ending other),
-)
+ends_unique (step ∷ steps) s (w ∷ ws) (x ∷ xs) ending other a b =
+    let later = ends_unique steps (after s step w) ws xs ending other in
+    grind (arith, ok_is, answer_unique, cases_Bool)
 
-pub verdict_unique : (rule : Rule) (formula : List Clause) (steps : List Step) (first second : List Accepted) (ending other : Ending) →
-    Verdict rule formula steps first ending → Verdict rule formula steps second other → (first ≡ second) × (ending ≡ other)
+pub verdict_unique : (rule : Rule) (formula : List Clause) (steps : List Step)
+    (first second : List Accepted) (ending other : Ending) →
+    Verdict rule formula steps first ending → Verdict rule formula steps second other
+    → (first ≡ second) × (ending ≡ other)
 verdict_unique rule formula steps first second ending other a b =
     search (rules, cases_Bool, ends_unique)
 
 -- ---- A verdict
 
-abbrev no_words : List Accepted
-no_words = []
-
-pub some_ending : (steps : List Step) (state : State) → IsFinite state → (words : List Accepted) × (ending : Ending) × Ends state steps words ending
+pub some_ending : (steps : List Step) (state : State) → IsFinite state
+    → (words : List Accepted) × (ending : Ending) × Ends state steps words ending
 some_ending [] state b = ([], no_empty_clause, refl)
 some_ending (step ∷ steps) state b =
     let a = some_answer state step b in
     by (λ word. some_ending steps (after state step word) (after_finite state step word b)) a.0 a.1
   where
-    last : (word : Accepted) (v : Bool) → is_last word ≡ v → Answers state step (Ok word)
-        → ((words : List Accepted) × (ending : Ending) × Ends (after state step word) steps words ending)
+    by : ((word : Accepted) → (words : List Accepted) × (ending : Ending)
+        × Ends (after state step word) steps words ending) → (answer : StepAnswer)
+        → Answers state step answer
         → (words : List Accepted) × (ending : Ending) × Ends state (step ∷ steps) words ending
-    last word true e a later =
-        let P : Bool → Type 0 = λ v. MatchBool v ((no_words ≡ no_words) × (verified ≡ verified)) (Ends (after state step word) steps no_words verified) in
-        (word ∷ no_words, verified, (a, subst P (sym e) (refl, refl)))
-    last word false e a later =
-        let P : Bool → Type 0 = λ v. MatchBool v ((later.0 ≡ []) × (later.1 ≡ verified)) (Ends (after state step word) steps later.0 later.1) in
-        (word ∷ later.0, later.1, (a, subst P (sym e) later.2))
-
-    by : ((word : Accepted) → (words : List Accepted) × (ending : Ending) × Ends (after state step word) steps words ending)
-        → (answer : StepAnswer) → Answers state step answer → (words : List Accepted) × (ending : Ending) × Ends state (step ∷ steps) words ending
-    by later (Ok word) a = last word (is_last word) refl a (later word)
+    by later (Ok word) a = elim (is_last word) as (λ v. is_last word ≡ v → (words : List Accepted)
+        × (ending : Ending) × Ends state (step ∷ steps) words ending) [
+          | true ↦ λ e. (word ∷ [], verified, (a, rw e (refl, refl)))
+          | false ↦ λ e. let w = later word in (word ∷ w.0, w.1, (a, rw e w.2))
+        ] refl
     by later (Err r) a = ([], refused r, (r, refl, a))
 
-pub some_verdict : (rule : Rule) (formula : List Clause) (steps : List Step) → (words : List Accepted) × (ending : Ending) × Verdict rule formula steps words ending
-some_verdict rule formula steps = by _ refl (search (rules, some_ending, start_finite))
-  where
-    by : (v : Bool) → list_any is_empty formula ≡ v → ((words : List Accepted) × (ending : Ending) × Ends (start rule formula) steps words ending)
-        → (words : List Accepted) × (ending : Ending) × Verdict rule formula steps words ending
-    by true e rest =
-        let P : Bool → Type 0 = λ v. MatchBool v ((no_words ≡ no_words) × (verified ≡ verified)) (Ends (start rule formula) steps no_words verified) in
-        (no_words, verified, subst P (sym e) (refl, refl))
-    by false e rest = search rules
+pub some_verdict : (rule : Rule) (formula : List Clause) (steps : List Step)
+    → (words : List Accepted) × (ending : Ending) × Verdict rule formula steps words ending
+some_verdict rule formula steps =
+    let rest = some_ending steps (start rule formula) (start_finite rule formula) in
+    elim (list_any is_empty formula) as (λ v. list_any is_empty formula ≡ v
+    → (words : List Accepted) × (ending : Ending) × Verdict rule formula steps words ending) [
+      | true ↦ λ e. ([], verified, rw e (refl, refl))
+      | false ↦ λ e. (rest.0, rest.1, rw e rest.2)
+    ] refl
 
 -- ---- A verified formula has no model
 
 last_is_empty : (word : Accepted) → is_last word ≡ true → word ≡ Empty
 last_is_empty word h = search rules
 
-ends_sound : (steps : List Step) (s : State) (words : List Accepted) → Ends s steps words verified → IsSatisfiable s → ⊥
-ends_sound (step ∷ steps) s (word ∷ words) e has_model = elim (cases_Bool (is_last word)) [
-  | inl last ↦ search (rules, refutes, last_is_empty)
-  | inr goes_on ↦ ends_sound steps _ words (search rules) (keeps s step word e.0 has_model)
-]
+ends_sound : (steps : List Step) (s : State) (words : List Accepted) → Ends s steps words verified
+    → IsSatisfiable s → ⊥
+ends_sound (step ∷ steps) s (word ∷ words) e has_model =
+    let later = ends_sound steps (after s step word) words in let kept = keeps s step word in
+    grind (arith, refutes, last_is_empty)
 ends_sound steps s words h h2 = search rules
 
-empty_formula : (formula : List Clause) → list_any is_empty formula ≡ true → HasModel (slice_get formula) → ⊥
+empty_formula : (formula : List Clause) → list_any is_empty formula ≡ true
+    → HasModel (slice_get formula) → ⊥
 empty_formula [] h m = false≢true h
 empty_formula ([] ∷ formula) h m = false≢true (m.1 zero [] refl)
 empty_formula ((l ∷ c) ∷ formula) h m = empty_formula formula h (m.0, λ k d at. m.1 (suc k) d at)

@@ -1,8 +1,7 @@
 -- Live clauses that are the same sets.
 use Rattle.std.proofs.Common.{◌≡◌, ℕ, true, Option, rules}
 use Rattle.std.proofs.lemmas.Bool.{and_from}
-use Rattle.cnf_base.specs.Literals.{Clause, same_clause}
-use Rattle.cnf_base.proofs.SetLemmas.{each_all}
+use Rattle.cnf_base.{specs.Literals.Clause, specs.Literals.same_clause, proofs.SetLemmas.each_all}
 use Rattle.theory.specs.{Propagation.Live, Lrat.SameAt, Lrat.SameClauses, Sets.SameSet}
 use Rattle.theory.proofs.LratLemmas.SameSets.{same_set_from}
 
@@ -21,8 +20,11 @@ SameClauses-refl live = record { at = λ k. same_at_refl (live k) }
 pub SameClauses-sym : (first second : Live) → SameClauses first second → SameClauses second first
 SameClauses-sym first second same = search rules
 
-pub SameClauses-trans : (first second third : Live) → SameClauses first second → SameClauses second third → SameClauses first third
-SameClauses-trans first second third same also = record { at = λ k. same_at_trans (first k) (second k) (third k) (same.at k) (also.at k) }
+pub SameClauses-trans : (first second third : Live) → SameClauses first second
+    → SameClauses second third → SameClauses first third
+SameClauses-trans first second third same also =
+    record { at = λ k. same_at_trans (first k) (second k) (third k) (same.at k) (also.at k) }
 
-pub SameClauses-eq : (first second : Live) → ((k : ℕ) → first k ≡ second k) → SameClauses first second
+pub SameClauses-eq : (first second : Live) → ((k : ℕ) → first k ≡ second k)
+    → SameClauses first second
 SameClauses-eq first second same = search (rules, same_at_refl)

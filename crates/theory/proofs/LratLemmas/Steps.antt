@@ -1,24 +1,66 @@
 -- What an accepted LRAT step shows.
-use Rattle.std.proofs.Common.{◌≡◌, ℕ, true, false, eqb, eqb-true, nat_le, Option, Some, None, Ok}
-use Rattle.std.proofs.Common.{Err, List, [], ◌∷◌, ◌++◌, sym, ◌∙◌, subst, inl, inr, arith, rules}
-use Rattle.std.proofs.lemmas.Bool.{false≢true, true≢false, cases_Bool, or_cases, and_cases}
-use Rattle.std.proofs.lemmas.Bool.{not-false, MatchBool-at_true, MatchBool-at_false}
-use Rattle.std.proofs.lemmas.{Bool.Decides.nat_tests, Grind.common_steps}
+use Rattle.std.proofs.Common.{◌≡◌, ℕ, true, false, eqb, eqb-true, Option, Some, None, Ok, Err, List}
+use Rattle.std.proofs.Common.{[], ◌∷◌, ◌++◌, inl, inr, arith, rules, cond, option_map, refl}
+use Rattle.std.proofs.lemmas.{Bool.false≢true, Bool.cases_Bool, Bool.or_cases, List.map-append}
 use Rattle.std.specs.{Option.option_or, List.list_any}
-use Rattle.theory.specs.declared.accepted.Accepted.{Accepted, TheVariants.Deleted}
-use Rattle.theory.specs.{declared.refusal.Refusal.Refusal, Answers.StepAnswer, Laws.IsRedundant}
-use Rattle.theory.specs.declared.refusal.Refusal.TheVariants.{IdOutOfOrder, GroupWithoutConflict}
-use Rattle.theory.specs.Propagation.{Live, Forced, Clash, HasRat, by_both}
-use Rattle.theory.specs.Lrat.{ChainEnd, conflict, chain, Group, LratState, add, with_candidate}
-use Rattle.theory.specs.Lrat.{AnswersGroups, AnswersChain, AnswersLrat, answer_of, chain_refusal}
-use Rattle.theory.specs.{Sets.conflicts, Lrat.group_refusal, Lrat.groups_refusal, Lrat.is_left_out}
-use Rattle.theory.proofs.PropagationLemmas.Forced.{forced_assumed, forced_through, clash_through}
-use Rattle.theory.proofs.PropagationLemmas.Conflicts.{conflicts_some}
-use Rattle.theory.proofs.LratLemmas.Chains.{ChainMeans, chain_means}
 use Rattle.cnf_base.specs.Literals.{Literal, complement, Clause, has, complements, without}
-use Rattle.cnf_base.proofs.LiteralLemmas.{complement-complement}
 use Rattle.cnf_base.proofs.SetLemmas.{has_head, has_append_left, has_append_right, has_append_cases}
-use Rattle.cnf_base.proofs.SetLemmas.{complements_has, has-complements}
+use Rattle.cnf_base.proofs.SetLemmas.{has_cases}
+use Rattle.theory.specs.Propagation.{Live, Forced, Clash, HasRat, by_both, open_literals}
+use Rattle.theory.specs.Lrat.{ChainEnd, conflict, chain, Group, with_candidate, AnswersGroups}
+use Rattle.theory.specs.Lrat.{AnswersChain, answer_of, chain_refusal, group_refusal, groups_refusal}
+use Rattle.theory.specs.Lrat.{is_left_out, open_with, unknown, not_unit, look_at}
+use Rattle.theory.proofs.PropagationLemmas.Forced.{forced_assumed, forced_through, clash_through}
+use Rattle.theory.proofs.PropagationLemmas.Unit.{none_left_clashes, clash_of_conflict}
+use Rattle.theory.specs.Laws.{IsRedundant, LratShowsRedundant}
+use Rattle.theory.proofs.PropagationLemmas.Conflicts.{conflicts_some}
+use Rattle.theory.proofs.PropagationLemmas.{Unit.left_is_forced, Open.first_alone}
+use Rattle.theory.specs.{declared.refusal.Refusal.TheVariants.GroupWithoutConflict, Sets.conflicts}
+use Rattle.theory.specs.{Answers.StepAnswer, declared.accepted.Accepted.TheVariants.Deleted}
+use Rattle.theory.specs.declared.{accepted.Accepted.Accepted, refusal.Refusal.Refusal}
+
+-- ---- A walk over hints adds only literals that are forced, and a conflict in it is a clash
+
+-- these literals are forced
+abbrev AreForced : Live → List Literal → List Literal → Type 0
+AreForced live assumed ls = (a : Literal) → has ls a ≡ true → Forced live assumed a
+
+-- what a walk's end says of the live clauses and of what is assumed
+abbrev pub ChainMeans : Live → List Literal → ChainEnd → Type 0
+ChainMeans live assumed conflict = Clash live assumed
+ChainMeans live assumed (open_with ls) = AreForced live assumed ls
+ChainMeans live assumed (unknown k) = Unit {0}
+ChainMeans live assumed (not_unit k) = Unit {0}
+
+module _ (live : Live) (assumed : List Literal) where
+  -- the hint's clause, where the walk goes on well with a literal that is alone
+  look_means : (ls : List Literal) → AreForced live assumed ls
+      → (k : ℕ) (c : Clause) → live k ≡ Some c → (go_on : Literal → ChainEnd) →
+      ((m : Literal) → Forced live assumed m → ChainMeans live assumed (go_on m))
+      → ChainMeans live assumed (look_at k (Some (open_literals ls c)) go_on)
+  look_means ls forced k c at go_on each =
+      let clash = none_left_clashes live assumed ls forced k c at in
+      let alone = left_is_forced live assumed ls forced k c at in
+      elim (open_literals ls c) as (λ os. open_literals ls c ≡ os
+      → ChainMeans live assumed (look_at k (Some os) go_on)) [
+        | [] ↦ λ e. clash e
+        | l ∷ rest ↦ λ e. let first = first_alone l rest in grind arith
+      ] refl
+
+  pub chain_means : (hints : List ℕ) (ls : List Literal) → AreForced live assumed ls → ChainMeans live assumed (chain live ls hints)
+  chain_means [] ls forced =
+      elim (conflicts ls) as (λ b. conflicts ls ≡ b
+      → ChainMeans live assumed (cond b conflict (open_with ls))) [
+        | true ↦ λ h. clash_of_conflict live assumed ls forced h
+        | false ↦ λ h. forced
+      ] refl
+  chain_means (k ∷ hints) ls forced =
+      let go_on : Literal → ChainEnd = λ l. chain live (l ∷ ls) hints in
+      let look = look_at k (option_map (open_literals ls) (live k)) go_on in
+      elim (conflicts ls) as (λ b. conflicts ls ≡ b → ChainMeans live assumed (cond b conflict look)) [
+        | true ↦ λ h. clash_of_conflict live assumed ls forced h
+        | false ↦ grind (arith, look_means, has_cases, (chain_means hints))
+      ] refl
 
 -- ---- Refusals in a row
 
@@ -31,62 +73,63 @@ conflict_of_none r end h = search rules
 -- ---- Groups
 
 module _ (live : Live) (ls : List Literal) (pivot : Literal) where
-  group_clash : (earlier : List ℕ) (group : Group) (d : Clause) → group_refusal live ls pivot earlier group (Some d) ≡ None → Clash live (with_candidate ls d pivot)
+  -- what is left of a candidate clashes
+  abbrev Clashes : Clause → Type 0
+  Clashes d = Clash live (with_candidate ls d pivot)
+
+  group_clash : (earlier : List ℕ) (group : Group) (d : Clause) → group_refusal live ls pivot earlier group (Some d) ≡ None → Clashes d
   group_clash earlier group d e =
+      let start = with_candidate ls d pivot in
       let last = or_none _ _ (or_none _ _ e).1 in
-      let ended = conflict_of_none (GroupWithoutConflict group.candidate) (chain live (with_candidate ls d pivot) group.hints) last.1 in
-      subst (ChainMeans live (with_candidate ls d pivot)) ended (chain_means live (with_candidate ls d pivot) group.hints (with_candidate ls d pivot) (forced_assumed live (with_candidate ls d pivot)))
+      let ended = conflict_of_none (GroupWithoutConflict group.candidate)
+      (chain live start group.hints)
+      last.1 in
+      let means = chain_means live start group.hints start (forced_assumed live start) in
+      rw ended at means
 
   -- a candidate that a group names
-  groups_clash : (groups : List Group) (earlier : List ℕ) → groups_refusal live ls pivot earlier groups ≡ None → (k : ℕ) → list_any (λ group. eqb group.candidate k) groups ≡ true → (d : Clause) → live k ≡ Some d → Clash live (with_candidate ls d pivot)
+  groups_clash : (groups : List Group) (earlier : List ℕ) → groups_refusal live ls pivot earlier groups ≡ None → (k : ℕ) → list_any (λ group. eqb group.candidate k) groups ≡ true → (d : Clause) → live k ≡ Some d → Clashes d
   groups_clash [] earlier e k named d at = absurd (false≢true named)
   groups_clash (group ∷ groups) earlier e k named d at =
-      let parts = or_none (group_refusal live ls pivot earlier group (live group.candidate)) (groups_refusal live ls pivot (group.candidate ∷ earlier) groups) e in
+      let parts = or_none (group_refusal live ls pivot earlier group (live group.candidate)) _ e in
       elim (or_cases (eqb group.candidate k) (list_any (λ g. eqb g.candidate k) groups) named) [
         | inl here ↦
-            let same = eqb-true group.candidate k here in
-            group_clash earlier group d (search rules)
+            let same = eqb-true group.candidate k here in group_clash earlier group d (search rules)
         | inr there ↦ groups_clash groups (group.candidate ∷ earlier) parts.1 k there d at
       ]
 
   -- a candidate that gives a conflict at once
-  conflict_clash : (d : Clause) → conflicts (with_candidate ls d pivot) ≡ true → Clash live (with_candidate ls d pivot)
+  conflict_clash : (d : Clause) → conflicts (with_candidate ls d pivot) ≡ true
+      → Clashes d
   conflict_clash d h =
       let w = conflicts_some (with_candidate ls d pivot) h in
       by_both w.0 (forced_assumed live _ w.0 w.1) (forced_assumed live _ (complement w.0) w.2)
 
-  candidate_clash : (groups : List Group) → groups_refusal live ls pivot [] groups ≡ None → ((k : ℕ) → is_left_out live ls pivot groups k ≡ false) → (k : ℕ) (d : Clause) → live k ≡ Some d → has d (complement pivot) ≡ true → Clash live (with_candidate ls d pivot)
+  candidate_clash : (groups : List Group) → groups_refusal live ls pivot [] groups ≡ None → ((k : ℕ) → is_left_out live ls pivot groups k ≡ false) → (k : ℕ) (d : Clause) → live k ≡ Some d → has d (complement pivot) ≡ true → Clashes d
   candidate_clash groups e none_left k d at member =
+      let none = none_left k in
       elim (cases_Bool (list_any (λ group. eqb group.candidate k) groups)) [
         | inl named ↦ groups_clash groups [] e k named d at
-        | inr unnamed ↦
-            elim (and_cases _ _ (none_left k)) [
-              | inl h ↦ absurd (true≢false (sym (not-false _ h) ∙ unnamed))
-              | inr h ↦ conflict_clash d (search rules)
-            ]
+        | inr unnamed ↦ conflict_clash d (grind arith)
       ]
 
 -- what follows from the candidate's start follows from the complements of both clauses
-resolvent_forced : (live : Live) (c d : Clause) (ls : List Literal) (pivot : Literal) → ((a : Literal) → has ls a ≡ true → Forced live (complements c) a) → (a : Literal) → has (with_candidate ls d pivot) a ≡ true → Forced live (complements (c ++ without d (complement pivot))) a
-resolvent_forced live c d ls pivot forced a member = grind (
-  arith,
-  common_steps,
-  nat_tests,
-  has_append_cases,
-  forced_through,
-  forced_assumed,
-  has_append_left,
-  complements_has,
-  has_append_right,
-  complement-complement,
-  has-complements,
-)
+resolvent_forced : (live : Live) (c d : Clause) (ls : List Literal) (pivot : Literal) → AreForced live (complements c) ls → (a : Literal) → has (with_candidate ls d pivot) a ≡ true → Forced live (complements (c ++ without d (complement pivot))) a
+resolvent_forced live c d ls pivot forced a member =
+    let rest = without d (complement pivot) in let all = map-append complement c rest in
+    elim (has_append_cases ls (complements rest) a member) [
+      | inl h ↦ forced_through live (complements c) _ (λ x inside. forced_assumed live _ x
+          (rw all (has_append_left (complements c) (complements rest) x inside))) a (forced a h)
+      | inr h ↦ forced_assumed live _ a (rw all (has_append_right (complements c) _ a h))
+    ]
 
-rat_of_groups : (live : Live) (pivot : Literal) (rest ls : List Literal) (groups : List Group) → ((a : Literal) → has ls a ≡ true → Forced live (complements (pivot ∷ rest)) a) → groups_refusal live ls pivot [] groups ≡ None → ((k : ℕ) → is_left_out live ls pivot groups k ≡ false) → HasRat live (pivot ∷ rest) pivot
+rat_of_groups : (live : Live) (pivot : Literal) (rest ls : List Literal) (groups : List Group) → AreForced live (complements (pivot ∷ rest)) ls → groups_refusal live ls pivot [] groups ≡ None → ((k : ℕ) → is_left_out live ls pivot groups k ≡ false) → HasRat live (pivot ∷ rest) pivot
 rat_of_groups live pivot rest ls groups forced e none_left =
     record {
       holds_pivot = has_head pivot rest;
-      candidates = λ k d at member. clash_through live (with_candidate ls d pivot) _ (resolvent_forced live (pivot ∷ rest) d ls pivot forced) (candidate_clash live ls pivot groups e none_left k d at member);
+      candidates = λ k d at member. clash_through live (with_candidate ls d pivot) _
+          (resolvent_forced live (pivot ∷ rest) d ls pivot forced)
+          (candidate_clash live ls pivot groups e none_left k d at member);
     }
 
 -- ---- Steps
@@ -97,7 +140,10 @@ ok_is first second e = cc
 pub ok_err : (word : Accepted) (r : Refusal) → ◌≡◌ {A = StepAnswer} (Ok word) (Err r) → ⊥
 ok_err word r e = cc
 
-groups_redundant : (live : Live) (pivot : Literal) (rest ls : List Literal) (groups : List Group) (word : Accepted) → ((a : Literal) → has ls a ≡ true → Forced live (complements (pivot ∷ rest)) a) → (refusal : Option Refusal) → groups_refusal live ls pivot [] groups ≡ refusal → AnswersGroups live ls pivot groups refusal (Ok word) → IsRedundant live (pivot ∷ rest) word
+groups_redundant : (live : Live) (pivot : Literal) (rest ls : List Literal) (groups : List Group)
+    (word : Accepted) → AreForced live (complements (pivot ∷ rest)) ls → (refusal : Option Refusal)
+    → groups_refusal live ls pivot [] groups ≡ refusal
+    → AnswersGroups live ls pivot groups refusal (Ok word) → IsRedundant live (pivot ∷ rest) word
 groups_redundant live pivot rest ls groups word h refusal h2 h3 =
     search (rules, ok_err, rat_of_groups)
 
@@ -105,11 +151,13 @@ chain_redundant : (live : Live) (c : List Literal) (groups : List Group) (word :
 chain_redundant live c groups word end h h2 = search (rules, ok_is, ok_err, groups_redundant)
 
 -- an addition that is accepted has RUP, or RAT on its first literal
-pub lrat_redundant : (state : LratState) (id : ℕ) (c : List Literal) (units : List ℕ) (groups : List Group) (word : Accepted) → AnswersLrat state (add id c units groups) (Ok word) → IsRedundant state.live c word
-lrat_redundant state id c units groups word answer = elim (cases_Bool (nat_le id state.top)) [
-  | inl e ↦ absurd (ok_err word IdOutOfOrder (MatchBool-at_true _ _ e answer))
-  | inr e ↦ chain_redundant state.live c groups word (chain state.live (complements c) units) (chain_means state.live (complements c) units (complements c) (forced_assumed state.live (complements c))) (MatchBool-at_false _ _ e answer)
-]
+pub lrat_redundant : LratShowsRedundant
+lrat_redundant state id c units groups word answer =
+    let first = complements c in
+    let means = chain_means state.live first units first (forced_assumed state.live first) in
+    let redundant = chain_redundant state.live c groups word (chain state.live first units) means in
+    grind (arith, ok_err)
 
-pub deletion_word : (refusal : Option Refusal) (word : Accepted) → ◌≡◌ {A = StepAnswer} (Ok word) (answer_of refusal) → word ≡ Deleted
+pub deletion_word : (refusal : Option Refusal) (word : Accepted)
+    → ◌≡◌ {A = StepAnswer} (Ok word) (answer_of refusal) → word ≡ Deleted
 deletion_word refusal word h = search rules

@@ -14,13 +14,16 @@ module _ (live : Live) (assumed : List Literal) where
   forced_unit k c at m member others = search rules
 
   -- a clause whose literals are all forced to be false
-  pub clash_by_false : (k : ℕ) (c : Clause) → live k ≡ Some c → ((l : Literal) → has c l ≡ true → Forced live assumed (complement l)) → Clash live assumed
+  pub clash_by_false : (k : ℕ) (c : Clause) → live k ≡ Some c
+      → ((l : Literal) → has c l ≡ true → Forced live assumed (complement l)) → Clash live assumed
   clash_by_false k [] at falses = by_empty k at
   clash_by_false k (m ∷ c) at falses =
-      by_both m (forced_unit k (m ∷ c) at m (has_head m c) (λ l member ne. falses l member)) (falses m (has_head m c))
+      by_both m (forced_unit k (m ∷ c) at m (has_head m c) (λ l member ne. falses l member))
+      (falses m (has_head m c))
 
 -- what is assumed may itself be forced
-module _ (live : Live) (first second : List Literal) (each : (a : Literal) → has first a ≡ true → Forced live second a) where
+module _ (live : Live) (first second : List Literal) (each : (a : Literal) → has first a ≡ true
+    → Forced live second a) where
   pub forced_through : (l : Literal) → Forced live first l → Forced live second l
   forced_through l forced = search rules
 

@@ -21,12 +21,15 @@ module _ (k : Literal) (ls : List Literal) where
 
   pub alone_first : (m : Literal) → AreAll (k ∷ ls) m → list_all (λ l. eqb l k) ls ≡ true
   alone_first m same =
-      each_all (λ l. eqb l k) ls (λ l h. eq-eqb l k (same l (has_tail k ls l h) ∙ sym (same k (has_head k ls))))
+      each_all (λ l. eqb l k) ls (λ l h.
+      eq-eqb l k (same l (has_tail k ls l h) ∙ sym (same k (has_head k ls))))
 
 module _ (ls : List Literal) (c : Clause) where
-  pub open_has : (l : Literal) → has (open_literals ls c) l ≡ true → (has c l ≡ true) × (has ls (complement l) ≡ false)
+  pub open_has : (l : Literal) → has (open_literals ls c) l ≡ true
+      → (has c l ≡ true) × (has ls (complement l) ≡ false)
   open_has l h = search (rules, filter_has, not-true)
 
   -- a literal of the clause is not false, or its complement is in the list
-  pub open_cases : (l : Literal) → has c l ≡ true → (has (open_literals ls c) l ≡ true) ⊎ (has ls (complement l) ≡ true)
+  pub open_cases : (l : Literal) → has c l ≡ true
+      → (has (open_literals ls c) l ≡ true) ⊎ (has ls (complement l) ≡ true)
   open_cases l member = search (rules, cases_Bool, has-filter)

@@ -13,20 +13,23 @@ use Rattle.theory.proofs.RenamingLemmas.Clauses.{mapped_among}
 abbrev pub HasImages : (Literal → Literal) → Live → Live → Type 0
 HasImages f live other = (k : ℕ) (c : Clause) → live k ≡ Some c → other k ≡ Some (map f c)
 
-module _ (f : Literal → Literal) (commutes : (l : Literal) → complement (f l) ≡ f (complement l)) (live other : Live) (images : HasImages f live other) where
-  closed_image : (passes : Literal → Bool) → IsClosed other passes → IsClosed live (λ l. passes (f l))
+module _ (f : Literal → Literal) (commutes : (l : Literal) → complement (f l) ≡ f (complement l))
+    (live other : Live) (images : HasImages f live other) where
+  closed_image : (passes : Literal → Bool) → IsClosed other passes
+      → IsClosed live (λ l. passes (f l))
   closed_image passes closed = record { unit = go }
     where
       go : (k : ℕ) (c : Clause) → live k ≡ Some c → (m : Literal) → has c m ≡ true → ((l : Literal) → has c l ≡ true → l ≢ m → passes (f (complement l)) ≡ true) → passes (f m) ≡ true
       go k c at m member others =
           closed.unit k (map f c) (images k c at) (f m) (has_mapped f c m member) (λ x inside ne.
           let w = mapped_has f c x inside in
-          subst (λ y. passes (complement y) ≡ true) w.2
-          (ap passes (commutes w.0) ∙ others w.0 w.1 (λ e. ne (sym w.2 ∙ ap f e))))
+          rw (← w.2, commutes) (others w.0 w.1 (λ e. ne (sym w.2 ∙ ap f e))))
 
-  pub forced_image : (assumed : List Literal) (l : Literal) → Forced live assumed l → Forced other (map f assumed) (f l)
+  pub forced_image : (assumed : List Literal) (l : Literal) → Forced live assumed l
+      → Forced other (map f assumed) (f l)
   forced_image assumed l forced = record {
-    in_each = λ passes closed start. forced.in_each (λ l. passes (f l)) (closed_image passes closed) (λ a member. start (f a) (has_mapped f assumed a member));
+    in_each = λ passes closed start. forced.in_each (λ l. passes (f l)) (closed_image passes closed)
+        (λ a member. start (f a) (has_mapped f assumed a member));
   }
 
   pub clash_image : (assumed : List Literal) → Clash live assumed → Clash other (map f assumed)
@@ -42,18 +45,21 @@ module _ (f : Literal → Literal) (commutes : (l : Literal) → complement (f l
   rup_image c clash = subst (Clash other) (complements_image c) (clash_image (complements c) clash)
 
 -- Live clauses under other names: each has its image, and is the image of that one.
-pub record Carries (there back : Literal → Literal) (among : Literal → Type 0) (live other : Live) : Type 0 where
+pub record Carries (there back : Literal → Literal) (among : Literal → Type 0)
+    (live other : Live) : Type 0 where
   pub renames : Renames there back among
   pub images : HasImages there live other
   pub images_back : HasImages back other live
   pub within : (k : ℕ) (c : Clause) → live k ≡ Some c → AreAmong among c
 
-module _ (there back : Literal → Literal) (among : Literal → Type 0) (live other : Live) (s : Carries there back among live other) where
+module _ (there back : Literal → Literal) (among : Literal → Type 0) (live other : Live)
+    (s : Carries there back among live other) where
   -- a clause of the other is an image
   pub is_image : (k : ℕ) (d : Clause) → other k ≡ Some d → d ≡ map there (map back d)
   is_image k d at = search rules
 
-  pub carries_back : ((l : Literal) → complement (back l) ≡ back (complement l)) → Carries back there (GoesTo there among) other live
+  pub carries_back : ((l : Literal) → complement (back l) ≡ back (complement l))
+      → Carries back there (GoesTo there among) other live
   carries_back commutes = record {
     renames = reversed there back among s.renames commutes;
     images = s.images_back;
@@ -64,13 +70,15 @@ module _ (there back : Literal → Literal) (among : Literal → Type 0) (live o
   pub rup_of : (c : Clause) → HasRup live c → HasRup other (map there c)
   rup_of c = rup_image there s.renames.commutes live other s.images c
 
-  pub rat_image : (c : Clause) (pivot : Literal) → among pivot → HasRat live c pivot → HasRat other (map there c) (there pivot)
+  pub rat_image : (c : Clause) (pivot : Literal) → among pivot → HasRat live c pivot
+      → HasRat other (map there c) (there pivot)
   rat_image c pivot a rat = record {
     holds_pivot = has_mapped there c pivot rat.holds_pivot;
     candidates = candidate;
   }
     where
-      candidate : (k : ℕ) (d : Clause) → other k ≡ Some d → has d (complement (there pivot)) ≡ true → HasRup other (map there c ++ without d (complement (there pivot)))
+      candidate : (k : ℕ) (d : Clause) → other k ≡ Some d → has d (complement (there pivot)) ≡ true
+          → HasRup other (map there c ++ without d (complement (there pivot)))
       candidate k d at member =
           let e = map back d in
           let at_back = s.images_back k d at in
@@ -79,34 +87,39 @@ module _ (there back : Literal → Literal) (among : Literal → Type 0) (live o
           let image = is_image k d at in
           let name = s.renames.commutes pivot in
           let inside : has e (complement pivot) ≡ true =
-          sym (has_is there back among s.renames e within (complement pivot) opposite)
-          ∙ ap (has (map there e)) (sym name) ∙ ap (λ x. has x (complement (there pivot))) (sym image) ∙ member in
-          let left : map there _ ≡ map there c ++ without d _ =
-          map-append there c (without e (complement pivot))
-          ∙ ap (λ x. map there c ++ x) (sym (search (rules, without_mapped))
-          ∙ (λ i. without (sym image i) (sym name i))) in
-          subst (HasRup other) left (rup_of _ (rat.candidates k e at_back inside))
+          cc (has_is there back among s.renames e within (complement pivot) opposite) in
+          let left = map-append there c (without e (complement pivot)) in
+          let same = without_mapped there back among s.renames e within (complement pivot)
+          opposite in
+          rw (image, name, same, ← left) (rup_of _ (rat.candidates k e at_back inside))
 
-  pub pr_image : (c : Clause) (witness : List Literal) → AreAmong among witness → HasPr live c witness → HasPr other (map there c) (map there witness)
+  pub pr_image : (c : Clause) (witness : List Literal) → AreAmong among witness
+      → HasPr live c witness → HasPr other (map there c) (map there witness)
   pr_image c witness w_within pr = record {
     consistent = consistent;
-    meets = (there pr.meets.0, has_mapped there c pr.meets.0 pr.meets.1, has_mapped there witness pr.meets.0 pr.meets.2);
+    meets = (
+      there pr.meets.0,
+      has_mapped there c pr.meets.0 pr.meets.1,
+      has_mapped there witness
+          pr.meets.0 pr.meets.2,
+    );
     others = others;
   }
     where
-      consistent : (m : Literal) → has (map there witness) m ≡ true → has (map there witness) (complement m) ≡ false
+      consistent : (m : Literal) → has (map there witness) m ≡ true
+          → has (map there witness) (complement m) ≡ false
       consistent m h = grind (arith, mapped_has, has_is)
 
       others : (k : ℕ) (d : Clause) → other k ≡ Some d → ((l : Literal) × (has d l ≡ true) × (has (map there witness) l ≡ true)) ⊎ HasRup other (map there c ++ open_literals (map there witness) d)
       others k d at =
-          let e = map back d in
-          let at_back = s.images_back k d at in
-          let image = is_image k d at in
+          let e = map back d in let at_back = s.images_back k d at in let image = is_image k d at in
           elim (pr.others k e at_back) [
             | inl m ↦ grind (arith, has_mapped)
-            | inr rup ↦ inr (subst (HasRup other) (map-append there c (open_literals witness e)
-                ∙ ap (λ x. map there c ++ x) (sym (search (rules, open_mapped))
-                ∙ ap (open_literals _) (sym image))) (rup_of _ rup))
+            | inr rup ↦
+                let same = open_mapped there back among s.renames witness e w_within
+                (s.within k e at_back) in
+                let left = map-append there c (open_literals witness e) in
+                inr (rw (image, same, ← left) (rup_of _ rup))
           ]
 
   pub reason_image : (c : Clause) → IsRootReason live c → IsRootReason other (map there c)
@@ -115,8 +128,6 @@ module _ (there back : Literal → Literal) (among : Literal → Type 0) (live o
     member = has_mapped there c r.literal r.member;
     forced = forced_image there s.renames.commutes live other s.images [] r.literal r.forced;
     others = λ x h ne.
-        let w = mapped_has there c x h in
-        subst (λ y. Forced other [] (complement y)) w.2
-        (subst (Forced other []) (sym (s.renames.commutes w.0))
-        (forced_image there s.renames.commutes live other s.images [] _ (search rules)));
+        let w = mapped_has there c x h in rw (← w.2, s.renames.commutes)
+        (forced_image there s.renames.commutes live other s.images [] _ (search rules));
   }

@@ -1,16 +1,11 @@
 -- What comes before a token is skipped.
-use Rattle.std.proofs.Common.{◌≡◌, ◌<◌, ◌==◌, true, ap, sym, ◌∙◌, subst, ℕ, rules, arith}
-use Rattle.std.proofs.Common.{refl}
-use Rattle.std.specs.Prelude.{slice_index}
-use Rattle.std.proofs.lemmas.Bool.{and_parts}
-use Rattle.std.proofs.lemmas.Bool.Decides.{nat_tests}
-use Rattle.std.proofs.lemmas.Grind.{common_steps}
+use Rattle.std.proofs.Common.{◌≡◌, ◌==◌, true, sym, ◌∙◌, rules, arith, refl, slice_index}
+use Rattle.std.proofs.lemmas.{Bool.Decides.nat_tests, Grind.common_steps, Bool.and_parts}
 use Rattle.cnf_base.proofs.RunLemmas.{Stands-start, Stands-end, Stands-failed, Stands-looked}
 use Rattle.cnf_base.proofs.RunLemmas.{Stands-separator, Stands-feed, Stands-comment, Stands-cut}
 use Rattle.cnf_base.proofs.RunLemmas.{Stands-word, Stands-cut_word, whole_number-read}
-use Rattle.cnf_base.proofs.RunLemmas.{one_byte-read}
+use Rattle.cnf_base.proofs.{RunLemmas.one_byte-read, TokenLemmas.failed}
 use Rattle.cnf_base.specs.declared.word.Word.TheVariants as words
-use Rattle.cnf_base.proofs.TokenLemmas.{failed}
 use Rattle.cnf_base.proofs.scanner.any_token.Goals as goal
 
 pub loop-byte-init : goal.loop-byte-init
@@ -28,30 +23,32 @@ returns-in-Err-clause-tokens g c =
 pub returns-then-byte-eq10-clause-tokens : goal.returns-then-byte-eq10-clause-tokens
 returns-then-byte-eq10-clause-tokens g c =
     rw (c.bump.ensures, c.place-place.ensures.value)
-    (Stands-feed _ _ c.in-Ok-Some.byte (Stands-looked _ _ _ c.loop-byte.invariant c.peek.ensures.look (search rules)) (search rules) (search rules) (grind (arith, nat_tests)))
+    (Stands-feed _ c.peek.new.self c.in-Ok-Some.byte (search (rules, Stands-looked)) (search rules)
+    (search rules) (grind (arith, nat_tests)))
 
 pub loop-byte-preserved-else-byte-eq10 : goal.loop-byte-preserved-else-byte-eq10
 loop-byte-preserved-else-byte-eq10 g c =
-    let from_one = let P : ℕ → Type 0 = λ n. 0 < n in subst P (ap (λ p. p.col) c.place-place.ensures.value) c.place-place.ensures.from_one in
+    let from_one = rw c.place-place.ensures.value at c.place-place.ensures.from_one in
     rw c.bump.ensures
-    (Stands-separator _ _ c.in-Ok-Some.byte (Stands-looked _ _ _ c.loop-byte.invariant c.peek.ensures.look (search rules)) from_one (search rules) (search rules) (search rules) (grind (arith, nat_tests)))
+    (Stands-separator _ c.peek.new.self c.in-Ok-Some.byte (search (rules, Stands-looked)) from_one
+    (search rules) (search rules) (search rules) (grind (arith, nat_tests)))
 
 pub returns-then-is_err-clause-tokens : goal.returns-then-is_err-clause-tokens
 returns-then-is_err-clause-tokens g c =
     let both = and_parts _ _ (sym c.begins_comment.ensures ∙ c.if-begins_comment.true) in
     let start : (c.peek.new.self.place.col == 1) ≡ true = rw (← c.place.ensures.value) both.0 in
     let text = rw c.bump_in_line.ensures at c.skip_comment.ensures.text in
-    Stands-cut _ _ _ c.in-Ok-Some.byte _ (Stands-looked _ _ _ c.loop-byte.invariant c.peek.ensures.look (search rules)) (search rules) (search rules) both.1 start text (search rules)
+    Stands-cut _ c.peek.new.self c.in-Ok-Some.byte (search (rules, Stands-looked)) (search rules)
+    (search rules) both.1 start _ _ text (search rules)
 
 pub loop-byte-preserved : goal.loop-byte-preserved
 loop-byte-preserved g c =
-    let stands = Stands-looked _ _ _ c.loop-byte.invariant c.peek.ensures.look (search rules) in
     let both = and_parts _ _ (sym c.begins_comment.ensures ∙ c.if-begins_comment.true) in
     let start : (c.peek.new.self.place.col == 1) ≡ true = rw (← c.place.ensures.value) both.0 in
     let text = rw c.bump_in_line.ensures at c.skip_comment.ensures.text in
     record {
-      text = Stands-comment _ _ _ c.in-Ok-Some.byte _ stands (search rules) (search rules)
-          both.1 start text;
+      text = Stands-comment _ c.peek.new.self c.in-Ok-Some.byte (search (rules, Stands-looked))
+          (search rules) (search rules) both.1 start _ _ text;
       fewer = grind (arith, common_steps);
       mark = search rules;
     }
@@ -59,30 +56,30 @@ loop-byte-preserved g c =
 pub returns-in-Some-clause-tokens : goal.returns-in-Some-clause-tokens
 returns-in-Some-clause-tokens g c =
     let number = rw c.ahead-else-begins_comment.ensures at c.in-Some.ensures in
-    rw c.skip_in_line.ensures (Stands-word _ _ _ _ _
-    (Stands-looked _ _ _ c.loop-byte.invariant c.peek.ensures.look (search rules))
+    rw c.skip_in_line.ensures (Stands-word _ _ _ _ _ (search (rules, Stands-looked))
     c.place-place-else-begins_comment.ensures.value
     (whole_number-read _ c.in-Ok-Some.byte _ _ (search rules) (search rules) (search rules)
     number))
 
 pub returns-else-begins_comment-clause-tokens : goal.returns-else-begins_comment-clause-tokens
 returns-else-begins_comment-clause-tokens g c =
-    Stands-word _ _ _ _ c.in_ok-read_word-in-Ok-Some.field-0
-    (Stands-looked _ _ _ c.loop-byte.invariant c.peek.ensures.look (search rules))
+    Stands-word _ _ _ _ c.in_ok-read_word-in-Ok-Some.field-0 (search (rules, Stands-looked))
     c.place-place-else-begins_comment.ensures.value c.in_ok-read_word-in-Ok-Some.ensures.text
 
 pub returns-in_err-read_word-in-Ok-Some-clause-tokens
     : goal.returns-in_err-read_word-in-Ok-Some-clause-tokens
 returns-in_err-read_word-in-Ok-Some-clause-tokens g c =
-    let cut = Stands-cut_word _ _ _ (Stands-looked _ _ _ c.loop-byte.invariant c.peek.ensures.look (search rules)) c.in_err-read_word-in-Ok-Some.ensures.text in
-    failed _ _ _ c.from_residual.ensures.0 cut
+    let text = c.in_err-read_word-in-Ok-Some.ensures.text in
+    failed _ _ _ c.from_residual.ensures.0
+    (Stands-cut_word _ _ _ (search (rules, Stands-looked)) text)
 
 pub returns-then-separator_follows-clause-tokens
     : goal.returns-then-separator_follows-clause-tokens
 returns-then-separator_follows-clause-tokens g c =
-    let is_d = c.if-byte-eq100.true in
-    let stands = Stands-looked _ _ _ c.loop-byte.invariant c.peek.ensures.look (search rules) in
     let follows = rw c.ahead.ensures at c.separator_follows.ensures in
     let first : 100 ≡ slice_index c.peek.new.self.ahead 0 = search rules in
-    rw c.bump_in_line-then-separator_follows.ensures (Stands-word _ _ _ _ words.D stands c.place-place-else-begins_comment.ensures.value
-    (one_byte-read _ 100 words.D first refl refl (search rules) (follows.long (search rules)) (follows.separator (search rules))))
+    rw c.bump_in_line-then-separator_follows.ensures
+    (Stands-word _ _ _ _ words.D (search (rules, Stands-looked))
+    c.place-place-else-begins_comment.ensures.value
+    (one_byte-read _ 100 words.D first refl refl (search rules) (follows.long (search rules))
+    (follows.separator (search rules))))

@@ -13,14 +13,17 @@ loop-byte-init g c =
 pub loop-byte-preserved : goal.loop-byte-preserved
 loop-byte-preserved g c =
     let so_far = c.loop-byte.invariant in
-    rw c.bump_in_line.ensures
-    (so_far.0 ++ c.in-Ok-Some.byte ∷ [], InRun-bumped _ _ _ _ (InRun-looked _ _ _ _ so_far.1 c.peek.ensures.look (search rules)) (search rules) (search rules) (search rules), c.add.ensures so_far.0 so_far.2)
+    let looked = InRun-looked _ _ _ _ so_far.1 c.peek.ensures.look (search rules) in
+    let bumped = InRun-bumped _ _ _ _ looked (search rules) (search rules) (search rules) in
+    let added = c.add.ensures so_far.0 so_far.2 in
+    rw c.bump_in_line.ensures (so_far.0 ++ c.in-Ok-Some.byte ∷ [], bumped, added)
 
 pub returns-then-is_separator : goal.returns-then-is_separator
 returns-then-is_separator g c =
     let so_far = c.loop-byte.invariant in
     let looked = InRun-looked _ _ _ _ so_far.1 c.peek.ensures.look (search rules) in record {
-      text = InRun-separator _ _ _ _ c.in-Ok-Some.byte (c.says.ensures so_far.0 so_far.2) looked (search rules) (search rules) (search rules);
+      text = InRun-separator _ _ _ _ c.in-Ok-Some.byte (c.says.ensures so_far.0 so_far.2) looked
+          (search rules) (search rules) (search rules);
       fewer = looked.fewer;
       failed = tt;
       mark = looked.mark;
@@ -29,8 +32,9 @@ returns-then-is_separator g c =
 pub returns-in-Ok-None : goal.returns-in-Ok-None
 returns-in-Ok-None g c =
     let so_far = c.loop-byte.invariant in
+    let says = c.says-in-Ok-None.ensures so_far.0 so_far.2 in
     let looked = InRun-looked _ _ _ _ so_far.1 c.peek.ensures.look (search rules) in record {
-      text = InRun-end _ _ _ _ (c.says-in-Ok-None.ensures so_far.0 so_far.2) looked (search rules) (search rules);
+      text = InRun-end _ _ _ _ says looked (search rules) (search rules);
       fewer = looked.fewer;
       failed = tt;
       mark = looked.mark;

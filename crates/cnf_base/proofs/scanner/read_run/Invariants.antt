@@ -1,7 +1,6 @@
 -- The bytes so far are a run, and are known.
 use Rattle.std.proofs.Common.{List, ℕ}
-use Rattle.cnf_base.specs.Stream.{most_to_come}
-use Rattle.cnf_base.proofs.RunLemmas.{InRun}
+use Rattle.cnf_base.{specs.Stream.most_to_come, proofs.RunLemmas.InRun}
 use Rattle.cnf_base.proofs.scanner.read_run.Given as goal
 
 abbrev pub invariant-loop-byte : goal.invariant-loop-byte

@@ -1,7 +1,6 @@
 -- What was said so far is the output's.
 use Rattle.cnf_base.specs.Stream.{most_to_come}
-use Rattle.dimacs.specs.Claim.{nothing}
-use Rattle.dimacs.proofs.ClaimLemmas.{Hears}
+use Rattle.dimacs.{specs.Claim.nothing, proofs.ClaimLemmas.Hears}
 use Rattle.dimacs.proofs.claim.read_tokens.Given as goal
 
 abbrev pub invariant-loop-place : goal.invariant-loop-place

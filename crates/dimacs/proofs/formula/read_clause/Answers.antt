@@ -1,13 +1,11 @@
 -- A token of a clause: a number that was ahead, or another one.
-use Rattle.std.proofs.Common.{◌≡◌, ◌++◌, ◌∷◌, [], rules}
-use Rattle.std.specs.Prelude.{Ok, Err}
-use Rattle.cnf_base.specs.declared.fault.Fault.TheVariants.{OutOfMemory}
-use Rattle.cnf_base.proofs.TokenLemmas.{told}
+use Rattle.std.proofs.Common.{◌≡◌, ◌++◌, ◌∷◌, [], rules, Ok, Err}
+use Rattle.cnf_base.specs.declared.token.Token.TheVariants as token
+use Rattle.cnf_base.specs.declared.word.Word.TheVariants as words
+use Rattle.cnf_base.{specs.declared.fault.Fault.TheVariants.OutOfMemory, proofs.TokenLemmas.told}
 use Rattle.dimacs.proofs.FormulaLemmas.{Between-start, Between-line, Between-literal}
 use Rattle.dimacs.proofs.FormulaLemmas.{Between-clause, Between-fault, Between-refused, Between-end}
 use Rattle.dimacs.proofs.FormulaLemmas.{Between-failed}
-use Rattle.cnf_base.specs.declared.token.Token.TheVariants as token
-use Rattle.cnf_base.specs.declared.word.Word.TheVariants as words
 use Rattle.dimacs.proofs.formula.read_clause.Goals as goal
 
 pub loop-count-init : goal.loop-count-init

@@ -1,13 +1,10 @@
 -- A byte of a step.
-use Rattle.std.proofs.Common.{◌≡◌, ℕ, refl, subst, sym, rules}
-use Rattle.std.specs.Prelude.{Ok, Err}
-use Rattle.cnf_base.specs.{declared.input.Ending.TheVariants.End, Stream.Stream}
-use Rattle.proofs.specs.declared.moved.Moved.TheVariants.{To, Complete}
-use Rattle.proofs.specs.{declared.drat_binary.stopped.Stopped.TheVariants.Binary, Steps.Step}
-use Rattle.proofs.specs.{Binary.at_tag, Binary.binary_at_end, Code.TextMoves.EndsProof}
+use Rattle.std.proofs.Common.{◌≡◌, refl, rules, Ok, Err}
 use Rattle.proofs.proofs.BinaryLemmas.{Between, Between-on, Between-out, Between-none, Between-end}
 use Rattle.proofs.proofs.BinaryLemmas.{Between-byte, Between-step, Between-fault, Between-refused}
+use Rattle.proofs.specs.declared.moved.Moved.TheVariants.{Complete, To}
 use Rattle.proofs.proofs.BinaryLemmas.{moves_told}
+use Rattle.proofs.specs.{declared.drat_binary.stopped.Stopped.TheVariants.Binary, Binary.at_tag}
 use Rattle.proofs.proofs.drat_binary.read_step.Goals as goal
 
 pub loop-byte-init : goal.loop-byte-init
@@ -17,26 +14,32 @@ pub returns-in-Ok-None-clause-step : goal.returns-in-Ok-None-clause-step
 returns-in-Ok-None-clause-step g c =
     let so_far = c.loop-byte.invariant in
     let number : c.byte_no-byte_no.result ≡ c.peek.new.self.byte_no = search rules in
-    let ends = let P : ℕ → Type 0 = λ n. EndsProof c.at_end.result (binary_at_end so_far.0 n End) in subst P number (c.at_end.ensures.value so_far.0 so_far.2) in
-    Between-end _ _ _ _ _ so_far.1 c.in-Ok-None.ensures.look c.at_end.result _ (search rules) (search rules) ends
+    let ends = rw number at (c.at_end.ensures.value so_far.0 so_far.2) in
+    Between-end _ _ _ _ _ so_far.1 c.in-Ok-None.ensures.look c.at_end.result _ (search rules)
+    (search rules) ends
 
 pub loop-byte-preserved : goal.loop-byte-preserved
 loop-byte-preserved g c =
     let so_far = c.loop-byte.invariant in
-    let moves = moves_told _ (Ok (To c.in-Ok-To.next)) so_far.0 _ _ c.byte_no-byte_no.result c.peek.new.self.byte_no _ (c.move_on.ensures so_far.0 so_far.2) (search rules) (search rules) in
-    let P : Stream → Type 0 = λ x. Between c.args.source.now x moves.0 c.move_on.new.step in
-    let after = subst P (sym c.bump.ensures) (Between-byte _ _ _ _ _ so_far.1 c.in-Ok-Some.ensures.look c.in-Ok-Some.byte (search rules) (search rules) moves.0 c.move_on.new.step moves.1 (search rules)) in
+    let moves = moves_told _ (Ok (To c.in-Ok-To.next)) so_far.0 _ _ c.byte_no-byte_no.result
+    c.peek.new.self.byte_no _ (c.move_on.ensures so_far.0 so_far.2) (search rules) (search rules) in
+    let after : Between c.args.source.now c.bump.new.self moves.0 c.move_on.new.step =
+    rw c.bump.ensures (Between-byte _ _ _ _ _ so_far.1 c.in-Ok-Some.ensures.look
+    c.in-Ok-Some.byte (search rules) (search rules) moves.0 c.move_on.new.step moves.1
+    (search rules)) in
     let on = c.run_on.ensures moves.0 moves.2 in
     let same : c.run_on.new.step ≡ on.0 = search rules in
-    let Q : Step → Type 0 = λ x. Between c.args.source.now c.run_on.new.source moves.0 x in
-    (moves.0, subst Q (sym same) (Between-on _ _ _ _ _ _ after on.1), moves.2)
+    (moves.0, rw same (Between-on _ _ _ _ _ _ after on.1), moves.2)
 
 pub returns-then-is_err-clause-step : goal.returns-then-is_err-clause-step
 returns-then-is_err-clause-step g c =
     let so_far = c.loop-byte.invariant in
-    let moves = moves_told _ (Ok (To c.in-Ok-To.next)) so_far.0 _ _ c.byte_no-byte_no.result c.peek.new.self.byte_no _ (c.move_on.ensures so_far.0 so_far.2) (search rules) (search rules) in
-    let P : Stream → Type 0 = λ x. Between c.args.source.now x moves.0 c.move_on.new.step in
-    let after = subst P (sym c.bump.ensures) (Between-byte _ _ _ _ _ so_far.1 c.in-Ok-Some.ensures.look c.in-Ok-Some.byte (search rules) (search rules) moves.0 c.move_on.new.step moves.1 (search rules)) in
+    let moves = moves_told _ (Ok (To c.in-Ok-To.next)) so_far.0 _ _ c.byte_no-byte_no.result
+    c.peek.new.self.byte_no _ (c.move_on.ensures so_far.0 so_far.2) (search rules) (search rules) in
+    let after : Between c.args.source.now c.bump.new.self moves.0 c.move_on.new.step =
+    rw c.bump.ensures (Between-byte _ _ _ _ _ so_far.1 c.in-Ok-Some.ensures.look
+    c.in-Ok-Some.byte (search rules) (search rules) moves.0 c.move_on.new.step moves.1
+    (search rules)) in
     let on = c.run_on.ensures moves.0 moves.2 in
     Between-out _ _ _ _ c.run_on.new.step (Between-on _ _ _ _ _ _ after on.1)
 

@@ -1,4 +1,4 @@
-use Rattle.proofs.proofs.DratPrinting.{drat_read}
+use Rattle.proofs.proofs.DratGrammar.{drat_read}
 use Rattle.proofs.proofs.laws.drat_is_read_back.Goals as goal
 
 pub returns : goal.returns

@@ -1,6 +1,7 @@
 use Rattle.std.proofs.Common.{subst}
-use Rattle.theory.proofs.LratLemmas.Chains.{ChainMeans, chain_means}
+use Rattle.theory.proofs.LratLemmas.Steps.{ChainMeans, chain_means}
 use Rattle.theory.proofs.laws.chain_shows_clash.Goals as goal
 
 pub returns : goal.returns
-returns c = λ live assumed start hints forced ends. subst (ChainMeans live assumed) ends (chain_means live assumed hints start forced)
+returns c = λ live assumed start hints forced ends. subst (ChainMeans live assumed)
+    ends (chain_means live assumed hints start forced)

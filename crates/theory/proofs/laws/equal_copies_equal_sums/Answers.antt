@@ -1,4 +1,4 @@
-use Rattle.theory.proofs.DratLemmas.CopySums.{sums_same}
+use Rattle.theory.proofs.LawLemmas.Sizes.{sums_same}
 use Rattle.theory.proofs.laws.equal_copies_equal_sums.Goals as goal
 
 pub returns : goal.returns

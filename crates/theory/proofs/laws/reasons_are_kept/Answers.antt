@@ -1,4 +1,4 @@
-use Rattle.theory.proofs.LawLemmas.KeptUnits.{reasons_are_kept}
+use Rattle.theory.proofs.LawLemmas.Losses.{reasons_are_kept}
 use Rattle.theory.proofs.laws.reasons_are_kept.Goals as goal
 
 pub returns : goal.returns

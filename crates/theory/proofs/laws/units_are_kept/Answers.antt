@@ -1,4 +1,4 @@
-use Rattle.theory.proofs.LawLemmas.KeptUnits.{units_are_kept}
+use Rattle.theory.proofs.LawLemmas.Losses.{units_are_kept}
 use Rattle.theory.proofs.laws.units_are_kept.Goals as goal
 
 pub returns : goal.returns

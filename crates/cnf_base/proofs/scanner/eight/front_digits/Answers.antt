@@ -1,25 +1,10 @@
 -- The digits are shifted to the top, and count as if zeros stood before them.
-use Rattle.std.proofs.Common.{◌≡◌, ℕ, ◌<◌, ◌≤◌, ◌+◌, ◌-◌, ◌*◌, ◌%◌, ◌^◌, List, [], ◌∷◌, length}
-use Rattle.std.proofs.Common.{take, refl, ap, ◌∙◌, subst, arith}
-use Rattle.std.specs.Prelude.{slice_index}
-use Rattle.std.specs.Int.{from_le_bytes, w64}
-use Rattle.std.specs.Int.Bits.{bit_xor}
-use Rattle.cnf_base.specs.Code.Eight.{eight, packed, AreEight, decimal}
-use Rattle.cnf_base.proofs.EightLemmas.{front}
+use Rattle.std.proofs.Common.{◌≡◌, ℕ, ◌<◌, ◌+◌, ◌-◌, ◌*◌, ◌%◌, ◌^◌, List, take, sym, ap, ◌∙◌, subst}
+use Rattle.std.proofs.Common.{slice_index, w64, bit_xor}
+use Rattle.std.specs.Int.{from_le_bytes}
+use Rattle.cnf_base.specs.Code.Eight.{packed, AreEight, decimal}
+use Rattle.cnf_base.proofs.EightLemmas.{eight_is, front}
 use Rattle.cnf_base.proofs.scanner.eight.front_digits.Goals as goal
-
--- the first eight bytes
-eight_is : (bytes : List ℕ) → 8 ≤ length bytes → take 8 bytes ≡ eight bytes
-eight_is [] long = absurd (let wrong : ⊥ = omega (arith, long) in wrong)
-eight_is (a ∷ []) long = absurd (let wrong : ⊥ = omega (arith, long) in wrong)
-eight_is (a ∷ b ∷ []) long = absurd (let wrong : ⊥ = omega (arith, long) in wrong)
-eight_is (a ∷ b ∷ c ∷ []) long = absurd (let wrong : ⊥ = omega (arith, long) in wrong)
-eight_is (a ∷ b ∷ c ∷ d ∷ []) long = absurd (let wrong : ⊥ = omega (arith, long) in wrong)
-eight_is (a ∷ b ∷ c ∷ d ∷ e ∷ []) long = absurd (let wrong : ⊥ = omega (arith, long) in wrong)
-eight_is (a ∷ b ∷ c ∷ d ∷ e ∷ f ∷ []) long = absurd (let wrong : ⊥ = omega (arith, long) in wrong)
-eight_is (a ∷ b ∷ c ∷ d ∷ e ∷ f ∷ g ∷ []) long =
-    absurd (let wrong : ⊥ = omega (arith, long) in wrong)
-eight_is (a ∷ b ∷ c ∷ d ∷ e ∷ f ∷ g ∷ h ∷ rest) long = refl
 
 pub returns : goal.returns
 returns c some digit =
@@ -33,5 +18,5 @@ returns c some digit =
     front bytes c.requires.long low c.args.is_negative c.requires.sign c.from_le_bytes-packed.result
     c.digit_count-count.result c.value_of.result
     (c.from_le_bytes-packed.ensures
-    ∙ ap (from_le_bytes w64) (first ∙ eight_is bytes c.requires.long))
+    ∙ ap (from_le_bytes w64) (first ∙ sym (eight_is bytes c.requires.long)))
     c.digit_count-count.ensures.count some says digit

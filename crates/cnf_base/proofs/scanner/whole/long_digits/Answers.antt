@@ -1,13 +1,12 @@
 -- More digits go on with the first ones.
-use Rattle.std.proofs.Common.{List, ℕ, subst}
 use Rattle.cnf_base.specs.Code.Eight.{unsigned}
-use Rattle.cnf_base.specs.Code.Whole.{GoOn}
 use Rattle.cnf_base.proofs.WholeLemmas.{GoOn-more, unsigned-behind}
 use Rattle.cnf_base.proofs.scanner.whole.long_digits.Goals as goal
 
 pub returns-clause-digits : goal.returns-clause-digits
 returns-clause-digits c =
     let front = c.requires.front in
-    let P : List ℕ → Type 0 = λ xs. GoOn c.args.size xs c.in_ok-more.more c.in_ok-more.size in
-    let more = subst P (unsigned-behind c.args.is_negative c.args.bytes.now c.args.count front.some c.requires.inside) c.in_ok-more.ensures in
-    GoOn-more (unsigned c.args.is_negative c.args.bytes.now) c.args.count c.args.size c.in_ok-more.more c.in_ok-more.size front.each front.says more
+    let same = unsigned-behind c.args.is_negative c.args.bytes.now c.args.count front.some
+    c.requires.inside in
+    GoOn-more (unsigned c.args.is_negative c.args.bytes.now) c.args.count c.args.size
+    c.in_ok-more.more c.in_ok-more.size front.each front.says (rw (← same) c.in_ok-more.ensures)

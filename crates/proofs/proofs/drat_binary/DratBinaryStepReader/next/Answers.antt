@@ -1,7 +1,7 @@
 -- An answer that is kept.
-use Rattle.std.proofs.Common.{Some, rules}
-use Rattle.proofs.specs.Code.{Binary.binary_steps_at, BinaryMoves.binary_left}
-use Rattle.proofs.proofs.{BinaryLemmas.binary_kept, ReachLemmas.Open-step, TextLemmas.Kept-step}
+use Rattle.std.proofs.{Common.Some, Common.rules}
+use Rattle.proofs.specs.{Code.Binary.binary_steps_at, Code.BinaryMoves.binary_left}
+use Rattle.proofs.proofs.{BinaryLemmas.binary_kept, TextLemmas.Kept-step, TextLemmas.Open-step}
 use Rattle.proofs.proofs.drat_binary.DratBinaryStepReader.next.Goals as goal
 
 pub returns-in-Some-clause-step : goal.returns-in-Some-clause-step

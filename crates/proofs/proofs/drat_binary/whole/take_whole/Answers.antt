@@ -1,8 +1,7 @@
-use Rattle.std.proofs.Common.{◌≡◌, sym, subst, rules}
-use Rattle.cnf_base.specs.Stream.{Stream, skipped}
-use Rattle.proofs.specs.{Binary.in_step, Code.Whole.IsWhole, Code.Whole.RunsOn}
-use Rattle.proofs.specs.Steps.{Step, with_literal}
+use Rattle.std.proofs.Common.{◌≡◌, rules}
+use Rattle.cnf_base.specs.Stream.{skipped}
 use Rattle.proofs.proofs.WholeLemmas.{RunsOn-more, RunsOn-none}
+use Rattle.proofs.specs.{Binary.in_step, Code.Whole.IsWhole, Steps.with_literal}
 use Rattle.proofs.proofs.drat_binary.whole.take_whole.Goals as goal
 
 pub loop-count-init : goal.loop-count-init
@@ -15,6 +14,4 @@ loop-count-preserved g c =
     let whole : IsWhole now.ahead count lit = search rules in
     let source : c.skip_in_line.new.self ≡ skipped count now = search rules in
     let pushed : c.push_literal.new.self ≡ with_literal step lit = search rules in
-    let P : Stream → Type 0 = λ x. RunsOn in_step old x first c.push_literal.new.self in
-    let Q : Step → Type 0 = λ x. RunsOn in_step old (skipped count now) first x in
-    subst P (sym source) (subst Q (sym pushed) (RunsOn-more old now first step count lit c.loop-count.invariant whole))
+    rw (source, pushed) (RunsOn-more old now first step count lit c.loop-count.invariant whole)

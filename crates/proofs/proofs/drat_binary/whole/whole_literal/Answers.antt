@@ -10,4 +10,5 @@ returns c =
     let few : number.count ≤ 4 = search rules in
     let same : lit ≡ number.value = search (rules, common_steps, nat_tests) in
     let least : 2 ≤ lit = search rules in let most : lit ≤ 536870911 = search rules in
-    whole_of bytes long number lit c.front-count.ensures few (λ n is none. search (rules, is, none)) same least most
+    whole_of bytes long number lit c.front-count.ensures few (λ n is none. search (rules, is, none))
+    same least most

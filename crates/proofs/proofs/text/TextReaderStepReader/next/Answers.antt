@@ -1,8 +1,8 @@
 -- An answer that is kept.
 use Rattle.std.proofs.Common.{Some, Ok, rules}
 use Rattle.cnf_base.specs.Text.{listing_at}
-use Rattle.proofs.specs.Code.{TextMoves.text_left, TextSteps.steps_at}
-use Rattle.proofs.proofs.{ReachLemmas.Open-step, TextLemmas.Kept-step, TextLemmas.text_kept}
+use Rattle.proofs.proofs.TextLemmas.{Kept-step, text_kept, Open-step}
+use Rattle.proofs.specs.{Code.TextMoves.text_left, Code.TextSteps.steps_at}
 use Rattle.proofs.proofs.text.TextReaderStepReader.next.Goals as goal
 
 pub returns-in-Some-clause-step : goal.returns-in-Some-clause-step

@@ -1,4 +1,4 @@
-use Rattle.cnf_base.proofs.WordLemmas.{IsName-more}
+use Rattle.cnf_base.proofs.WholeLemmas.{IsName-more}
 use Rattle.cnf_base.proofs.scanner.run.NameRun.add.Goals as goal
 
 pub returns : goal.returns

@@ -1,4 +1,4 @@
-use Rattle.cnf_base.proofs.WordLemmas.{IsName-word}
+use Rattle.cnf_base.proofs.WholeLemmas.{IsName-word}
 use Rattle.cnf_base.proofs.scanner.run.NameRun.says.Goals as goal
 
 pub returns : goal.returns

@@ -1,4 +1,4 @@
-use Rattle.cnf_base.proofs.WordLemmas.{Spells-more}
+use Rattle.cnf_base.proofs.WholeLemmas.{Spells-more}
 use Rattle.cnf_base.proofs.scanner.run.NumeralRun.add.Goals as goal
 
 pub returns : goal.returns

@@ -1,4 +1,4 @@
-use Rattle.cnf_base.proofs.WordLemmas.{Spells-first}
+use Rattle.cnf_base.proofs.WholeLemmas.{Spells-first}
 use Rattle.cnf_base.proofs.scanner.run.NumeralRun.begin.Goals as goal
 
 pub returns : goal.returns

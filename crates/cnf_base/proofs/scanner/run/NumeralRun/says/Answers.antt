@@ -1,5 +1,5 @@
 use Rattle.std.proofs.Common.{◌∙◌}
-use Rattle.cnf_base.proofs.WordLemmas.{Spells-word}
+use Rattle.cnf_base.proofs.WholeLemmas.{Spells-word}
 use Rattle.cnf_base.proofs.scanner.run.NumeralRun.says.Goals as goal
 
 pub returns : goal.returns
