@@ -1,19 +1,14 @@
 -- The blocks of a memory, as a finite map.
-use Rattle.std.proofs.Common.{◌≡◌, ℕ, zero, suc, ◌+◌, ◌-◌, ◌<◌, ◌≤◌, true, false, cond, Option}
-use Rattle.std.proofs.Common.{Some, None, List, [], ◌∷◌, ◌++◌, length, drop, refl, sym, ap, ◌∙◌}
-use Rattle.std.proofs.Common.{arith, inl, inr}
-use Rattle.std.specs.Ordering.{nat_cmp}
+use Rattle.std.proofs.Common.{◌≡◌, ℕ, zero, suc, ◌+◌, ◌-◌, ◌<◌, ◌≤◌, true, false, Option, Some}
+use Rattle.std.proofs.Common.{None, List, [], ◌∷◌, ◌++◌, length, drop, refl, ap, ◌∙◌, arith, inl}
+use Rattle.std.proofs.Common.{inr, nat_cmp, get_or-drop, length-drop}
+use Rattle.std.proofs.lemmas.{Bool.cases_Bool, List.drop-append-le, List.get_or_past}
 use Rattle.std.specs.FinMap as maps
-use Rattle.std.specs.FinMap.{FinMap}
-use Rattle.std.proofs.lemmas.Bool.{cases_Bool}
-use Rattle.std.proofs.lemmas.List.{drop-append-le, get_or-drop, get_or_past, length-drop}
-use Rattle.clause_memory.specs.Blocks.{cells_in}
+use Rattle.clause_memory.specs.{Blocks.cells_in, Code.Cells.start_of, declared.kind.Kind.Kind}
 use Rattle.clause_memory.specs.Code.Cells.{IsBlock, blocks_from, blocks_in, is_rest, kind_at, rests}
-use Rattle.clause_memory.specs.Code.Cells.{start_of}
-use Rattle.clause_memory.specs.declared.kind.Kind.{Kind}
 use Rattle.clause_memory.specs.declared.kind.Kind.TheVariants.{Live, Free, Rest}
-use Rattle.cnf_base.proofs.MapLemmas.{insert_here, insert_other, same_maps, sum_empty, sum_insert}
 use Rattle.clause_memory.proofs.CellLemmas.{AreAlike, start_begins}
+use Rattle.cnf_base.proofs.MapLemmas.{insert_here, insert_other, same_maps, sum_empty, sum_insert}
 
 -- a cell of a kind that begins a block has so many cells
 abbrev pub block_if : Kind → ℕ → Option ℕ
@@ -29,45 +24,29 @@ block_alike k l n same = grind arith
 
 -- ---- Cells that go on
 
-rests_cons : (k : Kind) (ks : List Kind) → rests (k ∷ ks) ≡ cond (is_rest k) (rests ks + 1) 0
-rests_cons k ks = grind arith
-
 rests_is : (ks : List Kind) (m : ℕ) → m ≤ length ks → ((i : ℕ) → i < m → is_rest (kind_at ks i) ≡ true) → (m < length ks → is_rest (kind_at ks m) ≡ false) → rests ks ≡ m
 rests_is [] m le on stop = omega arith
 rests_is (k ∷ ks) zero le on stop = grind arith
 rests_is (k ∷ ks) (suc m) le on stop =
-    grind (arith, rests_is ks m (omega arith) (λ i low. on (suc i) (omega arith)) (λ low. stop (omega arith)), on 0 (omega arith))
+    grind (arith, rests_is ks m (omega arith) (λ i low. on (suc i) (omega arith)) (λ low. stop (omega arith)), on 0)
 
 pub rests_alike : (ks ls : List Kind) → length ls ≡ length ks → ((i : ℕ) → is_rest (kind_at ls i) ≡ is_rest (kind_at ks i)) → rests ls ≡ rests ks
 rests_alike [] [] long same = refl
-rests_alike [] (l ∷ ls) long same = absurd (let wrong : ⊥ = omega arith in wrong)
-rests_alike (k ∷ ks) [] long same = absurd (let wrong : ⊥ = omega arith in wrong)
+rests_alike [] (l ∷ ls) long same = absurd (omega arith)
+rests_alike (k ∷ ks) [] long same = absurd (omega arith)
 rests_alike (k ∷ ks) (l ∷ ls) long same =
-    cc (rests_cons l ls, same 0, rests_alike ks ls (omega arith) (λ i. same (suc i)), rests_cons k ks)
+    grind (arith, same 0, rests_alike ks ls (omega arith) (λ i. same (suc i)))
 
 -- before a block that begins
 pub rests_before : (ks ls : List Kind) → rests (ks ++ Free ∷ ls) ≡ rests ks
 rests_before [] ls = refl
-rests_before (Live ∷ ks) ls = refl
-rests_before (Free ∷ ks) ls = refl
-rests_before (Rest ∷ ks) ls = ap (λ n. n + 1) (rests_before ks ls)
+rests_before (k ∷ ks) ls = grind (arith, rests_before ks ls)
 
 -- ---- Look-ups
 
 below_block : (ks : List Kind) (n q : ℕ) → q < n → maps.get (blocks_from n ks) q ≡ None
 below_block [] n q low = maps.get-empty nat_cmp q
-below_block (Rest ∷ ks) n q low = below_block ks (n + 1) q (omega arith)
-below_block (Live ∷ ks) n q low =
-    insert_other (blocks_from (n + 1) ks) n q (rests ks + 1) (omega arith)
-    ∙ below_block ks (n + 1) q (omega arith)
-below_block (Free ∷ ks) n q low =
-    insert_other (blocks_from (n + 1) ks) n q (rests ks + 1) (omega arith)
-    ∙ below_block ks (n + 1) q (omega arith)
-
--- a cell behind the first one
-other_block_at : (m : FinMap nat_cmp ℕ) (n x q : ℕ) → n < q
-    → maps.get (maps.insert m n x) q ≡ maps.get m q
-other_block_at m n x q more = grind (arith, insert_other)
+below_block (k ∷ ks) n q low = grind (arith, insert_other, below_block ks (n + 1) q)
 
 block_from : (ks : List Kind) (n k q : ℕ) → q ≡ n + k
     → maps.get (blocks_from n ks) q ≡ block_if (kind_at ks k) (rests (drop (suc k) ks) + 1)
@@ -75,9 +54,9 @@ block_from [] n k q e = maps.get-empty nat_cmp q
 block_from (Rest ∷ ks) n zero q e = below_block ks (n + 1) q (omega arith)
 block_from (Rest ∷ ks) n (suc k) q e = block_from ks (n + 1) k q (omega arith)
 block_from (Live ∷ ks) n zero q e = grind (arith, insert_here)
-block_from (Live ∷ ks) n (suc k) q e = other_block_at (blocks_from (n + 1) ks) n (rests ks + 1) q (omega arith) ∙ block_from ks (n + 1) k q (omega arith)
+block_from (Live ∷ ks) n (suc k) q e = grind (arith, insert_other, block_from ks (n + 1) k q)
 block_from (Free ∷ ks) n zero q e = grind (arith, insert_here)
-block_from (Free ∷ ks) n (suc k) q e = other_block_at (blocks_from (n + 1) ks) n (rests ks + 1) q (omega arith) ∙ block_from ks (n + 1) k q (omega arith)
+block_from (Free ∷ ks) n (suc k) q e = grind (arith, insert_other, block_from ks (n + 1) k q)
 
 pub get_block : (ks : List Kind) (s : ℕ)
     → maps.get (blocks_in ks) s ≡ block_if (kind_at ks s) (rests (drop (suc s) ks) + 1)
@@ -113,10 +92,10 @@ block_is {ks} {s} {n} is =
 
 -- kinds of which the same ones begin a block have the same blocks
 pub blocks_same : {ks ls : List Kind} → AreAlike ks ls → blocks_in ls ≡ blocks_in ks
-blocks_same {ks} {ls} alike = same_maps (blocks_in ls) (blocks_in ks) (λ s.
-    let old = length-drop (suc s) ks in
-    let new = length-drop (suc s) ls in
-    cc (get_block ls s, rests_alike (drop (suc s) ks) (drop (suc s) ls) (omega arith) (λ i. ap is_rest (get_or-drop (suc s) ls i Rest) ∙ alike.rest (suc s + i) ∙ sym (ap is_rest (get_or-drop (suc s) ks i Rest))), block_alike (kind_at ks s) (kind_at ls s) _ (alike.rest s), get_block ks s))
+blocks_same {ks} {ls} alike =
+    same_maps (blocks_in ls) (blocks_in ks) (λ s. let rest = rests_alike (drop (suc s) ks) (drop
+    (suc s) ls) (simp (length-drop, alike.len)) (λ i. simp (get_or-drop, alike.rest)) in
+    cc (get_block ls s, rest, block_alike (kind_at ks s) (kind_at ls s) _ (alike.rest s), get_block ks s))
 
 -- a block before others
 pub block_before : (ks ls : List Kind) (s : ℕ) → s < length ks
@@ -127,11 +106,7 @@ block_before ks ls s low same = grind (arith, get_block, drop-append-le, rests_b
 -- the cells of the blocks are all, but for those at the front that begin none
 cells_from : (ks : List Kind) (n : ℕ) → cells_in (blocks_from n ks) + rests ks ≡ length ks
 cells_from [] n = grind (arith, sum_empty)
-cells_from (Rest ∷ ks) n = let rest = cells_from ks (n + 1) in omega arith
-cells_from (Live ∷ ks) n =
-    grind (arith, cells_from ks (n + 1), sum_insert (λ x. x) (blocks_from (n + 1) ks) n (rests ks + 1) (below_block ks (n + 1) n (omega arith)))
-cells_from (Free ∷ ks) n =
-    grind (arith, cells_from ks (n + 1), sum_insert (λ x. x) (blocks_from (n + 1) ks) n (rests ks + 1) (below_block ks (n + 1) n (omega arith)))
+cells_from (k ∷ ks) n = grind (arith, cells_from ks (n + 1), sum_insert, below_block)
 
 pub cells_are : (ks : List Kind) → rests ks ≡ 0 → cells_in (blocks_in ks) ≡ length ks
 unfolding blocks_in

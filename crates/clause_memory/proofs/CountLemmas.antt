@@ -1,20 +1,16 @@
 -- How many blocks and how many clauses there are of one size.
 use Rattle.std.proofs.Common.{◌≡◌, ◌≢◌, ℕ, ◌+◌, ◌≤◌, true, cond, eqb, Option, Some, None, is_some}
-use Rattle.std.proofs.Common.{List, length, refl, sym, ap, ◌∙◌, arith}
-use Rattle.std.specs.Ordering.{nat_cmp}
-use Rattle.std.specs.FinMap as maps
+use Rattle.std.proofs.Common.{List, length, refl, arith, nat_cmp}
 use Rattle.std.specs.FinMap.{FinMap}
-use Rattle.std.proofs.lemmas.Option.{same_Some}
+use Rattle.std.specs.FinMap as maps
 use Rattle.cnf_base.specs.Literals.{Clause}
-use Rattle.clause_memory.specs.Blocks.{AddsFewBlocks, blocks_with, cells_for, cells_in}
-use Rattle.clause_memory.specs.Blocks.{clauses_with}
-use Rattle.clause_memory.specs.Code.Fields.{IsMemory}
-use Rattle.clause_memory.specs.Code.Cells.{blocks_in, clause_at, clauses_in}
-use Rattle.clause_memory.specs.declared.kind.Kind.{Kind}
-use Rattle.clause_memory.proofs.BlockLemmas.{block_is}
-use Rattle.clause_memory.proofs.ClauseLemmas.{alive_kind, clause_len, get_live}
 use Rattle.cnf_base.proofs.MapLemmas.{inserted_is, remove_here, remove_other, sum_insert}
 use Rattle.cnf_base.proofs.MapLemmas.{sum_lighter, sum_remove, weight_at}
+use Rattle.clause_memory.specs.Blocks.{AddsFewBlocks, blocks_with, cells_for, cells_in}
+use Rattle.clause_memory.specs.{Blocks.clauses_with, declared.kind.Kind.Kind}
+use Rattle.clause_memory.specs.Code.{Fields.IsMemory, Cells.blocks_in, Cells.clauses_in}
+use Rattle.clause_memory.proofs.BlockLemmas.{block_is}
+use Rattle.clause_memory.proofs.ClauseLemmas.{alive_kind, clause_len, get_live}
 
 -- ---- Blocks and clauses
 
@@ -25,20 +21,14 @@ module _ {ks : List Kind} {words : List ℕ} {heads : ℕ → Option ℕ} (memor
       → weight_at (λ c. cond (eqb (cells_for (length c)) n) 1 0) (maps.get (clauses_in ks words) s)
       ≡ 1
   one_for_each n s here alive =
-      let live = alive_kind ks words s alive in
-      let cells : cells_for (length (clause_at words s)) ≡ n = ap cells_for (clause_len memory s live) ∙ same_Some _ _ (sym (block_is (memory.block s live)) ∙ here) in
-      grind (arith, get_live)
+      grind (arith, alive_kind ks words s, clause_len memory s, block_is (memory.block s (alive_kind ks words s alive)), get_live)
 
   -- where each block of one size has a clause there are as many of these
   pub none_left : (n : ℕ) → ((s : ℕ) → maps.get (blocks_in ks) s ≡ Some n
       → is_some (maps.get (clauses_in ks words) s) ≡ true)
       → blocks_with n (blocks_in ks) ≤ clauses_with n (clauses_in ks words)
-  none_left n full = sum_lighter _ _ (blocks_in ks) (clauses_in ks words) by_size
-    where
-      by_size : (s m : ℕ) → maps.get (blocks_in ks) s ≡ Some m
-          → cond (eqb m n) 1 0 ≤ weight_at (λ c. cond (eqb (cells_for (length c)) n) 1 0)
-          (maps.get (clauses_in ks words) s)
-      by_size s m here = grind (arith, one_for_each)
+  none_left n full =
+      sum_lighter _ _ (blocks_in ks) (clauses_in ks words) (λ s m here. grind (arith, one_for_each n s))
 
 -- one block alone that is new, or has another size
 pub one_block_more : (old new : FinMap nat_cmp ℕ) (slot n : ℕ) → maps.get new slot ≡ Some n → ((s : ℕ) → s ≢ slot → maps.get new s ≡ maps.get old s) → cells_in new ≤ cells_in old + n
@@ -48,14 +38,12 @@ one_block_more old new slot n here others = by_option (maps.get old slot) refl
     by_option None is =
         grind (arith, inserted_is old new slot n here others, sum_insert (λ m. m) old slot n is)
     by_option (Some m) is =
-        grind (arith, sum_remove (λ m. m) old slot m is, inserted_is (maps.remove old slot) new slot n here (λ s ne. others s ne ∙ sym (remove_other old slot s ne)), sum_insert (λ m. m) (maps.remove old slot) slot n (remove_here old slot slot refl))
+        grind (arith, sum_remove (λ m. m) old slot m is, inserted_is (maps.remove old slot) new slot n here (grind (arith, remove_other)), sum_insert (λ m. m) (maps.remove old slot) slot n (remove_here old slot slot refl))
 
 -- a further block, where each of its size has a clause
 pub one_more_block : (old new : FinMap nat_cmp ℕ) (live : FinMap nat_cmp Clause) (slot added : ℕ)
     → blocks_with added old ≤ clauses_with added live → maps.get old slot ≡ None
     → maps.get new slot ≡ Some added → ((s : ℕ) → s ≢ slot → maps.get new s ≡ maps.get old s)
     → AddsFewBlocks old new live added
-one_more_block old new live slot added full free here others n = grind (arith, grown, sum_insert)
-  where
-    grown : new ≡ maps.insert old slot added
-    grown = inserted_is old new slot added here others
+one_more_block old new live slot added full free here others n =
+    grind (arith, inserted_is old new slot added here others, sum_insert)

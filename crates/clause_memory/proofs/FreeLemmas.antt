@@ -1,14 +1,13 @@
 -- Lists of free blocks.
-use Rattle.std.proofs.Common.{◌≡◌, ℕ, ◌+◌, ◌<◌, ◌≤◌, true, cond, eqb, Option, Some, is_some, List}
-use Rattle.std.proofs.Common.{[], ◌∷◌, refl, ap, ◌∙◌, arith, inl, inr, rules}
+use Rattle.std.proofs.Common.{◌≡◌, ℕ, ◌+◌, ◌<◌, ◌≤◌, true, cond, eqb, Option, Some, List, [], ◌∷◌}
+use Rattle.std.proofs.Common.{refl, arith, inl, inr, rules}
 use Rattle.std.proofs.lemmas.Bool.{cases_eq}
 use Rattle.cnf_base.specs.Literals.{has}
 use Rattle.cnf_base.proofs.SetLemmas.{has_cases, has_head, has_tail}
 use Rattle.clause_memory.specs.Code.Free.{AreListed, LeadsTo, link_at, link_of}
-use Rattle.clause_memory.specs.Code.Cells.{IsBlock, kind_at}
-use Rattle.clause_memory.specs.declared.kind.Kind.{Kind}
-use Rattle.clause_memory.specs.declared.kind.Kind.TheVariants.{Live, Free}
-use Rattle.clause_memory.proofs.CellLemmas.{IsChanged, block_same, first_same, word_same}
+use Rattle.clause_memory.specs.Code.Cells.{kind_at}
+use Rattle.clause_memory.specs.declared.kind.Kind.{Kind, TheVariants.Live, TheVariants.Free}
+use Rattle.clause_memory.proofs.CellLemmas.{IsChanged, block_same}
 
 -- ---- Links
 
@@ -49,18 +48,12 @@ each_list P list n xs here there k = grind arith
 pub record HasHead (heads now : ℕ → Option ℕ) (n link : ℕ) : Type 0 where
   pub each : (k : ℕ) → now k ≡ cond (eqb k n) (Some link) (heads k)
 
-pub head_known : {heads now : ℕ → Option ℕ} {n link : ℕ} → HasHead heads now n link → (k : ℕ)
-    → is_some (heads k) ≡ true → is_some (now k) ≡ true
-head_known {heads} {now} {n} {link} is k known = grind arith
-
 -- ---- Blocks that get a clause, and lose it
 
 module _ {ks ls : List Kind} {words now : List ℕ} {heads : ℕ → Option ℕ} {s n : ℕ} (is : IsChanged ks ls words now s n) (listed : AreListed ks words heads) where
   link_same : (m t : ℕ) → has (listed.list m) t ≡ true → (t ≡ s → ⊥)
       → link_at now t ≡ link_at words t
-  link_same m t there ne =
-      let block = listed.block m t there in
-      cc (first_same is block ne, word_same is block ne 1 (omega arith))
+  link_same m t there ne = grind arith
 
   -- a block of another list is another one
   apart_from : (k : ℕ) → (k ≡ n → ⊥) → (t : ℕ) → has (listed.list k) t ≡ true → t ≡ s → ⊥
@@ -71,23 +64,16 @@ module _ {ks ls : List Kind} {words now : List ℕ} {heads : ℕ → Option ℕ}
   listed_without {heads_now} rest was leads head live = record {
     list = with_list listed.list n rest;
     leads = each_list (λ k xs. LeadsTo now (link_of (heads_now k)) xs) listed.list n rest
-        (grind (arith, leads_same words now (link_at words s) rest leads (λ t h. link_same n t (in_rest t h) (rest_apart t h))))
-        (λ k ne. grind (arith, leads_same words now (link_of (heads k)) (listed.list k) (listed.leads k) (λ t h. link_same k t h (apart_from k ne t h))));
+        (grind (arith, leads_same words now (link_at words s) rest leads, link_same, in_rest))
+        (grind (arith, leads_same, link_same, apart_from));
     once = grind arith;
-    free = each_list (λ k xs. (t : ℕ) → has xs t ≡ true → kind_at ls t ≡ Free) listed.list n rest
-        (grind (arith, in_rest))
-        (grind (arith, apart_from));
-    block = each_list (λ k xs. (t : ℕ) → has xs t ≡ true → IsBlock ls t k) listed.list n rest
-        (λ t h. block_same is.alike (listed.block n t (in_rest t h)))
-        (λ k ne t h. block_same is.alike (listed.block k t h));
+    free = grind (arith, in_rest, apart_from);
+    block = λ k t h. block_same is.alike (grind (arith, in_rest));
     all = search rules;
   }
     where
       in_rest : (t : ℕ) → has rest t ≡ true → has (listed.list n) t ≡ true
-      in_rest t h = ap (λ xs. has xs t) was ∙ has_tail s rest t h
-
-      rest_apart : (t : ℕ) → has rest t ≡ true → t ≡ s → ⊥
-      rest_apart t h e = grind arith
+      in_rest t h = grind (arith, has_tail)
 
   -- a block loses its clause, and comes to the front of its list
   pub listed_with : {heads_now : ℕ → Option ℕ} → kind_at ks s ≡ Live
@@ -95,20 +81,12 @@ module _ {ks ls : List Kind} {words now : List ℕ} {heads : ℕ → Option ℕ}
       → AreListed ls now heads_now
   listed_with {heads_now} live link head free = record {
     list = with_list listed.list n (s ∷ listed.list n);
-    leads = grind (arith, carried);
+    leads = grind (arith, leads_same, link_same);
     once = grind arith;
     free = grind arith;
-    block = each_list (λ k xs. (t : ℕ) → has xs t ≡ true → IsBlock ls t k) listed.list n
-        (s ∷ listed.list n) (λ t h. elim (has_cases s (listed.list n) t h) [
-          | inl e ↦ grind (arith, block_same is.alike is.block)
-          | inr there ↦ block_same is.alike (listed.block n t there)
-        ])
-        (λ k ne t h. block_same is.alike (listed.block k t h));
+    block = λ k t h. block_same is.alike (grind (arith, has_cases, is.block));
     all = λ t is_free. elim (cases_eq t s) [ inl e ↦ (n, grind arith) | inr ne ↦ grind arith ];
   }
-    where
-      carried : (k : ℕ) → LeadsTo now (link_of (heads k)) (listed.list k)
-      carried k = grind (arith, leads_same, link_same)
 
   -- words of a clause are written
   pub listed_still : kind_at ks s ≡ Live → kind_at ls s ≡ Live → AreListed ls now heads

@@ -1,35 +1,24 @@
 -- A memory through a change: a block gets a clause, and loses it, and literals change places.
 use Rattle.std.proofs.Common.{◌≡◌, ◌≢◌, ℕ, zero, suc, ◌+◌, ◌-◌, ◌*◌, ◌<◌, ◌≤◌, true, false, Option}
 use Rattle.std.proofs.Common.{Some, None, is_some, List, [], ◌∷◌, length, take, drop, get_or, refl}
-use Rattle.std.proofs.Common.{sym, ap, ◌∙◌, subst, arith, inl, inr, rules}
-use Rattle.std.proofs.Math.ListN.{set}
+use Rattle.std.proofs.Common.{sym, ap, ◌∙◌, subst, arith, rules, set, swap, get_or-drop}
+use Rattle.std.proofs.Common.{get_or-set_other, get_or-set_same, get_or-take}
+use Rattle.std.proofs.lemmas.List.{drop-set-add, Edits.length-swap, Edits.swap_is}
 use Rattle.std.specs.FinMap as maps
-use Rattle.std.specs.List.{swap}
-use Rattle.std.proofs.lemmas.Bool.{cases_eq}
-use Rattle.std.proofs.lemmas.List.{drop-set-add, get_or-drop, get_or-set_other, get_or-set_same}
-use Rattle.std.proofs.lemmas.List.{get_or-take}
-use Rattle.std.proofs.lemmas.List.Edits.{length-swap, swap_is}
-use Rattle.cnf_base.specs.Literals.{Clause, has}
-use Rattle.cnf_base.proofs.SetLemmas.{has_head, has_tail}
-use Rattle.clause_memory.specs.Blocks.{cells_for}
-use Rattle.clause_memory.specs.Code.Fields.{IsMemory}
-use Rattle.clause_memory.specs.Code.Free.{LeadsTo, link_at, link_of}
+use Rattle.clause_memory.proofs.ClauseLemmas.{get_clause, clause_if, clause_len, clauses_with}
+use Rattle.clause_memory.specs.{Blocks.cells_for, Code.Cells.written, declared.kind.Kind.Kind}
+use Rattle.clause_memory.specs.Code.{Fields.IsMemory, Free.LeadsTo, Free.link_at, Free.link_of}
 use Rattle.clause_memory.specs.Code.Cells.{IsBlock, blocks_in, clause_at, clauses_in, kept_as}
 use Rattle.clause_memory.specs.Code.Cells.{kept_in, is_rest, kind_at, rests, size_at, start_of}
-use Rattle.clause_memory.specs.Code.Cells.{written}
-use Rattle.clause_memory.specs.declared.kind.Kind.{Kind}
 use Rattle.clause_memory.specs.declared.kind.Kind.TheVariants.{Live, Free, Rest}
 use Rattle.clause_memory.proofs.BlockLemmas.{blocks_same, rests_alike}
-use Rattle.clause_memory.proofs.ClauseLemmas.{clause_if, clause_len, clauses_with, clauses_without}
-use Rattle.clause_memory.proofs.ClauseLemmas.{get_free}
-use Rattle.clause_memory.proofs.FreeLemmas.{HasHead, first_of, head_known, link_low, listed_still}
-use Rattle.clause_memory.proofs.FreeLemmas.{listed_with, listed_without}
-use Rattle.clause_memory.proofs.RewatchLemmas.{named_is}
-use Rattle.cnf_base.proofs.MapLemmas.{insert_twice}
-use Rattle.clause_memory.proofs.CellLemmas.{IsChanged, alike_set, begins_inside, block_same}
-use Rattle.clause_memory.proofs.CellLemmas.{clause_same, free_begins, kept_same, part_blank}
-use Rattle.clause_memory.proofs.CellLemmas.{size_same, start_begins, start_le, start_same}
-use Rattle.clause_memory.proofs.CellLemmas.{cells_hold}
+use Rattle.clause_memory.proofs.FreeLemmas.{HasHead, first_of, link_low, listed_still, listed_with}
+use Rattle.clause_memory.proofs.{FreeLemmas.listed_without, RewatchLemmas.named_is}
+use Rattle.clause_memory.proofs.CellLemmas.{IsChanged, begins_inside, block_same, clause_same}
+use Rattle.clause_memory.proofs.CellLemmas.{free_begins, kept_same, part_blank, size_same}
+use Rattle.clause_memory.proofs.CellLemmas.{start_begins, start_le, start_same}
+use Rattle.cnf_base.proofs.MapLemmas.{same_maps, get_insert, get_remove, insert_twice}
+use Rattle.cnf_base.{specs.Literals.Clause, specs.Literals.has, proofs.SetLemmas.has_tail}
 
 -- ---- What a change leaves
 
@@ -41,7 +30,7 @@ module _ {ks ls : List Kind} {words now : List ℕ} {heads : ℕ → Option ℕ}
   few_still = omega arith
 
   front_still : rests ls ≡ 0
-  front_still = grind (arith, rests_alike)
+  front_still = rests_alike ks ls is.alike.len is.alike.rest ∙ memory.front
 
   live_before : (t : ℕ) → (t ≡ s → ⊥) → kind_at ls t ≡ Live → kind_at ks t ≡ Live
   live_before t ne live = sym (is.others t ne) ∙ live
@@ -59,21 +48,15 @@ module _ {ks ls : List Kind} {words now : List ℕ} {heads : ℕ → Option ℕ}
 
   clause_still : (t : ℕ) → (t ≡ s → ⊥)
       → clause_if (kind_at ls t) (clause_at now t) ≡ clause_if (kind_at ks t) (clause_at words t)
-  clause_still t ne = cc (is.others t ne, by_kind (kind_at ks t) (λ e. clause_same is (memory.block t e) ne (cells_hold (size_at words t))))
-    where
-      by_kind : (k : Kind) → (k ≡ Live → clause_at now t ≡ clause_at words t)
-          → clause_if k (clause_at now t) ≡ clause_if k (clause_at words t)
-      by_kind Live same = ap Some (same refl)
-      by_kind Free same = refl
-      by_kind Rest same = refl
+  clause_still t ne =
+      let same : kind_at ks t ≡ Live → clause_at now t ≡ clause_at words t = λ e. clause_same is
+      (memory.block t e) ne (omega arith) in grind (arith, same, is.others t ne)
 
   -- a cell of another block keeps nothing, and a further one of this block is one that goes on
   clean_still : (u : ℕ) → u < length ls → kind_at ls u ≢ Live → (u ≡ s → ⊥)
       → (start_of ks u ≡ s → kind_at ls u ≡ Rest → kept_in ls now u ≡ 0) → kept_in ls now u ≡ 0
-  clean_still u inside differs ne own = elim (cases_eq (start_of ks u) s) [
-    | inl e ↦ grind (arith, start_begins)
-    | inr other ↦ kept_same is u other ∙ memory.clean u (subst (λ m. u < m) is.alike.len inside) (λ live. differs (is.others u ne ∙ live))
-  ]
+  clean_still u inside differs ne own =
+      grind (arith, start_begins, kept_same is u, memory.clean u, is.others u ne)
 
 -- ---- A clause that is put in
 
@@ -93,7 +76,7 @@ module _ {ks : List Kind} {words : List ℕ} {heads : ℕ → Option ℕ} (memor
   led = first_of words (link_of (heads n)) (memory.free.list n) (memory.free.leads n) s (ap link_of first)
 
   there : has (memory.free.list n) s ≡ true
-  there = ap (λ xs. has xs s) led.1 ∙ has_head s led.0
+  there = grind (arith, led)
 
   pub first_free : kind_at ks s ≡ Free
   first_free = memory.free.free n s there
@@ -102,9 +85,7 @@ module _ {ks : List Kind} {words : List ℕ} {heads : ℕ → Option ℕ} (memor
   first_block = memory.free.block n s there
 
   pub first_low : (s < 4294967295) × (4 * s + 4 * n ≤ length words)
-  first_low =
-      let inside = begins_inside ks s first_block.begins in
-      let fits = first_block.fits in omega arith
+  first_low = grind (arith, begins_inside, first_block)
 
   pub link_fits : link_at words s ≤ 4294967295
   link_fits =
@@ -120,7 +101,7 @@ module _ {ks : List Kind} {s n : ℕ} (kind : Kind) (block : IsBlock ks s n) whe
       → ((i : ℕ) → i < 4 * s → get_or now i 0 ≡ get_or words i 0)
       → ((i : ℕ) → 4 * (s + n) ≤ i → get_or now i 0 ≡ get_or words i 0)
       → IsChanged ks (set ks s kind) words now s n
-  changed_kind begins same_len before behind = search (rules, alike_set)
+  changed_kind begins same_len before behind = search rules
 
 module _ {ks : List Kind} {words now : List ℕ} {heads heads_now : ℕ → Option ℕ} {s : ℕ} {c : Clause} (put : IsPutIn ks words now heads heads_now s c) where
   abbrev cells : ℕ
@@ -139,37 +120,25 @@ module _ {ks : List Kind} {words now : List ℕ} {heads heads_now : ℕ → Opti
   changed = changed_kind Live block refl put.same_len put.before (omega arith)
 
   pub put_in_memory : IsMemory filled now heads_now
-  put_in_memory = record {
+  put_in_memory = let w = led put.memory cells s put.first in record {
     whole = whole_still put.memory changed;
     few = few_still put.memory changed;
     front = front_still put.memory changed;
-    block = λ t live. elim (cases_eq t s) [
-      | inl e ↦ grind (arith, block_same changed.alike block)
-      | inr ne ↦ block_still put.memory changed t ne live
-    ];
-    known = λ t live. elim (cases_eq t s) [
-      | inl e ↦ grind arith
-      | inr ne ↦ head_known put.head _
-          (known_still put.memory changed t ne live)
-    ];
-    free = (let w = led put.memory cells s put.first in
-        listed_without changed put.memory.free w.0 w.1 w.2 put.head live_now);
-    clean = λ u inside differs. clean_still put.memory changed u inside differs
-        (λ e. differs (ap (kind_at filled) e ∙ live_now))
-        (λ start rest. ap (λ k. kept_as k (kind_at filled (start_of filled u)) now u) rest
-        ∙ ap (λ k. kept_as Rest k now u)
-        (ap (kind_at filled) (start_same changed.alike u ∙ start) ∙ live_now));
+    block = λ t live. grind (arith, block_still put.memory changed t, block_same changed.alike block);
+    known = λ t live. grind (arith, known_still put.memory changed t);
+    free = listed_without changed put.memory.free w.0 w.1 w.2 put.head live_now;
+    clean = λ u inside differs. grind (arith, clean_still put.memory changed u inside differs, live_now, start_same changed.alike u);
   }
 
   pub put_in_blocks : blocks_in filled ≡ blocks_in ks
   put_in_blocks = blocks_same changed.alike
 
   pub was_none : maps.get (clauses_in ks words) s ≡ None
-  was_none = get_free ks words s (first_free put.memory cells s put.first)
+  was_none = grind (arith, get_clause, first_free put.memory cells s put.first)
 
   pub put_in_clauses : clauses_in filled now ≡ maps.insert (clauses_in ks words) s c
   put_in_clauses =
-      grind (arith, clauses_with ks filled words now s live_now (λ t ne. clause_still put.memory changed t ne))
+      grind (arith, clauses_with ks filled words now s live_now (clause_still put.memory changed))
 
 -- ---- A clause that is taken out
 
@@ -211,30 +180,23 @@ module _ {ks : List Kind} {words now : List ℕ} {heads heads_now : ℕ → Opti
       let high = block_out.alone u (subst (λ m. u < m) changed_out.alike.len inside) start in
       let words_in = inside_words in part_blank now (4 * u) 4 (omega arith) (omega arith)
 
-  not_here : (t : ℕ) → kind_at emptied t ≡ Live → t ≡ s → ⊥
-  not_here t live e = grind (arith, free_now)
-
   pub taken_out_memory : IsMemory emptied now heads_now
   taken_out_memory = record {
     whole = whole_still out.memory changed_out;
     few = few_still out.memory changed_out;
     front = front_still out.memory changed_out;
-    block = λ t live. block_still out.memory changed_out t (not_here t live) live;
-    known = λ t live. head_known out.head _
-        (known_still out.memory changed_out t (not_here t live) live);
+    block = λ t live. grind (arith, block_still out.memory changed_out t, free_now);
+    known = λ t live. grind (arith, known_still out.memory changed_out t, free_now);
     free = grind (arith, listed_with, changed_out, free_now);
-    clean = λ u inside differs. elim (cases_eq u s) [
-      | inl e ↦ grind (arith, free_now, first_blank)
-      | inr ne ↦ clean_still out.memory changed_out u inside differs ne
-          (grind (arith, rest_blank))
-    ];
+    clean = λ u inside differs. grind (arith, clean_still out.memory changed_out u inside differs, free_now, first_blank, rest_blank);
   }
 
   pub taken_out_blocks : blocks_in emptied ≡ blocks_in ks
   taken_out_blocks = blocks_same changed_out.alike
 
   pub taken_out_clauses : clauses_in emptied now ≡ maps.remove (clauses_in ks words) s
-  taken_out_clauses = search (rules, clauses_without, free_now, clause_still, changed_out)
+  taken_out_clauses =
+      grind (arith, same_maps, get_clause, get_remove, free_now, clause_still out.memory changed_out)
 
 -- ---- Literals that change places
 
@@ -264,20 +226,11 @@ module _ {ks : List Kind} {words : List ℕ} {heads : ℕ → Option ℕ} (memor
   swapped_is : swapped ≡ set (set words at_a (get_or words at_b 0)) at_b (get_or words at_a 0)
   swapped_is = grind (arith, swap_is)
 
-  other_word : (i : ℕ) → (i ≡ at_a → ⊥) → (i ≡ at_b → ⊥) → get_or swapped i 0 ≡ get_or words i 0
-  other_word i not_a not_b = grind (arith, get_or-set_other)
-
   changed_by_swap : IsChanged ks ks words swapped s (cells_for (size_at words s))
-  changed_by_swap = grind (arith, length-swap, other_word)
-
-  pub size_swapped : size_at swapped s ≡ size_at words s
-  size_swapped = grind (arith, other_word)
+  changed_by_swap = grind (arith, length-swap, get_or-set_other)
 
   size_all : (t : ℕ) → kind_at ks t ≡ Live → size_at swapped t ≡ size_at words t
-  size_all t alive = elim (cases_eq t s) [
-    | inl e ↦ grind (arith, size_swapped)
-    | inr ne ↦ size_still memory changed_by_swap t ne alive
-  ]
+  size_all t alive = grind (arith, size_still memory changed_by_swap t, get_or-set_other)
 
   pub swapped_memory : IsMemory ks swapped heads
   swapped_memory = record {
@@ -287,29 +240,19 @@ module _ {ks : List Kind} {words : List ℕ} {heads : ℕ → Option ℕ} (memor
     block = grind (arith, size_all);
     known = grind (arith, size_all);
     free = listed_still changed_by_swap memory.free live live;
-    clean = λ u inside differs. clean_still memory changed_by_swap u inside differs
-        (λ e. differs (ap (kind_at ks) e ∙ live)) (grind arith);
+    clean = λ u inside differs. grind (arith, clean_still memory changed_by_swap u inside differs);
   }
 
   pub swapped_clause : clause_at swapped s ≡ swap (clause_at words s) a b
   swapped_clause =
-      let n = size_at words s in
-      let d = 4 * s + 1 in
-      let c = clause_at words s in
-      let long = clause_len memory s live in
-      let read : (i : ℕ) → i < n → get_or words (d + i) 0 ≡ get_or c i 0 =
-      grind (arith, get_or-drop, get_or-take) in
-      grind (arith, size_swapped, swapped_is, drop-set-add, take_set, swap_is)
+      grind (arith, clause_len memory s live, get_or-drop, get_or-take, swapped_is, drop-set-add, take_set, swap_is (clause_at words s), get_or-set_other)
 
   pub swapped_clauses : clauses_in ks swapped
       ≡ maps.insert (clauses_in ks words) s (swap (clause_at words s) a b)
-  swapped_clauses = clauses_with ks ks words swapped s live (λ t ne. clause_still memory changed_by_swap t ne) ∙ ap (maps.insert (clauses_in ks words) s) swapped_clause
+  swapped_clauses =
+      grind (arith, same_maps, get_clause, get_insert, clause_still memory changed_by_swap, swapped_clause)
 
 -- ---- Literals that change places, of which none is read
-
-word_of : (words : List ℕ) (s i : ℕ) → i < size_at words s
-    → get_or words (4 * s + 1 + i) 0 ≡ get_or (clause_at words s) i 0
-word_of words s i low = grind (arith, get_or-drop, get_or-take)
 
 module _ {ks : List Kind} {words : List ℕ} {heads : ℕ → Option ℕ} (memory : IsMemory ks words heads) (s from to l other next : ℕ) (live : kind_at ks s ≡ Live) (low : from < 2) (past : 2 ≤ to) (inside : to < size_at words s)
     (is_l : get_or (clause_at words s) from 0 ≡ l) (is_other : get_or (clause_at words s) (1 - from) 0 ≡ other) (is_next : get_or (clause_at words s) to 0 ≡ next) where
@@ -324,18 +267,18 @@ module _ {ks : List Kind} {words : List ℕ} {heads : ℕ → Option ℕ} (memor
 
   rewritten_is : rewritten ≡ swap turned (4 * s + 1 + 1) (4 * s + 1 + to)
   rewritten_is =
-      grind (arith, named_is words (4 * s + 1) from to l other next low past rewrite_inside (word_of words s from (omega (arith, low, past, inside)) ∙ is_l) (word_of words s (1 - from) (omega (arith, past, inside)) ∙ is_other) (word_of words s to inside ∙ is_next))
+      grind (arith, named_is words (4 * s + 1) from to l other next low past rewrite_inside, get_or-drop, get_or-take)
 
   turned_memory : IsMemory ks turned heads
-  turned_memory = swapped_memory memory s 0 (1 - from) live (omega (arith, past, inside)) (omega (arith, past, inside))
+  turned_memory = swapped_memory memory s 0 (1 - from) live (omega arith) (omega arith)
 
   same_size : size_at turned s ≡ size_at words s
-  same_size = grind (arith, size_swapped)
+  same_size = grind (arith, get_or-set_other)
 
   pub rewritten_memory : IsMemory ks rewritten heads
   rewritten_memory =
-      let size = same_size in
-      subst (λ ws. IsMemory ks ws heads) (sym rewritten_is) (swapped_memory turned_memory s 1 to live (omega (arith, size, past, inside)) (omega (arith, size, inside)))
+      rw rewritten_is (swapped_memory turned_memory s 1 to live (grind (arith, same_size)) (grind
+      (arith, same_size)))
 
   pub rewritten_clauses : clauses_in ks rewritten ≡ maps.insert (clauses_in ks words) s (swap (swap (clause_at words s) 0 (1 - from)) 1 to)
   rewritten_clauses =

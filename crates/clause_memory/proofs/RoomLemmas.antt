@@ -1,32 +1,24 @@
 -- A memory that gets a further block.
-use Rattle.std.proofs.Common.{◌≡◌, ℕ, ◌+◌, ◌-◌, ◌*◌, ◌<◌, ◌≤◌, true, false, ◌≢◌, cond, eqb, eq-eqb}
-use Rattle.std.proofs.Common.{ne_eqb, unwrap_or, Option, Some, None, is_some, List, [], ◌∷◌, ◌++◌}
-use Rattle.std.proofs.Common.{length, take, drop, get_or, refl, sym, ap, ◌∙◌, subst, arith, inl}
-use Rattle.std.proofs.Common.{inr, replicate, rules}
-use Rattle.std.specs.FinMap as maps
-use Rattle.std.proofs.lemmas.Option.{same_Some}
-use Rattle.clause_memory.proofs.BlockLemmas.{block_before, block_is, get_block, rests_before}
-use Rattle.std.proofs.lemmas.Bool.{cases_eq, cases_lt}
+use Rattle.std.proofs.Common.{◌≡◌, ℕ, ◌+◌, ◌-◌, ◌*◌, ◌<◌, ◌≤◌, true, false, ◌≢◌, cond, eqb, Option}
+use Rattle.std.proofs.Common.{Some, None, is_some, List, [], ◌∷◌, ◌++◌, length, take, drop, get_or}
+use Rattle.std.proofs.Common.{refl, ap, arith, inl, inr, replicate, length-append, length-drop, set}
+use Rattle.std.proofs.lemmas.{Bool.cases_eq, List.take-append-le, Grind.common_steps}
 use Rattle.std.proofs.lemmas.List.{drop-append-le, get_or-append_right, get_or-replicate}
-use Rattle.std.proofs.lemmas.List.{get_or_append_left, get_or_past, length-append, length-drop}
-use Rattle.std.proofs.lemmas.List.{length-replicate, take-append-le}
-use Rattle.std.proofs.Math.ListN.{set}
+use Rattle.std.proofs.lemmas.List.{get_or_append_left, get_or_past, length-replicate}
 use Rattle.std.proofs.Math.Seq.{drop-append-add, set-append_seam, take-append_seam}
-use Rattle.cnf_base.specs.Literals.{Clause, has}
-use Rattle.clause_memory.specs.Blocks.{cells_for}
-use Rattle.clause_memory.specs.Code.Fields.{IsMemory}
+use Rattle.std.specs.FinMap as maps
+use Rattle.cnf_base.{proofs.MapLemmas.same_maps, specs.Literals.Clause, specs.Literals.has}
+use Rattle.clause_memory.proofs.ClauseLemmas.{get_clause, get_live}
+use Rattle.clause_memory.proofs.BlockLemmas.{block_before, block_is, get_block, rests_before}
+use Rattle.clause_memory.specs.{Blocks.cells_for, declared.kind.Kind.Kind}
+use Rattle.clause_memory.specs.Code.{Fields.IsMemory, Cells.kind_at, Cells.size_at, Cells.start_of}
 use Rattle.clause_memory.specs.Code.Free.{AreListed, LeadsTo, link_at, link_of}
-use Rattle.clause_memory.specs.Code.Cells.{IsBlock, blanks, blocks_in, clause_at, clauses_in}
-use Rattle.clause_memory.specs.Code.Cells.{is_rest, kept_as, kept_in, kind_at, size_at, start_of}
-use Rattle.clause_memory.specs.Code.Cells.{written}
-use Rattle.clause_memory.specs.declared.kind.Kind.{Kind}
+use Rattle.clause_memory.specs.Code.Cells.{IsBlock, blanks, blocks_in, clauses_in, is_rest, kept_in}
 use Rattle.clause_memory.specs.declared.kind.Kind.TheVariants.{Live, Free, Rest}
-use Rattle.clause_memory.proofs.ClauseLemmas.{clause_if, clauses_same, get_live}
 use Rattle.clause_memory.proofs.FreeLemmas.{HasHead, each_list, leads_same, none_of, with_list}
 use Rattle.clause_memory.proofs.MemoryLemmas.{IsPutIn, put_in_blocks, put_in_clauses, put_in_memory}
 use Rattle.clause_memory.proofs.MemoryLemmas.{was_none}
-use Rattle.clause_memory.proofs.CellLemmas.{begins_inside, free_begins, live_begins, part_blank}
-use Rattle.clause_memory.proofs.CellLemmas.{start_alike, start_begins, start_le, start_run}
+use Rattle.clause_memory.proofs.CellLemmas.{part_blank, start_alike, start_le, start_run}
 
 pub record IsMade (ks : List Kind) (words : List ℕ) (heads heads_now : ℕ → Option ℕ) (n more : ℕ) : Type 0 where
   pub memory : IsMemory ks words heads
@@ -34,17 +26,6 @@ pub record IsMade (ks : List Kind) (words : List ℕ) (heads heads_now : ℕ →
   pub none : link_of (heads n) ≡ 0
   pub few : length ks + n ≤ 4294967295
   pub head : HasHead heads heads_now n (length ks + 1)
-
--- heads with room for a list
-pub memory_reserved : {ks : List Kind} {words : List ℕ} {heads : ℕ → Option ℕ} (now : ℕ → Option ℕ) (n : ℕ) → IsMemory ks words heads → ((k : ℕ) → now k ≡ cond (eqb k n) (Some (unwrap_or (heads n) 0)) (heads k)) → IsMemory ks words now
-memory_reserved {ks} {words} {heads} now n memory is = grind arith
-
-pub none_reserved : (heads now : ℕ → Option ℕ) (n : ℕ) → link_of (heads n) ≡ 0
-    → ((k : ℕ) → now k ≡ cond (eqb k n) (Some (unwrap_or (heads n) 0)) (heads k)) → now n ≡ Some 0
-none_reserved heads now n none is = grind arith
-
-rest_anyway : (n i : ℕ) → get_or (replicate n Rest) i Rest ≡ Rest
-rest_anyway n i = grind (arith, get_or-replicate, get_or_past, length-replicate)
 
 module _ {ks : List Kind} {words : List ℕ} {heads heads_now : ℕ → Option ℕ} {n more : ℕ} (made : IsMade ks words heads heads_now n more) where
   abbrev end : ℕ
@@ -71,7 +52,8 @@ module _ {ks : List Kind} {words : List ℕ} {heads heads_now : ℕ → Option �
   new_kind = grind (arith, get_or-append_right)
 
   rest_kind : (u : ℕ) → end < u → kind_at longer u ≡ Rest
-  rest_kind u high = grind (arith, get_or-append_right, rest_anyway)
+  rest_kind u high =
+      grind (arith, get_or-append_right, get_or-replicate, get_or_past, length-replicate)
 
   old_start : (u : ℕ) → u < end → start_of longer u ≡ start_of ks u
   old_start u low = grind (arith, start_alike, old_kind)
@@ -80,81 +62,44 @@ module _ {ks : List Kind} {words : List ℕ} {heads heads_now : ℕ → Option �
   new_start u high = start_run longer end (u - end) (ap is_rest new_kind) (λ i more le. ap is_rest (rest_kind i more)) u (omega arith)
 
   begins_old : (t : ℕ) → is_rest (kind_at longer t) ≡ false → (t ≡ end → ⊥) → t < end
-  begins_old t begins ne =
-      elim (cases_lt t end) [
-        | inl low ↦ low
-        | inr high ↦ search (rules, start_begins, new_start)
-      ]
+  begins_old t begins ne = grind (arith, common_steps)
 
   old_block : {t m : ℕ} → IsBlock ks t m → IsBlock longer t m
-  old_block {t} {m} is =
-      let inside = begins_inside ks t is.begins in
-      let len = longer_len in record {
-        begins = ap is_rest (old_kind t inside) ∙ is.begins;
-        some = is.some;
-        fits = omega arith;
-        own = search (rules, old_start);
-        alone = grind (arith, old_start, new_start);
-      }
+  old_block {t} {m} is = grind (arith, longer_len, old_kind, old_start, new_start)
 
   new_block : IsBlock longer end n
   new_block = grind (arith, longer_len, new_kind, new_start)
 
   -- ---- Words
 
-  old_word : (i : ℕ) → i < 4 * end → get_or wider i 0 ≡ get_or words i 0
-  old_word i low = grind (arith, get_or_append_left)
-
-  new_word : (i : ℕ) → 4 * end ≤ i → i < 4 * (end + n) → get_or wider i 0 ≡ 2
-  new_word i high low = grind (arith, get_or-append_right, get_or-replicate)
-
   old_part : (a k : ℕ) → a + k ≤ 4 * end → take k (drop a wider) ≡ take k (drop a words)
   old_part a k low = grind (arith, length-drop, drop-append-le, take-append-le)
 
   old_size : (t : ℕ) → t < end → size_at wider t ≡ size_at words t
-  old_size t low = ap (λ w. w - 2) (old_word (4 * t) (omega arith))
-
-  old_link : (t : ℕ) → t < end → link_at wider t ≡ link_at words t
-  old_link t low = grind (arith, old_word)
+  old_size t low = grind (arith, get_or_append_left)
 
   old_live : (t : ℕ) → kind_at longer t ≡ Live → (t < end) × (kind_at ks t ≡ Live)
-  old_live t live =
-      let low = begins_old t (live_begins (kind_at longer t) live) (grind (arith, new_kind)) in
-      (low, sym (old_kind t low) ∙ live)
-
-  old_clause : (t : ℕ) → kind_at ks t ≡ Live → clause_at wider t ≡ clause_at words t
-  old_clause t live = grind (arith, old_size, old_part)
+  old_live t live = grind (arith, begins_old, new_kind, old_kind)
 
   -- ---- What is kept
 
   old_kept : (u : ℕ) → u < end → kept_in longer wider u ≡ kept_in ks words u
-  old_kept u low = search (rules, start_le, old_kind, old_start, by_kinds)
-    where
-      by_kinds : (k f : Kind) → kept_as k f wider u ≡ kept_as k f words u
-      by_kinds Live f = old_size u low
-      by_kinds Free f = ap written (old_part (4 * u + 2) 2 (omega arith))
-      by_kinds Rest Live = refl
-      by_kinds Rest Free = ap written (old_part (4 * u) 4 (omega arith))
-      by_kinds Rest Rest = ap written (old_part (4 * u) 4 (omega arith))
+  old_kept u low =
+      let half = old_part (4 * u + 2) 2 (omega arith) in
+      let all = old_part (4 * u) 4 (omega arith) in
+      grind (arith, start_le, old_kind, old_start, old_size)
 
   new_kept : (u : ℕ) → end ≤ u → u < length longer → kept_in longer wider u ≡ 0
   new_kept u high inside =
-      let len = longer_len in
-      let wide = wider_len in
-      elim (cases_eq u end) [
-        | inl e ↦
-            ap (λ k. kept_as k (kind_at longer (start_of longer u)) wider u) (ap (kind_at longer) e ∙ new_kind) ∙ part_blank wider (4 * u + 2) 2 (omega arith) (grind (arith, new_word))
-        | inr ne ↦
-            grind (arith, rest_kind u (omega (arith, ne)), part_blank wider (4 * u) 4 (omega arith) (λ i low. new_word (4 * u + i) (omega arith) (omega arith)))
-      ]
+      grind (arith, longer_len, wider_len, new_kind, rest_kind u, part_blank wider (4 * u) 4, part_blank wider (4 * u + 2) 2, get_or-append_right, get_or-replicate)
 
   -- ---- The lists
 
   carried : (k : ℕ) → LeadsTo wider (link_of (heads k)) (made.memory.free.list k)
-  carried k = grind (arith, leads_same, old_link)
+  carried k = grind (arith, leads_same, get_or_append_left)
 
   new_link : link_at wider end ≡ 0
-  new_link = grind (arith, new_word)
+  new_link = grind (arith, get_or-append_right, get_or-replicate)
 
   made_listed : AreListed longer wider heads_now
   made_listed = record {
@@ -162,46 +107,35 @@ module _ {ks : List Kind} {words : List ℕ} {heads heads_now : ℕ → Option �
     leads = grind (arith, new_link, carried);
     once = grind arith;
     free = grind (arith, new_kind, old_kind);
-    block = each_list (λ k xs. (t : ℕ) → has xs t ≡ true → IsBlock longer t k)
-        made.memory.free.list n (end ∷ []) (grind (arith, new_block))
-        (λ k ne t h. old_block (made.memory.free.block k t h));
+    block = λ k. each_list (λ k xs. (t : ℕ) → has xs t ≡ true → IsBlock longer t k)
+        made.memory.free.list n (end ∷ []) (grind (arith, new_block)) (λ k ne t h. old_block
+        (made.memory.free.block k t h)) k;
     all = λ t free. elim (cases_eq t end) [
       | inl e ↦ (n, grind arith)
-      | inr ne ↦ (let low = begins_old t (free_begins (kind_at longer t) free) ne in
-          grind (arith, old_kind, not_made))
+      | inr ne ↦ grind (arith, begins_old t, old_kind t, made.memory.free.all t, none_of)
     ];
   }
-    where
-      not_made : (t k : ℕ) → has (made.memory.free.list k) t ≡ true → k ≡ n → ⊥
-      not_made t k h e = grind (arith, none_of)
 
   pub made_memory : IsMemory longer wider heads_now
   made_memory = record {
     whole = grind (arith, longer_len, wider_len);
-    front = cc (rests_before ks (replicate more Rest));
+    front = grind (arith, rests_before ks (replicate more Rest));
     few = grind (arith, longer_len);
     block = λ t live. let w = old_live t live in
-        grind (arith, old_size t w.0, old_block (made.memory.block t w.1));
-    known = λ t live. let w = old_live t live in grind (arith, old_size);
+        grind (arith, old_size t, old_block (made.memory.block t w.1));
+    known = λ t live. grind (arith, old_live t, old_size t);
     free = made_listed;
     clean = grind (arith, old_kept, old_kind, new_kept);
   }
 
   pub made_clauses : clauses_in longer wider ≡ clauses_in ks words
-  made_clauses = grind (arith, clauses_same, old_kind, old_clause, clause_if, new_kind, rest_kind)
+  made_clauses =
+      grind (arith, old_kind, new_kind, rest_kind, same_maps, get_clause, old_size, old_part)
 
   -- ---- The blocks
 
   pub made_block : maps.get (blocks_in longer) end ≡ Some n
   made_block = block_is new_block
-
-  pub made_other_blocks : (s : ℕ) → s ≢ end
-      → maps.get (blocks_in longer) s ≡ maps.get (blocks_in ks) s
-  made_other_blocks s ne = elim (cases_lt s end) [
-    | inl low ↦ block_before ks (replicate more Rest) s low (old_kind s low)
-    | inr high ↦
-        grind (arith, get_block, rest_kind)
-  ]
 
 -- where no free block of so many cells is listed, each has a clause
 pub none_free : {ks : List Kind} {words : List ℕ} {heads : ℕ → Option ℕ} → IsMemory ks words heads
@@ -209,15 +143,10 @@ pub none_free : {ks : List Kind} {words : List ℕ} {heads : ℕ → Option ℕ}
     → is_some (maps.get (clauses_in ks words) s) ≡ true
 none_free {ks} {words} {heads} memory n none s here = by_kind (kind_at ks s) refl
   where
-    not_free : kind_at ks s ≡ Free → ⊥
-    not_free free =
-        let w = memory.free.all s free in
-        let m_is : w.0 ≡ n = same_Some _ _ (sym (block_is (memory.free.block w.0 s w.1)) ∙ here) in
-        grind (arith, none_of)
-
     by_kind : (k : Kind) → kind_at ks s ≡ k → is_some (maps.get (clauses_in ks words) s) ≡ true
-    by_kind Live is = ap is_some (get_live ks words s is)
-    by_kind Free is = absurd (not_free is)
+    by_kind Live is = grind (arith, get_live)
+    by_kind Free is = let w = memory.free.all s is in
+        grind (arith, none_of, block_is (memory.free.block w.0 s w.1))
     by_kind Rest is = grind (arith, get_block)
 
 -- ---- A clause behind all others
@@ -259,12 +188,8 @@ module _ {ks : List Kind} {words : List ℕ} {heads : ℕ → Option ℕ} {c : C
   free_words_len : length (blanks (4 * cells)) ≡ 4 * cells
   free_words_len = length-replicate (4 * cells) 2
 
-  now_word : (i : ℕ) → 4 * length ks ≤ i
-      → get_or now_words i 0 ≡ get_or clause_words (i - 4 * length ks) 0
-  now_word i high = grind (arith, get_or-append_right)
-
   first_word : get_or now_words (4 * length ks) 0 ≡ length c + 2
-  first_word = grind (arith, now_word)
+  first_word = grind (arith, get_or-append_right)
 
   literal_words_are : take (length c) (drop (4 * length ks + 1) now_words) ≡ c
   literal_words_are = grind (arith, drop-append-add, take-append_seam)
@@ -278,47 +203,41 @@ module _ {ks : List Kind} {words : List ℕ} {heads : ℕ → Option ℕ} {c : C
 
   heads_back : (k : ℕ) → heads k
       ≡ cond (eqb k cells) (Some (link_at free_words (length ks))) (with_free k)
-  heads_back k = elim (cases_eq k cells) [
-    | inl e ↦
-        cc (new_link made_free, eq-eqb k cells e)
-    | inr ne ↦
-        cc (ne_eqb k cells ne)
-  ]
+  heads_back k = grind (arith, new_link made_free)
 
   put_there : IsPutIn (ks ++ Free ∷ replicate more Rest) free_words now_words with_free heads
       (length ks) c
   put_there = record {
     memory = made_memory made_free;
-    first = cc (eq-eqb cells cells refl);
+    first = grind arith;
     same_len = grind (arith, clause_words_len, free_words_len, length-append);
     header = first_word;
     literals = literal_words_are;
     before = before_same;
     behind = behind_same;
-    head = record { each = heads_back };
+    head = grind (arith, heads_back);
   }
 
   kinds_now : set (ks ++ Free ∷ replicate more Rest) (length ks) Live ≡ now_kinds
   kinds_now = set-append_seam ks Free (replicate more Rest) Live
 
   pub appended_memory : IsMemory now_kinds now_words heads
-  appended_memory = subst (λ ls. IsMemory ls now_words heads) kinds_now (put_in_memory put_there)
+  appended_memory = rw (← kinds_now) (put_in_memory put_there)
 
   pub appended_free : maps.get (clauses_in ks words) (length ks) ≡ None
   appended_free = cc (made_clauses made_free, was_none put_there)
 
   pub appended_clauses : clauses_in now_kinds now_words
       ≡ maps.insert (clauses_in ks words) (length ks) c
-  appended_clauses =
-      ap (λ ls. clauses_in ls now_words) (sym kinds_now) ∙ put_in_clauses put_there
-      ∙ ap (λ m. maps.insert m (length ks) c) (made_clauses made_free)
+  appended_clauses = simp (← kinds_now, put_in_clauses put_there, made_clauses made_free)
 
   appended_blocks : blocks_in now_kinds ≡ blocks_in (ks ++ Free ∷ replicate more Rest)
-  appended_blocks = ap blocks_in (sym kinds_now) ∙ put_in_blocks put_there
+  appended_blocks = rw (← kinds_now) (put_in_blocks put_there)
 
   pub appended_block : maps.get (blocks_in now_kinds) (length ks) ≡ Some cells
   appended_block = grind (arith, appended_blocks, made_block, made_free)
 
   pub appended_other_blocks : (s : ℕ) → s ≢ length ks
       → maps.get (blocks_in now_kinds) s ≡ maps.get (blocks_in ks) s
-  appended_other_blocks s ne = grind (arith, appended_blocks, made_other_blocks, made_free)
+  appended_other_blocks s ne =
+      grind (arith, appended_blocks, made_free, block_before, old_kind, get_block, rest_kind)

@@ -1,9 +1,7 @@
 -- Two words behind a place, put in each other's place.
 use Rattle.std.proofs.Common.{◌≡◌, ℕ, ◌+◌, ◌<◌, ◌++◌, List, length, take, drop, set, get_or, arith}
-use Rattle.std.specs.List.{swap}
-use Rattle.std.proofs.lemmas.List.{get_or-append_right, length-drop, length-take-le}
-use Rattle.std.proofs.lemmas.List.{set-append_right, take-append-drop}
-use Rattle.std.proofs.lemmas.List.Edits.{swap_is}
+use Rattle.std.proofs.Common.{swap, length-drop, length-take-le, take-append-drop}
+use Rattle.std.proofs.lemmas.{List.set-append_right, List.Edits.swap_is, Grind.common_steps}
 
 module _ (xs : List ℕ) (n a b : ℕ) (in_a : n + a < length xs) (in_b : n + b < length xs) where
   abbrev front : List ℕ
@@ -16,8 +14,7 @@ module _ (xs : List ℕ) (n a b : ℕ) (in_a : n + a < length xs) (in_b : n + b 
   len = length-take-le n xs (omega (arith, in_a))
 
   read : (i : ℕ) → get_or xs (n + i) 0 ≡ get_or rest i 0
-  read i =
-      grind (arith, take-append-drop n xs, get_or-append_right front rest n (n + i) 0 len (omega arith))
+  read i = grind (arith, common_steps)
 
   written : (ys : List ℕ) (i y : ℕ) → set (front ++ ys) (n + i) y ≡ front ++ set ys i y
   written ys i y = grind (arith, set-append_right front ys n (n + i) y len (omega arith))

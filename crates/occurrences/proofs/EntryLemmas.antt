@@ -1,17 +1,13 @@
 -- Entries of lists, and the slots that occur.
 use Rattle.std.proofs.Common.{◌≡◌, ◌≢◌, ℕ, ◌+◌, ◌≤◌, true, false, ◌&&◌, ◌||◌, not, cond, eqb}
-use Rattle.std.proofs.Common.{eq-eqb, eqb-true, is_some, unwrap_or, Some, None}
+use Rattle.std.proofs.Common.{eq-eqb, eqb-true, is_some, unwrap_or, Some, None, ◌<◌, rules}
 use Rattle.std.proofs.Common.{List, [], ◌++◌, filter, map, Result, OnOk, OnErr, ◌∙◌, arith, ◌∷◌}
-use Rattle.std.proofs.Common.{◌<◌, rules}
 use Rattle.std.proofs.lemmas.Grind.{get_or_default_zero}
 use Rattle.std.proofs.lemmas.List.Folds.{list_any-append, list_all-append, list_any_at}
 use Rattle.std.proofs.lemmas.List.Kept.{Contains-dedup_nat, Contains-from_dedup}
 use Rattle.std.specs.List.{list_any, list_all, Contains, dedup}
-use Rattle.cnf_base.specs.Literals.{has}
-use Rattle.cnf_base.proofs.MemberLemmas.{place_of}
-use Rattle.cnf_base.proofs.SetLemmas.{both_pass}
-use Rattle.tables.specs.Table.{at}
-use Rattle.tables.specs.declared.table.Table.{Table}
+use Rattle.cnf_base.{specs.Literals.has, proofs.MemberLemmas.place_of, proofs.SetLemmas.both_pass}
+use Rattle.tables.specs.{Table.at, declared.table.Table.Table}
 use Rattle.occurrences.specs.Entries.{births_of, counts, is_of}
 use Rattle.occurrences.specs.Code.Known.{is_known, AreAlike}
 use Rattle.occurrences.specs.declared.occurrence.Occurrence.{Occurrence}

@@ -1,16 +1,12 @@
 -- One value at the keys of literals and of their complements, written one after the other.
 use Rattle.std.proofs.Common.{◌≡◌, ℕ, ◌+◌, ◌<◌, Bool, true, false, is_some, None, Option, ◌||◌, cond, eqb, List, Some}
 use Rattle.std.proofs.Common.{slice_get, take, get_or, length, refl, sym, ap, ◌∙◌, inl, inr, arith}
+use Rattle.std.specs.{Option.option_or, Ordering.nat_cmp}
+use Rattle.std.proofs.lemmas.{Bool.cases_lt, Bool.ne_eqb, Bool.true≢false, Option.slice_get_past}
 use Rattle.std.specs.BTreeMap as tree
-use Rattle.std.specs.Option.{option_or}
-use Rattle.std.specs.Ordering.{nat_cmp}
-use Rattle.std.proofs.lemmas.Bool.{cases_lt, ne_eqb, true≢false}
-use Rattle.std.proofs.lemmas.Option.{slice_get_past}
 use Rattle.cnf_base.specs.Literals.{complement, has}
-use Rattle.tables.specs.Filled.{at}
-use Rattle.tables.specs.declared.filled.Filled.{Filled}
-use Rattle.cnf_base.proofs.LiteralLemmas.{complement-complement}
-use Rattle.cnf_base.proofs.WalkLemmas.{has_more}
+use Rattle.cnf_base.proofs.{LiteralLemmas.complement-complement, WalkLemmas.has_more}
+use Rattle.tables.specs.{Filled.at, declared.filled.Filled.Filled}
 
 or_nothing : (b : Bool) → (b || false) ≡ b
 or_nothing b = grind arith
@@ -41,5 +37,5 @@ module _ {T : Type 0} (f : Filled T) (none : (k : ℕ) → tree.get nat_cmp f.fa
   pub near_key : (k : ℕ) → is_some (at f k) ≡ true → k < length f.near.items
   near_key k some = elim (cases_lt k (length f.near.items)) [
     | inl within ↦ within
-    | inr past ↦ absurd (true≢false (sym some ∙ ap is_some (near_at k ∙ slice_get_past f.near.items k past)))
+    | inr past ↦ grind (arith, near_at, slice_get_past)
   ]

@@ -3,14 +3,11 @@ use Rattle.std.proofs.Common.{◌≡◌, ℕ, ◌+◌, ◌<◌, ◌≤◌, Bool,
 use Rattle.std.proofs.Common.{eq-eqb, ne_eqb, Option, Some, None, List, [], ◌∷◌, ◌++◌, length}
 use Rattle.std.proofs.Common.{is_some, get_or, unwrap_or, option_map, Result, OnOk, OnErr, set}
 use Rattle.std.proofs.Common.{take, min, slice_get, Vec, refl, sym, ◌∙◌, subst, arith, inl, inr}
-use Rattle.std.specs.BTreeMap.{BTreeMap, Updates, get}
-use Rattle.std.specs.Global.{Global}
-use Rattle.std.specs.Ordering.{nat_cmp}
-use Rattle.std.proofs.lemmas.Bool.{cases_eq, cases_lt}
+use Rattle.std.specs.{BTreeMap.BTreeMap, BTreeMap.Updates, BTreeMap.get, Ordering.nat_cmp}
+use Rattle.std.{specs.Global.Global, proofs.lemmas.Bool.cases_eq, proofs.lemmas.Bool.cases_lt}
 use Rattle.std.proofs.lemmas.List.{get_or_append_left, get_or_push, get_or-set_other}
 use Rattle.std.proofs.lemmas.List.{get_or-set_same, length-append, length-set, take_all}
-use Rattle.std.proofs.lemmas.List.Sums.{sum_by-set}
-use Rattle.std.proofs.lemmas.Option.{slice_get-get_or, slice_get_past}
+use Rattle.std.proofs.lemmas.{List.Sums.sum_by-set, Option.slice_get-get_or, Option.slice_get_past}
 use Rattle.tables.specs.Lists.{items_or, total}
 
 module _ {T : Type 0} where

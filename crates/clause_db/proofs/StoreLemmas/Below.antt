@@ -1,11 +1,8 @@
 -- The clauses in the slots below a number, as they are passed one after the other.
-use Rattle.std.proofs.Common.{◌≡◌, ◌≢◌, ℕ, ◌+◌, ◌<◌, ◌≤◌, cond, eqb-true, Some, None, IsSome}
-use Rattle.std.proofs.Common.{nat_lt, sym, ap, ◌∙◌, arith, inl, inr}
-use Rattle.std.specs.Cmp.{unsigned_tied}
-use Rattle.std.specs.Ordering.{nat_cmp, is_eq}
+use Rattle.std.proofs.Common.{◌≡◌, ◌≢◌, ℕ, ◌+◌, ◌<◌, ◌≤◌, cond, Some, None, IsSome, nat_lt, sym}
+use Rattle.std.proofs.Common.{◌∙◌, arith, nat_cmp, lt-ltb}
+use Rattle.std.{specs.FinMap.FinMap, proofs.lemmas.Bool.cases_lt}
 use Rattle.std.specs.FinMap as maps
-use Rattle.std.specs.FinMap.{FinMap}
-use Rattle.std.proofs.lemmas.Bool.{cases_lt, cases_eq, lt-ltb, le-ltb}
 use Rattle.cnf_base.specs.Literals.{Clause}
 use Rattle.cnf_base.proofs.MapLemmas.{same_maps, inserted_is}
 
@@ -14,14 +11,13 @@ below n m = maps.retain_keys m (λ s. nat_lt s n)
 
 below_get : (n : ℕ) (m : FinMap nat_cmp Clause) (s : ℕ)
     → maps.get (below n m) s ≡ cond (nat_lt s n) (maps.get m s) None
-below_get n m s = maps.get-retain_keys m (λ x. nat_lt x n) s
-    (λ x e. ap (λ y. nat_lt y n) (sym (eqb-true s x (sym (unsigned_tied s x) ∙ ap is_eq e))))
+below_get n m s = grind (arith, maps.get-retain_keys)
 
 there : (n : ℕ) (m : FinMap nat_cmp Clause) (s : ℕ) → s < n → maps.get (below n m) s ≡ maps.get m s
 there n m s low = cc (below_get n m s, lt-ltb s n low)
 
 pub gone : (n : ℕ) (m : FinMap nat_cmp Clause) (s : ℕ) → n ≤ s → maps.get (below n m) s ≡ None
-gone n m s high = grind (arith, below_get, le-ltb)
+gone n m s high = grind (arith, below_get)
 
 -- none is below the first one, and all are below a number that is above them
 pub below_none : (m : FinMap nat_cmp Clause) → below 0 m ≡ maps.empty
@@ -29,19 +25,16 @@ below_none m = same_maps _ _ (λ s. gone 0 m s (omega arith) ∙ sym (maps.get-e
 
 pub below_all : (n : ℕ) (m : FinMap nat_cmp Clause) → ((s : ℕ) → IsSome (maps.get m s) → s < n)
     → below n m ≡ m
-below_all n m low = grind (arith, same_maps, below, there, cases_lt, gone)
+below_all n m low = grind (arith, same_maps, there, gone)
 
 past : (s n : ℕ) → n ≤ s → s ≢ n → n + 1 ≤ s
-past s n le ne = omega (arith, le, ne)
+past s n le ne = omega arith
 
 -- a slot more, with a clause or without
 pub below_next : (n : ℕ) (m : FinMap nat_cmp Clause) (c : Clause) → maps.get m n ≡ Some c
     → below (n + 1) m ≡ maps.insert (below n m) n c
-below_next n m c is = inserted_is (below n m) (below (n + 1) m) n c (there (n + 1) m n (omega arith) ∙ is) (λ s ne. elim (cases_lt s n) [
-  | inl lt ↦ there (n + 1) m s (omega (arith, lt)) ∙ sym (there n m s lt)
-  | inr le ↦ gone (n + 1) m s (past s n le ne) ∙ sym (gone n m s le)
-])
+below_next n m c is = inserted_is (below n m) (below (n + 1) m) n c (there (n + 1) m n (omega arith) ∙ is) (grind (arith, cases_lt, there, gone, past))
 
 pub below_same : (n : ℕ) (m : FinMap nat_cmp Clause) → maps.get m n ≡ None
     → below (n + 1) m ≡ below n m
-below_same n m none = grind (arith, same_maps, cases_lt, there, cases_eq, gone, past)
+below_same n m none = grind (arith, same_maps, there, gone)

@@ -1,21 +1,17 @@
 -- How many of the clauses have a literal: through a change of the clauses, and so far in a walk.
 use Rattle.std.proofs.Common.{◌≡◌, ℕ, ◌+◌, ◌<◌, ◌≤◌, Bool, true, false, cond, eqb, eqb-true, Option}
 use Rattle.std.proofs.Common.{Some, None, is_some, ◌||◌, length, take, get_or, refl, sym, ap, ◌∙◌}
-use Rattle.std.proofs.Common.{arith}
-use Rattle.std.proofs.lemmas.Bool.{true≢false}
-use Rattle.std.specs.Ordering.{nat_cmp}
+use Rattle.std.proofs.{Common.arith, lemmas.Bool.true≢false}
+use Rattle.std.specs.{Ordering.nat_cmp, FinMap.FinMap}
 use Rattle.std.specs.FinMap as maps
-use Rattle.std.specs.FinMap.{FinMap}
 use Rattle.cnf_base.specs.Literals.{Literal, Clause, has, size}
 use Rattle.cnf_base.proofs.WalkLemmas.{has_more}
-use Rattle.clause_db.specs.Store.{copies_with}
-use Rattle.clause_db.specs.Code.Counts.{AreCounted, count_of}
-use Rattle.clause_db.specs.Code.Kept.{has_in}
-use Rattle.tables.specs.Filled.{at}
-use Rattle.tables.specs.declared.filled.Filled.{Filled}
-use Rattle.clause_db.proofs.StoreLemmas.Marks.{eqb_turn, new_here}
 use Rattle.cnf_base.proofs.MapLemmas.{insert_here, insert_other, same_maps, sum_bound, sum_empty}
 use Rattle.cnf_base.proofs.MapLemmas.{sum_insert, sum_remove, sum_replace}
+use Rattle.clause_db.specs.Store.{copies_with}
+use Rattle.clause_db.specs.Code.{Counts.AreCounted, Counts.count_of, Kept.has_in}
+use Rattle.clause_db.proofs.StoreLemmas.Marks.{eqb_turn, new_here}
+use Rattle.tables.specs.{Filled.at, declared.filled.Filled.Filled}
 
 abbrev with_literal : ℕ → Clause → ℕ
 with_literal l c = cond (has c l) 1 0
@@ -57,10 +53,6 @@ counted_replaced counts live k c d here alike are = grind (arith, sum_replace)
 -- ---- One turn of a walk over a clause that repeats nothing: x is the literal at i
 
 module _ (c : Clause) (i : ℕ) (inside : i < length c) (x : Literal) (is : x ≡ get_or c i x) (different : size c ≡ length c) where
-  -- x is met for the first time
-  pub first_met : cond {A = ℕ} (has (take i c) x) 1 0 ≡ 0
-  first_met = grind (arith, new_here)
-
   pub met_more : (k : Literal) → cond {A = ℕ} (has (take (i + 1) c) k) 1 0
       ≡ cond (has (take i c) k) 1 0 + cond (eqb k x) 1 0
   met_more k =

@@ -1,33 +1,21 @@
 -- What is so of the fields of a store, through a change.
 use Rattle.std.proofs.Common.{◌≡◌, ℕ, ◌+◌, ◌-◌, ◌*◌, ◌<◌, ◌≤◌, Bool, true, false, is_some, Some}
-use Rattle.std.proofs.Common.{None, length, sym, ap, ◌∙◌, arith}
-use Rattle.std.proofs.lemmas.Option.{none-some}
-use Rattle.std.specs.Ordering.{nat_cmp}
-use Rattle.std.specs.FinMap as maps
+use Rattle.std.proofs.Common.{None, length, arith, nat_cmp}
 use Rattle.std.specs.FinMap.{FinMap}
-use Rattle.cnf_base.specs.Literals.{Clause, has, size}
+use Rattle.std.specs.FinMap as maps
 use Rattle.clause_memory.specs.Memory as memory
-use Rattle.clause_db.specs.Store.{literals_in}
-use Rattle.clause_db.specs.Code.LiteralMarks.{is_marked}
-use Rattle.clause_db.specs.Code.Fields.{IsStore}
-use Rattle.tables.specs.Filled.{at}
-use Rattle.tables.specs.declared.filled.Filled.{Filled}
+use Rattle.cnf_base.specs.Literals.{Clause, has, size}
 use Rattle.cnf_base.proofs.SizeLemmas.{size_same}
 use Rattle.cnf_base.proofs.MapLemmas.{after_insert, after_remove, sum_alike, sum_bound, sum_empty}
 use Rattle.cnf_base.proofs.MapLemmas.{sum_insert, sum_remove, sum_replace}
+use Rattle.clause_db.specs.{Store.literals_in, Code.LiteralMarks.is_marked, Code.Fields.IsStore}
+use Rattle.tables.specs.{Filled.at, declared.filled.Filled.Filled}
 
 -- ---- No clauses
 
 pub sound_empty : (marks : Filled Bool) → ((l : ℕ) → at marks l ≡ None)
     → IsStore maps.empty 0 marks 0
-sound_empty marks no_marks = record {
-  different = λ s c is. absurd (none-some c (sym (maps.get-empty nat_cmp s) ∙ is));
-  short = λ s c is. absurd (none-some c (sym (maps.get-empty nat_cmp s) ∙ is));
-  known = λ s c is. absurd (none-some c (sym (maps.get-empty nat_cmp s) ∙ is));
-  clear = λ l. ap is_marked (no_marks l);
-  stored_is = sym (sum_empty length);
-  sum_is = omega arith;
-}
+sound_empty marks no_marks = grind (arith, maps.get-empty, sum_empty)
 
 module _ (live : FinMap nat_cmp Clause) (stored : ℕ) (marks : Filled Bool) (sum : ℕ) (sound : IsStore live stored marks sum) where
   -- ---- What is kept
@@ -39,11 +27,6 @@ module _ (live : FinMap nat_cmp Clause) (stored : ℕ) (marks : Filled Bool) (su
   sum_fits = grind (arith, sum_bound)
 
   -- ---- The same clauses
-
-  pub sound_same : (after : Filled Bool)
-      → ((l : ℕ) → is_some (at marks l) ≡ true → is_some (at after l) ≡ true)
-      → ((l : ℕ) → is_marked (at after l) ≡ false) → IsStore live stored after sum
-  sound_same after kept clear = grind arith
 
   -- ---- One clause more
 

@@ -1,18 +1,13 @@
 -- The occurrences of literals in the clauses, through a change.
-use Rattle.std.proofs.Common.{◌≡◌, ℕ, ◌<◌, Bool, true, false, ◌&&◌, ◌||◌, not, eqb, Option}
-use Rattle.std.proofs.Common.{Some, None, List, [], ◌∷◌, refl, sym, ◌∙◌, arith, rules}
-use Rattle.std.specs.List.{list_any}
-use Rattle.std.specs.Ordering.{nat_cmp}
+use Rattle.std.proofs.Common.{◌≡◌, ℕ, ◌<◌, true, false, ◌&&◌, ◌||◌, not, eqb, Option, Some, None}
+use Rattle.std.proofs.Common.{List, [], ◌∷◌, refl, sym, ◌∙◌, arith, rules, nat_cmp}
+use Rattle.std.{specs.List.list_any, specs.FinMap.FinMap, proofs.lemmas.Bool.false≢true}
 use Rattle.std.specs.FinMap as maps
-use Rattle.std.specs.FinMap.{FinMap}
-use Rattle.std.proofs.lemmas.Bool.{false≢true}
 use Rattle.cnf_base.specs.Literals.{Literal, Clause, complement, has}
-use Rattle.occurrences.specs.Occurrences.{occurs}
-use Rattle.occurrences.specs.declared.by_literal.Occurrences.{Occurrences}
-use Rattle.clause_db.specs.Store.{IsTouchedAt}
-use Rattle.clause_db.specs.Code.Kept.{has_in, AreOf, AreKept}
 use Rattle.cnf_base.proofs.MapLemmas.{insert_here, insert_other, remove_here, remove_other}
 use Rattle.cnf_base.proofs.MapLemmas.{same_maps}
+use Rattle.occurrences.specs.{Occurrences.occurs, declared.by_literal.Occurrences.Occurrences}
+use Rattle.clause_db.specs.{Store.IsTouchedAt, Code.Kept.has_in, Code.Kept.AreOf, Code.Kept.AreKept}
 
 -- ---- A clause that is taken out again
 
@@ -21,12 +16,6 @@ pub insert_undone : (live : FinMap nat_cmp Clause) (k : ℕ) (c : Clause) → ma
 insert_undone live k c none = grind (arith, same_maps, remove_here, remove_other, insert_other)
 
 -- ---- Occurrences
-
-and_true : (b : Bool) → (b && true) ≡ b
-and_true b = grind arith
-
-and_false : (b : Bool) → (b && false) ≡ false
-and_false b = grind arith
 
 pub of_with : (old new : Occurrences) (live : FinMap nat_cmp Clause) (k : ℕ) (c : Clause)
     → AreOf old live → maps.get live k ≡ None → k < 4294967296

@@ -2,12 +2,11 @@
 use Rattle.std.proofs.Common.{◌≡◌, ℕ, ◌+◌, ◌%◌, ◌^◌, ◌<◌, ◌≤◌, ◌&&◌, ◌||◌, Bool, true, false, not}
 use Rattle.std.proofs.Common.{eqb, [], ◌∷◌, ◌++◌, length, take, get_or, length-append, refl, ◌∙◌}
 use Rattle.std.proofs.Common.{arith}
-use Rattle.std.proofs.lemmas.Bool.Decides.{nat_tests}
 use Rattle.cnf_base.specs.Literals.{Literal, Clause, has, size}
 use Rattle.clause_index.specs.Hashes.{mix, mixed_sum}
 use Rattle.cnf_base.proofs.SizeLemmas.{size_push, size_covered, distinct_before}
 use Rattle.cnf_base.proofs.WalkLemmas.{has_push, has_take, take_is, has_more}
-use Rattle.clause_index.proofs.IndexLemmas.Hashes.{mixed_kept, mixed_more, mixed_none}
+use Rattle.clause_index.proofs.IndexLemmas.Hashes.{mixed_kept, mixed_more}
 
 -- ---- One turn of a walk: x is the literal at i
 
@@ -29,9 +28,6 @@ pub record IsDigest (seed : ℕ) (c : Clause) (i len sum : ℕ) : Type 0 where
   pub sum_is : sum ≡ mixed_sum seed (take i c)
   pub few : len ≤ i
 
-pub digest_none : (seed : ℕ) (c : Clause) → IsDigest seed c 0 0 0
-digest_none seed c = grind (arith, mixed_none)
-
 module _ (seed : ℕ) (c : Clause) (i : ℕ) (inside : i < length c) (x : Literal) (is : x ≡ get_or c i x) (len sum : ℕ) (so_far : IsDigest seed c i len sum) where
   pub digest_more : has (take i c) x ≡ false
       → IsDigest seed c (i + 1) (len + 1) ((sum + mix seed x) % 2 ^ 64)
@@ -43,7 +39,7 @@ module _ (seed : ℕ) (c : Clause) (i : ℕ) (inside : i < length c) (x : Litera
 -- ---- Tests
 
 pub eqb_turn : (a b : ℕ) → eqb a b ≡ eqb b a
-eqb_turn a b = grind (arith, nat_tests)
+eqb_turn a b = grind arith
 
 pub swap_or : (a b c d : Bool) → a ≡ c → b ≡ d → (a || b) ≡ (d || c)
 swap_or a b c d e f = grind arith

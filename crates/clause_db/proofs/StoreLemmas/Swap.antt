@@ -1,7 +1,6 @@
 -- Two literals of a clause in each other's place.
 use Rattle.std.proofs.Common.{◌≡◌, ℕ, ◌-◌, ◌<◌, ◌≤◌, length, refl, ◌∙◌, arith}
-use Rattle.std.specs.List.{swap}
-use Rattle.std.proofs.lemmas.List.Edits.{length-swap}
+use Rattle.std.{specs.List.swap, proofs.lemmas.List.Edits.length-swap}
 use Rattle.std.proofs.lemmas.List.Sorted.{list_any-IsPermutation, IsPermutation-swap}
 use Rattle.cnf_base.specs.Literals.{Clause, has}
 

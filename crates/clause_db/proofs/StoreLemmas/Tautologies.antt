@@ -1,13 +1,10 @@
 -- Literals and their complements among the first of a clause.
 use Rattle.std.proofs.Common.{◌≡◌, ℕ, ◌+◌, ◌<◌, ◌||◌, Bool, true, false, eqb, eqb-true, length}
-use Rattle.std.proofs.Common.{take, get_or, refl, sym, ◌∙◌, inl, inr, arith}
-use Rattle.std.specs.Prelude.{◌⊎◌}
+use Rattle.std.proofs.Common.{take, get_or, refl, sym, ◌∙◌, inl, inr, arith, ◌⊎◌}
 use Rattle.std.proofs.lemmas.Bool.{false_from_ne_true, false≢true}
 use Rattle.cnf_base.specs.Literals.{Literal, Clause, complement, has}
 use Rattle.cnf_base.proofs.LiteralLemmas.{complement-complement, complement-other}
-use Rattle.cnf_base.proofs.SetLemmas.{any_from, any_some}
-use Rattle.cnf_base.proofs.SizeLemmas.{has_at}
-use Rattle.cnf_base.proofs.WalkLemmas.{has_more, has_take}
+use Rattle.cnf_base.proofs.{SetLemmas.any_from, SetLemmas.any_some, WalkLemmas.has_more}
 use Rattle.clause_db.specs.Store.{is_tautology}
 
 module _ (c : Clause) (i : ℕ) (inside : i < length c) (x : Literal) (is : x ≡ get_or c i x) where
@@ -28,7 +25,3 @@ module _ (c : Clause) (i : ℕ) (inside : i < length c) (x : Literal) (is : x �
         | inl a ↦ grind (arith, among, any_from, complement-complement)
         | inr e ↦ grind (arith, among, complement-other)
       ])
-
-  pub both_there : has (take i c) (complement x) ≡ true → is_tautology c ≡ true
-  both_there before =
-      any_from (λ l. has c (complement l)) c x (has_at c i x inside is) (has_take c i (complement x) before)

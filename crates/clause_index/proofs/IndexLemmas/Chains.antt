@@ -1,8 +1,8 @@
 -- Chains, through a change of links.
 use Rattle.std.proofs.Common.{◌≡◌, ◌≢◌, ℕ, zero, suc, ◌+◌, ◌-◌, ◌<◌, ◌≤◌, true, false, not, cond}
-use Rattle.std.proofs.Common.{List, [], ◌∷◌, length, refl, sym, ap, ◌∙◌, subst, arith, inl, inr, eq-eqb, ne_eqb}
-use Rattle.std.proofs.lemmas.Bool.{false≢true, false_from_ne_true, cases_eq}
-use Rattle.std.proofs.lemmas.Nat.{and_le_r}
+use Rattle.std.proofs.Common.{List, [], ◌∷◌, length, refl, sym, ap, ◌∙◌, subst, arith, inl, inr}
+use Rattle.std.proofs.Common.{eq-eqb, ne_eqb}
+use Rattle.std.proofs.lemmas.{Bool.false≢true, Bool.false_from_ne_true, Bool.cases_eq, Nat.and_le_r}
 use Rattle.cnf_base.specs.Literals.{has, size, without}
 use Rattle.cnf_base.proofs.SetLemmas.{has_head, has_tail, has_cases, without_has}
 use Rattle.cnf_base.proofs.SizeLemmas.{distinct_parts, size_covered, size_le_length, without_absent}
@@ -91,9 +91,7 @@ pub few : (xs : List ℕ) (n : ℕ) → size xs ≡ length xs → ((s : ℕ) →
     → length xs ≤ n
 few xs n apart below =
     let covered = size_covered xs (all_below n) (λ s h. all_below_has n s (below s h)) in
-    let most = size_le_length (all_below n) in
-    let long = all_below_length n in
-    omega arith
+    grind (arith, size_le_length, all_below_length)
 
 -- ---- A slot that is taken out of its chain
 
@@ -105,11 +103,7 @@ module _ (links after : List Link) where
       → AreLinked after (link_at links s).next (without xs s)
   first_out [] s linked apart some others = absurd (some linked)
   first_out (x ∷ xs) s linked apart some others =
-      let new = (distinct_parts x xs apart).0 in
-      let absent : has xs s ≡ false = ap (has xs) linked.0 ∙ new in
-      let left : without (x ∷ xs) s ≡ xs = subst (λ k. without (x ∷ xs) k ≡ without xs k) (sym linked.0) (without_head x xs) ∙ without_absent xs s absent in
-      let kept = linked_same links after xs (link_at links x).next (λ q h. others q (λ e. false≢true (sym absent ∙ ap (has xs) (sym e) ∙ h))) linked.1 in
-      subst (AreLinked after (link_at links s).next) (sym left) (subst (λ n. AreLinked after (link_at links n).next xs) (sym linked.0) kept)
+      grind (arith, distinct_parts, without_head, without_absent, linked_same)
 
   -- one that comes after another
   pub next_out : (xs : List ℕ) (first : ℕ) → AreLinked links first xs → size xs ≡ length xs → (p s : ℕ)

@@ -1,14 +1,12 @@
 -- What a search says of the clauses.
-use Rattle.std.proofs.Common.{◌≡◌, ◌≢◌, ℕ, ◌<◌, Bool, true, false, List, Some, option_map, length, sym, ap, ◌∙◌}
-use Rattle.std.proofs.Common.{arith}
-use Rattle.std.specs.Ordering.{nat_cmp}
-use Rattle.std.specs.FinMap as maps
+use Rattle.std.proofs.Common.{◌≡◌, ◌≢◌, ℕ, ◌<◌, Bool, true, false, List, Some, option_map, length}
+use Rattle.std.proofs.Common.{ap, ◌∙◌, arith, nat_cmp}
 use Rattle.std.specs.FinMap.{FinMap}
+use Rattle.std.specs.FinMap as maps
 use Rattle.cnf_base.specs.Literals.{Clause, has}
-use Rattle.clause_index.specs.Hashes.{hash}
+use Rattle.clause_index.specs.{Hashes.hash, declared.index.Index.Index}
 use Rattle.clause_index.specs.Code.Chains.{Indexes, IsHeld, hash_in, home, link_at}
-use Rattle.clause_index.specs.declared.index.Index.{Index}
-use Rattle.clause_index.proofs.IndexLemmas.Anew.{below_is, each_held}
+use Rattle.clause_index.proofs.IndexLemmas.Anew.{each_held}
 
 -- a clause in the slot with this hash isn't sought
 abbrev pub IsNot : ℕ → FinMap nat_cmp Clause → ℕ → (ℕ → Bool) → ℕ → Type 0
@@ -36,17 +34,13 @@ module _ (index : Index) (live : FinMap nat_cmp Clause) (sound : Indexes index l
   -- a clause whose slot doesn't wait stands in the chain of its hash
   pub in_chain : (key s : ℕ) (c : Clause) → s < index.placed → maps.get live s ≡ Some c → hash index.seed c ≡ key
       → has (chain_of key) s ≡ true
-  in_chain key s c placed is alike =
-      ap (λ k. has (chain_of k) s) (sym alike) ∙ sound.chained.there s _ (below_is (hash_in index.seed live) index.placed s placed ∙ ap (option_map (hash index.seed)) is)
+  in_chain key s c placed is alike = grind arith
 
   pub chain_inside : (key s : ℕ) → has (chain_of key) s ≡ true → s < length index.links.items
   chain_inside key s h = let w = sound.chained.back _ s h in sound.chained.inside s w.0 w.1
 
   pub chain_low : (key s : ℕ) → has (chain_of key) s ≡ true → s ≢ 4294967295
-  chain_low key s h =
-      let w = sound.chained.back _ s h in
-      let low = sound.chained.low s w.0 w.1 in
-      λ e. omega arith
+  chain_low key s h = grind arith
 
   -- another hash than that of the clause
   pub other_hash : (key s : ℕ) (is : ℕ → Bool) → (link_at index.links.items s).hash ≢ key

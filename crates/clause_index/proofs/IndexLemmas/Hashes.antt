@@ -1,21 +1,17 @@
 -- The hash of a clause, through a walk over it.
-use Rattle.std.proofs.Common.{◌≡◌, ℕ, ◌+◌, ◌/◌, ◌%◌, ◌^◌, ◌<◌, ◌≤◌, true, false, if◌then◌else◌, []}
-use Rattle.std.proofs.Common.{◌∷◌, ◌++◌, length, take, get_or, refl, arith}
+use Rattle.std.proofs.Common.{◌≡◌, ℕ, ◌+◌, ◌/◌, ◌%◌, ◌^◌, ◌<◌, ◌≤◌, true, false, [], ◌∷◌, ◌++◌}
+use Rattle.std.proofs.Common.{length, take, get_or, refl, arith}
 use Rattle.std.proofs.lemmas.List.{take_all}
 use Rattle.cnf_base.specs.Literals.{Literal, Clause, has}
-use Rattle.cnf_base.specs.Code.Literals.{sum_distinct}
-use Rattle.clause_index.specs.Hashes.{mix, sum_mixed, mixed_sum, hash}
+use Rattle.cnf_base.{specs.Code.Literals.sum_distinct, proofs.WalkLemmas.take_is}
 use Rattle.cnf_base.proofs.SizeLemmas.{IsWithin, sum_same, sum_push}
-use Rattle.cnf_base.proofs.WalkLemmas.{take_is}
+use Rattle.clause_index.specs.Hashes.{mix, sum_mixed, mixed_sum, hash}
 
 -- ---- One more literal at the end
 
 sum_mixed_is : (seed : ℕ) (c : Clause) → sum_mixed seed c ≡ sum_distinct (mix seed) c
 sum_mixed_is seed [] = refl
 sum_mixed_is seed (l ∷ c) = grind arith
-
-sum_mixed_push : (seed : ℕ) (c : Clause) (x : Literal) → sum_mixed seed (c ++ x ∷ []) ≡ (if has c x then sum_mixed seed c else mix seed x + sum_mixed seed c)
-sum_mixed_push seed c x = grind (arith, sum_mixed_is, sum_push)
 
 pub mixed_none : (seed : ℕ) → mixed_sum seed [] ≡ 0
 unfolding mixed_sum
@@ -40,12 +36,12 @@ hash_whole seed c i sum h sum_is whole is = cc (take_all i c whole)
 pub mixed_push : (seed : ℕ) (c : Clause) (x : Literal) → has c x ≡ false
     → mixed_sum seed (c ++ x ∷ []) ≡ (mixed_sum seed c + mix seed x) % 2 ^ 64
 unfolding mixed_sum
-mixed_push seed c x new = grind (arith, sum_mixed_push)
+mixed_push seed c x new = grind (arith, sum_mixed_is, sum_push)
 
 pub mixed_again : (seed : ℕ) (c : Clause) (x : Literal) → has c x ≡ true
     → mixed_sum seed (c ++ x ∷ []) ≡ mixed_sum seed c
 unfolding mixed_sum
-mixed_again seed c x old = grind (arith, sum_mixed_push)
+mixed_again seed c x old = grind (arith, sum_mixed_is, sum_push)
 
 -- ---- One turn of a walk: x is the literal at i
 

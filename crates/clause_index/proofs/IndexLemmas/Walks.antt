@@ -1,12 +1,11 @@
 -- A walk along a chain.
-use Rattle.std.proofs.Common.{◌≡◌, ◌≢◌, ℕ, ◌+◌, ◌≤◌, true, false, List, [], ◌∷◌, length}
-use Rattle.std.proofs.Common.{refl, sym, ap, ◌∙◌, subst, arith, inl, inr}
-use Rattle.std.proofs.lemmas.Bool.{false≢true, cases_Bool}
+use Rattle.std.proofs.Common.{◌≡◌, ◌≢◌, ℕ, ◌+◌, ◌≤◌, true, false, List, [], ◌∷◌, length, refl, sym}
+use Rattle.std.proofs.Common.{ap, ◌∙◌, subst, arith, inl, inr}
+use Rattle.std.proofs.lemmas.{Grind.common_steps, Bool.false≢true, Bool.cases_Bool}
 use Rattle.cnf_base.specs.Literals.{has}
 use Rattle.cnf_base.proofs.SetLemmas.{has_head, has_tail, has_cases}
-use Rattle.clause_index.specs.Code.Chains.{AreLinked, link_at}
+use Rattle.clause_index.specs.{Code.Chains.AreLinked, Code.Chains.link_at, declared.link.Link.Link}
 use Rattle.clause_index.proofs.IndexLemmas.Chains.{first_in}
-use Rattle.clause_index.specs.declared.link.Link.{Link}
 
 -- what is left of a chain from this slot on, after so many steps: a slot that is sought is in it
 pub record IsLeft (links : List Link) (chain : List ℕ) (slot step at : ℕ) : Type 0 where
@@ -40,11 +39,7 @@ module _ (links : List Link) (chain : List ℕ) (slot step at : ℕ) (so_far : I
       }
 
   pub not_over : length chain ≤ step → ⊥
-  not_over over = by_left so_far.left so_far.there so_far.few
-    where
-      by_left : (xs : List ℕ) → has xs slot ≡ true → step + length xs ≤ length chain → ⊥
-      by_left [] there few = false≢true there
-      by_left (x ∷ xs) there few = omega arith
+  not_over over = grind (arith, common_steps)
 
 -- ---- A search
 
@@ -93,8 +88,4 @@ module _ (links : List Link) (chain : List ℕ) (Tested : ℕ → Type 0) (step 
       by_left (x ∷ xs) linked within = absurd (low x (within x (has_head x xs)) (sym linked.0 ∙ over))
 
   pub search_over : length chain ≤ step → (s : ℕ) → has chain s ≡ true → Tested s
-  search_over over s h = so_far.past s h (by_left so_far.left so_far.few)
-    where
-      by_left : (xs : List ℕ) → step + length xs ≤ length chain → has xs s ≡ false
-      by_left [] few = refl
-      by_left (x ∷ xs) few = absurd (let wrong : ⊥ = omega arith in wrong)
+  search_over over s h = grind (arith, common_steps)

@@ -2,13 +2,10 @@
 use Rattle.std.proofs.Common.{◌≡◌, ◌≢◌, ℕ, ◌+◌, ◌-◌, ◌<◌, ◌≤◌, ◌^◌, cond, eqb, eq-eqb, ne_eqb, List}
 use Rattle.std.proofs.Common.{get_or, sym, ap, ◌∙◌, arith, inl, inr, Some}
 use Rattle.std.specs.BTreeMap.{BTreeMap}
+use Rattle.std.proofs.lemmas.{Bool.cases_eq, Bool.cases_lt, Option.none-some, Option.same_Some}
 use Rattle.std.specs.FinMap as maps
-use Rattle.std.proofs.lemmas.Bool.{cases_eq, cases_lt}
-use Rattle.std.proofs.lemmas.Option.{none-some, same_Some}
-use Rattle.ids.specs.declared.directory.Directory.{Directory}
-use Rattle.ids.specs.declared.pages.Pages.{Pages}
-use Rattle.ids.specs.Code.Far.{far_at}
-use Rattle.ids.specs.Code.Ids.{entry_at, entry_for, as_map, slot_from}
+use Rattle.ids.specs.declared.{directory.Directory.Directory, pages.Pages.Pages}
+use Rattle.ids.specs.Code.{Far.far_at, Ids.entry_at, Ids.entry_for, Ids.as_map, Ids.slot_from}
 use Rattle.ids.proofs.IdLemmas.Map.{get-as_map, get-past, entry_for-else, entry_for-here, some_slot}
 
 -- one more is noted

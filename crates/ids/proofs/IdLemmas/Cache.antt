@@ -2,11 +2,9 @@
 use Rattle.std.proofs.Common.{◌≡◌, ◌≢◌, ℕ, ◌<◌, cond, eqb, eq-eqb, ne_eqb, List, length, get_or}
 use Rattle.std.proofs.Common.{set, sym, ap, ◌∙◌, arith, inl, inr, get_or-set_same, get_or-set_other}
 use Rattle.std.proofs.Common.{replicate, bit_and, if◌then◌else◌, nat_lt}
-use Rattle.std.proofs.lemmas.Bool.{cases_eq, cases_lt, lt-ltb}
-use Rattle.std.proofs.lemmas.Nat.{and_le_r}
+use Rattle.std.proofs.lemmas.{Bool.cases_eq, Bool.cases_lt, Bool.lt-ltb, Nat.and_le_r}
 use Rattle.std.proofs.lemmas.List.{get_or_past, get_or_default, get_or-replicate, length-replicate}
-use Rattle.ids.specs.Code.Cache.{page_of, page_among}
-use Rattle.ids.specs.declared.cache.Line.{Line}
+use Rattle.ids.specs.{Code.Cache.page_of, Code.Cache.page_among, declared.cache.Line.Line}
 
 abbrev free : Line
 free = record { number = 0; page = 0 }

@@ -3,19 +3,14 @@ use Rattle.std.proofs.Common.{◌≡◌, ◌≢◌, ℕ, zero, suc, ◌+◌, ◌
 use Rattle.std.proofs.Common.{ne_eqb, Option, Some, None, List, length, get_or, set, nat_cmp, refl}
 use Rattle.std.proofs.Common.{sym, ap, ◌∙◌, subst, arith, inl, inr, get_or-set_same}
 use Rattle.std.proofs.Common.{get_or-set_other, IfNone}
-use Rattle.std.specs.BTreeMap.{BTreeMap}
+use Rattle.std.specs.{BTreeMap.BTreeMap, FinMap.FinMap}
+use Rattle.std.proofs.lemmas.Bool.{cases_eq, cases_lt, Decides.nat_tests}
+use Rattle.std.proofs.lemmas.{List.get_or_past, Option.none-some}
 use Rattle.std.specs.FinMap as maps
-use Rattle.std.specs.FinMap.{FinMap}
-use Rattle.std.proofs.lemmas.Bool.{cases_eq, cases_lt}
-use Rattle.std.proofs.lemmas.List.{get_or_past}
-use Rattle.std.proofs.lemmas.Option.{none-some}
-use Rattle.std.proofs.lemmas.Bool.Decides.{nat_tests}
 use Rattle.cnf_base.proofs.MapLemmas.{get_insert, get_remove, insert_here, insert_other, same_maps}
-use Rattle.ids.specs.declared.directory.Directory.{Directory}
-use Rattle.ids.specs.declared.pages.Pages.{Pages}
-use Rattle.ids.specs.Code.Far.{far_at}
+use Rattle.ids.specs.declared.{directory.Directory.Directory, pages.Pages.Pages}
+use Rattle.ids.specs.Code.{Far.far_at, Ids.map_below, Ids.as_map, Ids.IsOwned, Ids.IsPaged}
 use Rattle.ids.specs.Code.Ids.{page_at, slot_from, place, entry_in, entry_at, entry_for, with_slot}
-use Rattle.ids.specs.Code.Ids.{map_below, as_map, IsOwned, IsPaged}
 
 -- ---- As a finite map
 

@@ -1,13 +1,9 @@
-use Rattle.std.proofs.Common.{◌≡◌, ℕ, Option, Some, None, is_some, refl, ap, subst}
-use Rattle.std.specs.Ordering.{nat_cmp}
+use Rattle.std.proofs.Common.{◌≡◌, ℕ, Option, Some, None, is_some, refl, ap, arith, nat_cmp}
 use Rattle.std.specs.FinMap as maps
 use Rattle.std.specs.FinMap.{FinMap}
-use Rattle.cnf_base.specs.Literals.{Clause}
+use Rattle.cnf_base.{specs.Literals.Clause, proofs.MapLemmas.insert_here}
 use Rattle.tables.specs.declared.filled.Filled.{Filled}
-use Rattle.clause_db.specs.Code.Counts.{AreCounted}
-use Rattle.clause_db.specs.Code.Kept.{AreKept}
-use Rattle.clause_db.proofs.StoreLemmas.Kept.{insert_undone}
-use Rattle.cnf_base.proofs.MapLemmas.{insert_here}
+use Rattle.clause_db.{specs.Code.Counts.AreCounted, proofs.StoreLemmas.Kept.insert_undone}
 use Rattle.clause_db.proofs.store.list_up.Goals as goal
 
 -- ---- Counts that are taken back
@@ -25,7 +21,7 @@ module _ (slot : ℕ) (lits : Clause) (old with : Option (Filled ℕ))
   unfolding counted_there
   taken_back after removed live are free =
       let w = counted_there live are free in
-      subst (AreCounted after) (insert_undone live slot lits free) (removed w.0 slot w.2 w.3)
+      grind (arith, insert_undone)
 
 pub count_out-requires-clause-there : goal.count_out-requires-clause-there
 count_out-requires-clause-there g c =
@@ -58,7 +54,4 @@ forget-requires g c =
     (maps.insert w.0 c.args.slot lits, c.in_default.ensures.ok w.0 w.1 w.3, ap is_some (insert_here w.0 c.args.slot c.args.slot lits refl))
 
 pub returns-in-Err-add-clause-same_kept : goal.returns-in-Err-add-clause-same_kept
-returns-in-Err-add-clause-same_kept g c live kept free =
-    let lits = c.args.lits.now in
-    subst (AreKept c.forget.new.kept) (insert_undone live c.args.slot lits free)
-    (c.forget.ensures (maps.insert live c.args.slot lits) (c.in_default.ensures.ok live kept free))
+returns-in-Err-add-clause-same_kept g c live kept free = grind (arith, insert_undone)

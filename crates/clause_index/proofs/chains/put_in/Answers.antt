@@ -1,7 +1,6 @@
 use Rattle.std.proofs.Common.{◌≡◌, ◌<◌, length, set, get_or, sym, ap, ◌∙◌, arith}
 use Rattle.std.proofs.lemmas.List.{get_or_default, get_or-set_same, get_or-set_other, length-set}
-use Rattle.clause_index.specs.Code.Chains.{home}
-use Rattle.clause_index.specs.declared.link.Link.{Link}
+use Rattle.clause_index.specs.{Code.Chains.home, declared.link.Link.Link}
 use Rattle.clause_index.proofs.IndexLemmas.PutIn.{put_chained}
 use Rattle.clause_index.proofs.chains.put_in.Goals as goal
 

@@ -1,5 +1,4 @@
-use Rattle.std.proofs.Common.{arith}
-use Rattle.std.proofs.lemmas.Bool.{cases_lt}
+use Rattle.std.proofs.{Common.arith, lemmas.Bool.cases_lt}
 use Rattle.ids.proofs.IdLemmas.BySlot.{noted_next, others_stay}
 use Rattle.ids.proofs.by_slot.note_far.Goals as goal
 

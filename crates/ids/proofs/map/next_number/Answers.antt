@@ -1,7 +1,5 @@
-use Rattle.std.proofs.Common.{arith, inl, inr}
-use Rattle.std.proofs.lemmas.Bool.{cases_eq}
-use Rattle.ids.specs.Code.Ids.{page_at}
-use Rattle.ids.proofs.IdLemmas.Map.{page_within}
+use Rattle.std.proofs.{Common.arith, Common.inl, Common.inr, lemmas.Bool.cases_eq}
+use Rattle.ids.{specs.Code.Ids.page_at, proofs.IdLemmas.Map.page_within}
 use Rattle.ids.proofs.map.next_number.Goals as goal
 
 pub returns-else-least-clause-some : goal.returns-else-least-clause-some

@@ -1,5 +1,4 @@
-use Rattle.std.proofs.Common.{rules, not, ◌==◌}
-use Rattle.std.proofs.lemmas.Fn.{filter_same}
+use Rattle.std.proofs.{Common.rules, Common.not, Common.◌==◌, lemmas.Fn.filter_same}
 use Rattle.occurrences.proofs.occurrence.rid.Goals as goal
 
 pub returns : goal.returns

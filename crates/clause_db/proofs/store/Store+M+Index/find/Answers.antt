@@ -1,32 +1,21 @@
-use Rattle.std.proofs.Common.{is_some, sym, ap, ◌∙◌}
+use Rattle.std.proofs.Common.{sym, ap, ◌∙◌, arith, true≢false}
 use Rattle.std.specs.FinMap as maps
-use Rattle.std.proofs.lemmas.Bool.{true≢false}
 use Rattle.cnf_base.proofs.SetLemmas.{all_each, each_all, same_back, same_there}
 use Rattle.clause_db.specs.Code.LiteralMarks.{is_marked}
-use Rattle.tables.specs.Filled.{at}
 use Rattle.clause_db.proofs.StoreLemmas.Search.{match_same, same_match}
 use Rattle.clause_db.proofs.StoreLemmas.Options.{if_some_from, if_some_from_none, if_none_from}
 use Rattle.clause_db.proofs.StoreLemmas.Options.{if_none_from_some}
-use Rattle.clause_index.specs.Hashes.{hash}
-use Rattle.clause_index.specs.Index.{seed_of}
+use Rattle.tables.specs.Filled.{at}
+use Rattle.clause_index.specs.{Hashes.hash, Index.seed_of}
 use Rattle.clause_index.proofs.IndexLemmas.Hashes.{hash_same}
 use Rattle.clause_db.proofs.store.Store+M+Index.find.Goals as goal
 use Rattle.clause_db.proofs.store.Store+M+Index.find.Goals.{in-Some, in-None}
 
 pub returns-then-not-all_known-clause-none : goal.returns-then-not-all_known-clause-none
-returns-then-not-all_known-clause-none g c s d is same =
-    let i = c.self.inside in
-    let marks = c.self.inside.marks in
-    let lits = c.args.lits.now in
-    let at_slot = ap (λ v. maps.get v.live s) c.self.view_is ∙ is in
-    let known = each_all (λ l. is_some (at marks l)) lits
-    (λ l h. c.self.invariant.0.known s d at_slot l (same_back d lits same l h)) in
-    true≢false (sym known ∙ sym c.all_known.ensures ∙ c.if-not-all_known.true)
+returns-then-not-all_known-clause-none g c s d is same = grind (arith, each_all, same_back)
 
 pub mark_all-digest-requires-clause-known : goal.mark_all-digest-requires-clause-known
-mark_all-digest-requires-clause-known g c l h =
-    all_each (λ l. is_some (at c.self.inside.marks l)) c.args.lits.now l
-    (sym c.all_known.ensures ∙ c.if-not-all_known.false) h
+mark_all-digest-requires-clause-known g c l h = grind (arith, all_each)
 
 pub find_marked-found-requires : goal.find_marked-found-requires
 find_marked-found-requires g c = c.self.invariant.1

@@ -1,7 +1,6 @@
 use Rattle.std.proofs.Common.{sym, subst}
 use Rattle.std.specs.FinMap as maps
-use Rattle.clause_db.specs.Code.Fields.{IsStore}
-use Rattle.clause_db.proofs.StoreLemmas.Fields.{sound_empty}
+use Rattle.clause_db.{specs.Code.Fields.IsStore, proofs.StoreLemmas.Fields.sound_empty}
 use Rattle.clause_db.proofs.store.Store.empty.Goals as goal
 
 pub invariant_of-result : goal.invariant_of-result

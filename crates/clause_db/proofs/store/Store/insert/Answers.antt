@@ -1,49 +1,33 @@
-use Rattle.std.proofs.Common.{◌≡◌, ℕ, ◌+◌, true, Some, is_some, length, refl, sym, ap, ◌∙◌, subst}
-use Rattle.std.proofs.Common.{arith}
+use Rattle.std.proofs.Common.{◌≡◌, ℕ, ◌+◌, true, Some, length, sym, ap, ◌∙◌, subst, arith, nat_cmp}
+use Rattle.std.{specs.FinMap.FinMap, proofs.lemmas.Option.same_Some}
 use Rattle.std.specs.FinMap as maps
-use Rattle.std.specs.FinMap.{FinMap}
-use Rattle.std.specs.Ordering.{nat_cmp}
-use Rattle.std.proofs.lemmas.Option.{same_Some}
-use Rattle.cnf_base.specs.Literals.{Clause, has, size}
-use Rattle.cnf_base.proofs.SetLemmas.{same_there}
 use Rattle.clause_memory.specs.Memory as memory
+use Rattle.cnf_base.specs.Literals.{Clause, has, size}
+use Rattle.cnf_base.proofs.{SetLemmas.same_there, MapLemmas.insert_here, MapLemmas.insert_other}
 use Rattle.clause_memory.specs.Memory.{MemoryState}
-use Rattle.clause_db.specs.Code.Counts.{AreCounted}
-use Rattle.clause_db.specs.Code.Fields.{IsStore, IsTakenIn}
-use Rattle.clause_db.specs.Code.Kept.{AreKept}
-use Rattle.clause_index.proofs.IndexLemmas.Results.{on_err_from}
-use Rattle.clause_db.proofs.StoreLemmas.Fields.{live_alone, sound_same, sound_with, sum_fits}
+use Rattle.clause_db.specs.Code.{Counts.AreCounted, Fields.IsStore, Fields.IsTakenIn, Kept.AreKept}
+use Rattle.clause_db.proofs.StoreLemmas.Fields.{live_alone, sound_with, sum_fits}
 use Rattle.clause_db.proofs.StoreLemmas.Kept.{insert_undone}
-use Rattle.cnf_base.proofs.MapLemmas.{insert_here, insert_other}
 use Rattle.clause_db.proofs.store.Store.insert.Goals as goal
 
 -- ---- Where no memory is left for the clause
 
 pub invariant_of-self : goal.invariant_of-self
-invariant_of-self g c =
-    let i = c.self.inside in
-    let marks = c.take_in.new.marks in
-    let same = sound_same (g.M.Memory.seen i.memory).live (g.M.Memory.seen i.memory).stored i.marks i.sum c.self.invariant.0 marks (λ l h. c.take_in.ensures.still_known l h) c.take_in.ensures.clear in
-    subst (λ (m : MemoryState). IsStore m.live m.stored marks i.sum × g.I.Indexing.indexes i.index m.live × AreKept i.occurrences m.live × AreCounted i.counts m.live) (sym c.in_err-slot.ensures.err)
-    (same, c.self.invariant.1, c.self.invariant.2, c.self.invariant.3)
+invariant_of-self g c = grind arith
 
 pub returns-in_err-slot-clause-live_alone : goal.returns-in_err-slot-clause-live_alone
 returns-in_err-slot-clause-live_alone g c = live_alone (g.M.Memory.seen c.take_in.new.memory).live (g.M.Memory.seen c.take_in.new.memory).stored c.take_in.new.marks _ (invariant_of-self g c).0
 
 pub returns-in_err-slot-clause-err_live : goal.returns-in_err-slot-clause-err_live
-returns-in_err-slot-clause-err_live g c =
-    on_err_from c.from_residual.result _ (ap (λ (m : MemoryState). m.live) c.in_err-slot.ensures.err ∙ ap (λ v. v.live) c.self.view_is)
+returns-in_err-slot-clause-err_live g c = grind arith
 
 pub returns-in_err-slot-clause-err_stored : goal.returns-in_err-slot-clause-err_stored
-returns-in_err-slot-clause-err_stored g c =
-    on_err_from c.from_residual.result _ (ap (λ (m : MemoryState). m.stored) c.in_err-slot.ensures.err ∙ ap (λ v. v.stored) c.self.view_is)
+returns-in_err-slot-clause-err_stored g c = grind arith
 
 -- ---- Where it is told to the index
 
 pub clause-kept-requires : goal.clause-kept-requires
-clause-kept-requires g c =
-    let taken = c.in_ok-slot.ensures.taken in
-    ap (λ m. is_some (maps.get m c.in_ok-slot.slot)) taken.live ∙ ap is_some (insert_here (g.M.Memory.seen c.self.inside.memory).live c.in_ok-slot.slot c.in_ok-slot.slot taken.clause refl)
+clause-kept-requires g c = grind (arith, insert_here)
 
 pub list_up-requires-clause-free : goal.list_up-requires-clause-free
 list_up-requires-clause-free g c =
@@ -52,7 +36,7 @@ list_up-requires-clause-free g c =
 
 -- the literals that the memory hands out are those that were taken in
 taken_is : {m n : MemoryState} {slot : ℕ} {lits kept : Clause} → (taken : IsTakenIn m n slot lits) → Some kept ≡ maps.get n.live slot → kept ≡ taken.clause
-taken_is {m} {n} {slot} taken is = same_Some _ _ (is ∙ ap (λ l. maps.get l slot) taken.live ∙ insert_here m.live slot slot taken.clause refl)
+taken_is {m} {n} {slot} taken is = same_Some _ _ (grind (arith, insert_here))
 
 pub list_up-requires-clause-different : goal.list_up-requires-clause-different
 list_up-requires-clause-different g c =
@@ -64,10 +48,7 @@ overflow_add-self g c =
     let i = c.self.inside in
     let taken = c.in_ok-slot.ensures.taken in
     let fits = sum_fits (g.M.Memory.seen i.memory).live (g.M.Memory.seen i.memory).stored i.marks i.sum c.self.invariant.0 in
-    let few = taken.few in
-    let short = taken.short in
-    let as_long = ap length (taken_is taken c.clause-kept.ensures) in
-    omega arith
+    grind (arith, taken_is)
 
 pub invariant_of-self-in-Ok : goal.invariant_of-self-in-Ok
 invariant_of-self-in-Ok g c =
@@ -92,18 +73,10 @@ returns-in-Ok-clause-free g c =
     ap (maps.get c.args.self.now.live) c.at.ensures ∙ ap (λ v. maps.get v.live c.in_ok-slot.slot) (sym c.self.view_is) ∙ c.in_ok-slot.ensures.taken.free
 
 pub returns-in-Ok-clause-stored : goal.returns-in-Ok-clause-stored
-returns-in-Ok-clause-stored g c =
-    let taken = c.in_ok-slot.ensures.taken in
-    let slot = c.in_ok-slot.slot in (
-      taken.clause,
-      ap (maps.get (g.M.Memory.seen c.take_in.new.memory).live) c.at.ensures ∙ ap (λ l. maps.get l slot) taken.live ∙ insert_here (g.M.Memory.seen c.self.inside.memory).live slot slot taken.clause refl,
-      taken.same,
-    )
+returns-in-Ok-clause-stored g c = grind (arith, insert_here)
 
 pub returns-in-Ok-clause-others : goal.returns-in-Ok-clause-others
-returns-in-Ok-clause-others g c s apart =
-    let taken = c.in_ok-slot.ensures.taken in
-    ap (λ l. maps.get l s) taken.live ∙ insert_other (g.M.Memory.seen c.self.inside.memory).live c.in_ok-slot.slot s taken.clause (λ e. apart (e ∙ sym c.at.ensures)) ∙ ap (λ v. maps.get v.live s) c.self.view_is
+returns-in-Ok-clause-others g c s apart = grind (arith, insert_other)
 
 pub returns-in-Ok-clause-live_alone : goal.returns-in-Ok-clause-live_alone
 returns-in-Ok-clause-live_alone g c = live_alone (g.M.Memory.seen c.take_in.new.memory).live (g.M.Memory.seen c.take_in.new.memory).stored c.take_in.new.marks _ (invariant_of-self-in-Ok g c).0
@@ -111,35 +84,20 @@ returns-in-Ok-clause-live_alone g c = live_alone (g.M.Memory.seen c.take_in.new.
 -- ---- Where no memory is left for the index
 
 pub remove-requires : goal.remove-requires
-remove-requires g c =
-    let taken = c.in_ok-slot.ensures.taken in
-    ap (λ m. is_some (maps.get m c.in_ok-slot.slot)) taken.live ∙ ap is_some (insert_here (g.M.Memory.seen c.self.inside.memory).live c.in_ok-slot.slot c.in_ok-slot.slot taken.clause refl)
+remove-requires g c = grind arith
 
 -- the clauses are those from before the call
 undone : {m n : MemoryState} {live : FinMap nat_cmp Clause} {slot : ℕ} {lits : Clause} → IsTakenIn m n slot lits → live ≡ maps.remove n.live slot → live ≡ m.live
 undone {m} {slot = slot} taken is = is ∙ ap (λ l. maps.remove l slot) taken.live ∙ insert_undone m.live slot taken.clause taken.free
 
 pub invariant_of-self-in-Err : goal.invariant_of-self-in-Err
-invariant_of-self-in-Err g c =
-    let i = c.self.inside in
-    let m = g.M.Memory.seen c.remove.new.self in
-    let marks = c.take_in.new.marks in
-    let taken = c.in_ok-slot.ensures.taken in
-    let live = undone taken c.remove.ensures.live in
-    let stored = c.remove.ensures.live_alone ∙ ap memory.literals_in live ∙ sym c.self.invariant.0.stored_is in
-    let same = sound_same (g.M.Memory.seen i.memory).live (g.M.Memory.seen i.memory).stored i.marks i.sum c.self.invariant.0 marks (λ l h. c.take_in.ensures.still_known l h) c.take_in.ensures.clear in (
-      subst (λ n. IsStore m.live n marks i.sum) (sym stored) (subst (λ l. IsStore l (g.M.Memory.seen i.memory).stored marks i.sum) (sym live) same),
-      subst (g.I.Indexing.indexes c.list_up.new.index) (sym live) (c.in-Err.ensures.same_index (g.M.Memory.seen i.memory).live c.self.invariant.1),
-      subst (AreKept c.list_up.new.kept) (sym live) (c.in-Err.ensures.same_kept (g.M.Memory.seen i.memory).live c.self.invariant.2 taken.free),
-      subst (AreCounted c.list_up.new.counts) (sym live) (c.in-Err.ensures.same_counts (g.M.Memory.seen i.memory).live c.self.invariant.3 taken.free),
-    )
+invariant_of-self-in-Err g c = grind (arith, undone)
 
 pub returns-in-Err-clause-err_live : goal.returns-in-Err-clause-err_live
 returns-in-Err-clause-err_live g c = undone c.in_ok-slot.ensures.taken c.remove.ensures.live ∙ ap (λ v. v.live) c.self.view_is
 
 pub returns-in-Err-clause-err_stored : goal.returns-in-Err-clause-err_stored
-returns-in-Err-clause-err_stored g c =
-    c.remove.ensures.live_alone ∙ ap memory.literals_in (undone c.in_ok-slot.ensures.taken c.remove.ensures.live) ∙ sym c.self.invariant.0.stored_is ∙ ap (λ v. v.stored) c.self.view_is
+returns-in-Err-clause-err_stored g c = grind (arith, undone)
 
 pub returns-in-Err-clause-live_alone : goal.returns-in-Err-clause-live_alone
 returns-in-Err-clause-live_alone g c = live_alone (g.M.Memory.seen c.remove.new.self).live (g.M.Memory.seen c.remove.new.self).stored c.take_in.new.marks _ (invariant_of-self-in-Err g c).0

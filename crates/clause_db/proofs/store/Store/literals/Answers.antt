@@ -1,6 +1,5 @@
 use Rattle.std.proofs.Common.{◌∙◌, sym, ap}
-use Rattle.clause_db.specs.Store.{literals_in}
-use Rattle.clause_db.proofs.StoreLemmas.Fields.{live_alone}
+use Rattle.clause_db.{specs.Store.literals_in, proofs.StoreLemmas.Fields.live_alone}
 use Rattle.clause_db.proofs.store.Store.literals.Goals as goal
 
 pub returns-clause-live_alone : goal.returns-clause-live_alone

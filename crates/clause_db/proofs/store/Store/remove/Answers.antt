@@ -1,9 +1,7 @@
 use Rattle.std.proofs.Common.{◌-◌, is_some, length, sym, ap, ◌∙◌, subst}
 use Rattle.std.specs.FinMap as maps
 use Rattle.clause_memory.specs.Memory as memory
-use Rattle.clause_db.specs.Code.Counts.{AreCounted}
-use Rattle.clause_db.specs.Code.Fields.{IsStore}
-use Rattle.clause_db.specs.Code.Kept.{AreKept}
+use Rattle.clause_db.specs.Code.{Counts.AreCounted, Fields.IsStore, Kept.AreKept}
 use Rattle.clause_db.proofs.StoreLemmas.Fields.{live_alone, sound_without, within_sum}
 use Rattle.clause_db.proofs.store.Store.remove.Goals as goal
 

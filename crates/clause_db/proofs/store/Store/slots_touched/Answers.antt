@@ -1,7 +1,5 @@
-use Rattle.std.proofs.Common.{sym, ap, ◌∙◌, subst}
-use Rattle.std.proofs.lemmas.Result.{on_ok_weaker}
-use Rattle.clause_db.specs.Store.{IsTouchedAt}
-use Rattle.clause_db.proofs.StoreLemmas.Kept.{touched_from}
+use Rattle.std.proofs.{Common.sym, Common.ap, Common.◌∙◌, Common.subst, lemmas.Result.on_ok_weaker}
+use Rattle.clause_db.{specs.Store.IsTouchedAt, proofs.StoreLemmas.Kept.touched_from}
 use Rattle.clause_db.proofs.store.Store.slots_touched.Goals as goal
 
 pub returns-clause-each : goal.returns-clause-each

@@ -1,10 +1,7 @@
-use Rattle.std.proofs.Common.{refl, ap, ◌∙◌}
+use Rattle.std.proofs.{Common.refl, Common.ap, Common.◌∙◌, lemmas.List.Edits.length-swap}
 use Rattle.std.specs.List.{swap}
-use Rattle.std.proofs.lemmas.List.Edits.{length-swap}
 use Rattle.std.specs.FinMap as maps
-use Rattle.clause_db.proofs.StoreLemmas.Fields.{live_alone}
-use Rattle.clause_db.proofs.StoreLemmas.Replaced.{all_replaced}
-use Rattle.clause_db.proofs.StoreLemmas.Swap.{has_swapped}
+use Rattle.clause_db.proofs.StoreLemmas.{Fields.live_alone, Replaced.all_replaced, Swap.has_swapped}
 use Rattle.clause_db.proofs.store.Store.swap.Goals as goal
 
 pub invariant_of-self : goal.invariant_of-self

@@ -19,4 +19,4 @@ loop-slot-preserved g c =
 pub returns : goal.returns
 returns g c =
     count_whole (g.M.Memory.seen c.args.memory.now).live c.loop-slot.slot c.args.l c.loop-slot.count
-    (λ s some. let below = c.end-slot-end.ensures.past s some in omega arith) c.loop-slot.invariant
+    (grind arith) c.loop-slot.invariant

@@ -1,15 +1,10 @@
-use Rattle.std.proofs.Common.{subst, arith}
-use Rattle.std.proofs.lemmas.Result.{on_ok_weaker}
+use Rattle.std.proofs.{Common.subst, Common.arith, lemmas.Result.on_ok_weaker}
 use Rattle.clause_db.specs.Code.Counts.{AreCounted}
 use Rattle.clause_db.proofs.StoreLemmas.Counts.{copies_few, counted_with}
 use Rattle.clause_db.proofs.store.counts.count_in.Goals as goal
 
 pub count_all-requires-clause-few : goal.count_all-requires-clause-few
-count_all-requires-clause-few c l =
-    let w = c.requires.few in
-    let is = subst (λ o. AreCounted o w.0) c.in-Some.is w.1 l in
-    let bound = copies_few w.0 l in
-    let few = w.2 in omega arith
+count_all-requires-clause-few c l = grind (arith, copies_few)
 
 pub returns-in-Some-clause-ok : goal.returns-in-Some-clause-ok
 returns-in-Some-clause-ok c = on_ok_weaker c.count_all.result (λ more live slot are free.

@@ -1,13 +1,10 @@
-use Rattle.std.proofs.Common.{subst}
+use Rattle.std.proofs.Common.{subst, arith}
 use Rattle.clause_db.specs.Code.Counts.{AreCounted}
 use Rattle.clause_db.proofs.StoreLemmas.Counts.{counted_here, counted_without}
 use Rattle.clause_db.proofs.store.counts.count_out.Goals as goal
 
 pub release-requires-clause-counted : goal.release-requires-clause-counted
-release-requires-clause-counted c =
-    let w = c.requires.there in
-    counted_here c.in-Some.counts w.0 w.1 c.args.lits.now
-    (subst (λ o. AreCounted o w.0) c.in-Some.is w.2) w.3
+release-requires-clause-counted c = grind (arith, counted_here)
 
 pub returns-in-Some : goal.returns-in-Some
 returns-in-Some c live slot are here =

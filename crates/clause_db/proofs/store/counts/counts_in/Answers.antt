@@ -11,5 +11,4 @@ pub loop-slot-preserved : goal.loop-slot-preserved
 loop-slot-preserved g c l = count_next (g.M.Memory.seen c.args.memory.now).live c.loop-slot.slot l _ _ (c.loop-slot.invariant l) (c.in_ok-count_slot.ensures l)
 
 pub returns : goal.returns
-returns g c l = count_whole (g.M.Memory.seen c.args.memory.now).live c.loop-slot.slot l _
-    (λ s some. let below = c.end-slot-end.ensures.past s some in omega arith) (c.loop-slot.invariant l)
+returns g c l = grind (arith, count_whole)

@@ -1,6 +1,5 @@
 use Rattle.std.proofs.Common.{subst}
-use Rattle.clause_db.specs.Code.Kept.{AreKept}
-use Rattle.clause_db.proofs.StoreLemmas.Kept.{of_without}
+use Rattle.clause_db.{specs.Code.Kept.AreKept, proofs.StoreLemmas.Kept.of_without}
 use Rattle.clause_db.proofs.store.kept.forget.Goals as goal
 
 pub returns-in-Some : goal.returns-in-Some

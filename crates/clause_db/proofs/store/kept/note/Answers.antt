@@ -1,7 +1,5 @@
-use Rattle.std.proofs.Common.{subst}
-use Rattle.std.proofs.lemmas.Result.{on_ok_weaker}
-use Rattle.clause_db.specs.Code.Kept.{AreKept}
-use Rattle.clause_db.proofs.StoreLemmas.Kept.{of_with}
+use Rattle.std.proofs.{Common.subst, lemmas.Result.on_ok_weaker}
+use Rattle.clause_db.{specs.Code.Kept.AreKept, proofs.StoreLemmas.Kept.of_with}
 use Rattle.clause_db.proofs.store.kept.note.Goals as goal
 
 pub returns-in-Some-clause-ok : goal.returns-in-Some-clause-ok

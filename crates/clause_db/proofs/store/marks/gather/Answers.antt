@@ -1,29 +1,14 @@
 use Rattle.std.proofs.Common.{◌≡◌, ℕ, ◌<◌, ◌&&◌, false, true, not, take, length, sym, ap, ◌∙◌}
-use Rattle.std.proofs.Common.{arith}
-use Rattle.std.proofs.lemmas.List.{take_all}
+use Rattle.std.proofs.Common.{arith, take_all}
 use Rattle.cnf_base.specs.Literals.{has, size}
-use Rattle.cnf_base.proofs.SetLemmas.{same_from}
-use Rattle.cnf_base.proofs.WalkLemmas.{is_in}
+use Rattle.cnf_base.proofs.{SetLemmas.same_from, WalkLemmas.is_in}
 use Rattle.clause_db.proofs.StoreLemmas.Marks.{marked_new, marked_old, gather_more, has_kept}
 use Rattle.clause_db.proofs.StoreLemmas.Marks.{push_same, push_fits, push_different}
 use Rattle.clause_db.proofs.store.marks.gather.Goals as goal
 use Rattle.clause_db.proofs.store.marks.gather.Goals.{then-clear_mark, else-clear_mark}
 
 pub push_reserved-requires : goal.push_reserved-requires
-push_reserved-requires c =
-    let lits = c.args.lits.now in
-    let i = c.loop-l.l-index in
-    let x = c.l-item.result in
-    let inside : i < length lits = omega arith in
-    let new : has (take i lits) x ≡ false =
-    marked_new (has lits x) (has (take i lits) x)
-    (sym (c.loop-l.invariant.marked x) ∙ sym c.clear_mark.ensures.was ∙ c.if-clear_mark.true) in
-    let fits = push_fits lits i inside x c.l-item.is c.loop-l.kept.items c.loop-l.invariant.items
-    new in
-    let different = c.loop-l.invariant.different in
-    let room = c.loop-l.invariant.room in
-    let enough = c.requires.room in
-    let whole = c.loop-l.kept.ok.0 in omega arith
+push_reserved-requires c = grind (arith, push_fits)
 
 pub loop-l-preserved : goal.loop-l-preserved
 loop-l-preserved c =
@@ -31,7 +16,7 @@ loop-l-preserved c =
     let i = c.loop-l.l-index in
     let x = c.l-item.result in
     let inside : i < length lits = omega arith in
-    let was : c.clear_mark.result ≡ (has lits x && not (has (take i lits) x)) = c.clear_mark.ensures.was ∙ c.loop-l.invariant.marked x in
+    let was : c.clear_mark.result ≡ (has lits x && not (has (take i lits) x)) = grind arith in
     let marked = λ (k : ℕ). gather_more lits i inside x c.l-item.is k _ _ (c.clear_mark.ensures.marked k) (c.loop-l.invariant.marked k) in
     let known = λ (k : ℕ). c.clear_mark.ensures.known k ∙ c.loop-l.invariant.known k in
     elim c.if-clear_mark.branch [
@@ -57,9 +42,4 @@ loop-l-preserved c =
     ]
 
 pub returns-clause-same : goal.returns-clause-same
-returns-clause-same c =
-    let lits = c.args.lits.now in
-    let i = c.loop-l.l-index in
-    let all : take i lits ≡ lits = take_all i lits (omega arith) in
-    let same = λ (k : ℕ). c.loop-l.invariant.items k ∙ ap (λ ls. has ls k) all in
-    same_from c.loop-l.kept.items lits (λ k h. sym (same k) ∙ h) (λ k h. same k ∙ h)
+returns-clause-same c = grind (arith, take_all, same_from)

@@ -1,17 +1,13 @@
-use Rattle.std.proofs.Common.{◌≡◌, ℕ, not, take, refl, sym, ap, ◌∙◌, arith}
+use Rattle.std.proofs.Common.{◌≡◌, ℕ, not, take, sym, ◌∙◌, arith}
+use Rattle.clause_index.proofs.IndexLemmas.Hashes.{mixed_none, hash_whole}
 use Rattle.std.proofs.lemmas.Bool.{not-true, not-false}
 use Rattle.cnf_base.specs.Literals.{has}
-use Rattle.clause_index.proofs.IndexLemmas.Hashes.{hash_whole}
-use Rattle.clause_db.proofs.StoreLemmas.Marks.{digest_none, digest_more, digest_kept, mark_more}
+use Rattle.clause_db.proofs.StoreLemmas.Marks.{digest_more, digest_kept, mark_more}
 use Rattle.clause_db.proofs.store.marks.mark_all.Goals as goal
 use Rattle.clause_db.proofs.store.marks.mark_all.Goals.{then-set_mark, else-set_mark}
 
 pub loop-l-init : goal.loop-l-init
-loop-l-init c = record {
-  marked = c.requires.clear;
-  known = λ k. refl;
-  digest = digest_none c.args.seed c.args.lits.now;
-}
+loop-l-init c = grind (arith, mixed_none)
 
 pub loop-l-preserved : goal.loop-l-preserved
 loop-l-preserved c =
@@ -20,9 +16,7 @@ loop-l-preserved c =
     let so_far = c.loop-l.invariant in
     let x = c.l-item.result in
     let inside = c.loop-l-test.true in
-    let was : c.set_mark.result ≡ not (has (take i lits) x) =
-    c.set_mark.ensures.was ∙ ap not (so_far.marked x)
-    in
+    let was : c.set_mark.result ≡ not (has (take i lits) x) = grind (arith, not) in
     let marked = λ (k : ℕ).
     mark_more lits i inside x c.l-item.is k _ _ (c.set_mark.ensures.marked k) (so_far.marked k)
     in
@@ -45,6 +39,4 @@ loop-l-preserved c =
     ]
 
 pub returns-clause-hash : goal.returns-clause-hash
-returns-clause-hash c =
-    hash_whole c.args.seed c.args.lits.now c.loop-l.l-index c.loop-l.sum c.upper_half.result
-    c.loop-l.invariant.digest.sum_is (omega arith) c.upper_half.ensures
+returns-clause-hash c = grind (arith, hash_whole)

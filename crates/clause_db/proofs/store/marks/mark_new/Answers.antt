@@ -1,17 +1,14 @@
 use Rattle.std.proofs.Common.{◌≡◌, ℕ, ◌+◌, not, true, is_some, eqb, eqb-true, subst, take, sym, ap}
 use Rattle.std.proofs.Common.{◌∙◌, arith, inl, inr}
 use Rattle.std.proofs.lemmas.Bool.{not-true, not-false, or_cases}
-use Rattle.cnf_base.specs.Literals.{has}
+use Rattle.cnf_base.{specs.Literals.has, proofs.WalkLemmas.has_more, proofs.WalkLemmas.has_take}
 use Rattle.tables.specs.Filled.{at}
 use Rattle.clause_db.proofs.StoreLemmas.Marks.{mark_more, size_kept, size_more}
-use Rattle.cnf_base.proofs.WalkLemmas.{has_more, has_take}
 use Rattle.clause_db.proofs.store.marks.mark_new.Goals as goal
 use Rattle.clause_db.proofs.store.marks.mark_new.Goals.{then-branch, else-branch}
 
 pub returns-in_err-add_mark-clause-some : goal.returns-in_err-add_mark-clause-some
-returns-in_err-add_mark-clause-some c l marked =
-    has_take c.args.lits.now c.loop-l.l-index l
-    (sym (c.in_err-add_mark.ensures.err l ∙ c.loop-l.invariant.marked l) ∙ marked)
+returns-in_err-add_mark-clause-some c l marked = grind (arith, has_take)
 
 pub loop-l-preserved : goal.loop-l-preserved
 loop-l-preserved c =

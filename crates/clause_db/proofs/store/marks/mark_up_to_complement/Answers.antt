@@ -1,8 +1,7 @@
-use Rattle.std.proofs.Common.{◌≡◌, true, false, take, sym, ap, ◌∙◌}
+use Rattle.std.proofs.Common.{◌≡◌, true, false, take, ◌∙◌, arith}
+use Rattle.cnf_base.proofs.{SetLemmas.any_from, WalkLemmas.has_take, SizeLemmas.has_at}
 use Rattle.cnf_base.specs.Literals.{complement, has}
-use Rattle.cnf_base.proofs.WalkLemmas.{has_take}
-use Rattle.clause_db.proofs.StoreLemmas.Marks.{mark_more}
-use Rattle.clause_db.proofs.StoreLemmas.Tautologies.{both_there, none_so_far}
+use Rattle.clause_db.proofs.StoreLemmas.{Marks.mark_more, Tautologies.none_so_far}
 use Rattle.clause_db.proofs.store.marks.mark_up_to_complement.Goals as goal
 
 pub loop-l-preserved : goal.loop-l-preserved
@@ -12,10 +11,7 @@ loop-l-preserved c =
     let so_far = c.loop-l.invariant in
     let x = c.l-item.result in
     let inside = c.loop-l-test.true in
-    let new : has (take i lits) (complement x) ≡ false =
-    ap (has (take i lits)) (sym c.neg.ensures) ∙ sym (so_far.marked c.neg.result)
-    ∙ sym c.is_set.ensures ∙ c.if-is_set.false
-    in
+    let new : has (take i lits) (complement x) ≡ false = grind arith in
     record {
       marked = λ k. mark_more lits i inside x c.l-item.is k _ _ (c.set_mark.ensures.marked k) (so_far.marked k);
       known = λ k. c.set_mark.ensures.known k ∙ so_far.known k;
@@ -23,16 +19,7 @@ loop-l-preserved c =
     }
 
 pub returns-then-is_set-clause-yes : goal.returns-then-is_set-clause-yes
-returns-then-is_set-clause-yes c =
-    let lits = c.args.lits.now in
-    let i = c.loop-l.l-index in
-    let x = c.l-item.result in
-    let before : has (take i lits) (complement x) ≡ true =
-    ap (has (take i lits)) (sym c.neg.ensures) ∙ sym (c.loop-l.invariant.marked c.neg.result)
-    ∙ sym c.is_set.ensures ∙ c.if-is_set.true
-    in
-    sym (both_there lits i c.loop-l-test.true x c.l-item.is before)
+returns-then-is_set-clause-yes c = grind (arith, any_from, has_at, has_take)
 
 pub returns-then-is_set-clause-some : goal.returns-then-is_set-clause-some
-returns-then-is_set-clause-some c k marked =
-    has_take c.args.lits.now c.loop-l.l-index k (sym (c.loop-l.invariant.marked k) ∙ marked)
+returns-then-is_set-clause-some c k marked = grind (arith, has_take)

@@ -1,12 +1,10 @@
-use Rattle.std.proofs.Common.{◌≡◌, ℕ, ◌+◌, ◌/◌, ◌%◌, ◌^◌, ◌<◌, ◌==◌, ◌&&◌, ◌∷◌, [], not, refl, sym, ap}
-use Rattle.std.proofs.Common.{◌∙◌, subst, arith, eq-eqb, ne_eqb}
+use Rattle.std.proofs.Common.{◌≡◌, ℕ, ◌+◌, ◌/◌, ◌%◌, ◌^◌, ◌<◌, ◌==◌, ◌&&◌, ◌∷◌, [], not, refl, sym}
+use Rattle.std.proofs.Common.{ap, ◌∙◌, arith, eq-eqb, ne_eqb}
 use Rattle.std.proofs.lemmas.Bool.{false≢true}
 use Rattle.cnf_base.specs.Literals.{Literal}
-use Rattle.clause_index.specs.Hashes.{hash, mix, mixed_sum}
-use Rattle.clause_index.specs.Index.{seed_of}
+use Rattle.clause_index.specs.{Hashes.hash, Hashes.mix, Hashes.mixed_sum, Index.seed_of}
 use Rattle.clause_index.proofs.IndexLemmas.Hashes.{mixed_none, mixed_push}
-use Rattle.clause_db.specs.Code.Matches.{is_unit_in}
-use Rattle.clause_db.proofs.StoreLemmas.Options.{if_none_then}
+use Rattle.clause_db.{specs.Code.Matches.is_unit_in, proofs.StoreLemmas.Options.if_none_then}
 use Rattle.clause_db.proofs.store.search.find_unit.Goals as goal
 
 -- the hash of a clause of one literal
@@ -25,7 +23,7 @@ returns-clause-none g c =
     let slot = c.args.slot in
     let seed = seed_of c.args.index.now in
     let mixed_is = c.mixed.ensures ∙ ap (λ s. mix s l) c.seed.ensures in
-    let hash_is : hash seed (l ∷ []) ≡ c.upper_half.result = hash_alone seed l (subst (λ n. n < 2 ^ 64) mixed_is c.mixed.type_inv) ∙ ap (λ n. n / 2 ^ 32) (sym mixed_is) ∙ sym c.upper_half.ensures in
+    let hash_is : hash seed (l ∷ []) ≡ c.upper_half.result = grind (arith, hash_alone) in
     if_none_then c.find.result c.find.ensures.none (λ none s other is.
     false≢true (sym (none (g.M.Memory.seen c.args.memory.now).live s (l ∷ []) c.requires is hash_is)
     ∙ ap (λ o. not (s == slot) && is_unit_in l o) is ∙ ap (λ b. not b && (l == l)) (ne_eqb s slot other) ∙ eq-eqb l l refl))

@@ -1,8 +1,6 @@
-use Rattle.std.proofs.Common.{◌≡◌, ◌+◌, ◌≤◌, true, length, sym, ◌∙◌, subst, arith}
-use Rattle.cnf_base.specs.Literals.{same_clause, size}
+use Rattle.std.proofs.Common.{◌≡◌, true, length, sym, subst, arith}
+use Rattle.cnf_base.{specs.Literals.same_clause, specs.Literals.size, proofs.SizeLemmas.size_same}
 use Rattle.cnf_base.proofs.SetLemmas.{same_back, same_from, same_there}
-use Rattle.cnf_base.proofs.SizeLemmas.{size_same}
-use Rattle.clause_memory.specs.Memory.{slots_for}
 use Rattle.clause_db.proofs.StoreLemmas.Taken.{taken_in}
 use Rattle.clause_db.proofs.store.taken.put_in.Goals as goal
 
@@ -28,11 +26,4 @@ returns-clause-taken g c =
     taken_in c.insert-2.result (g.M.Memory.seen c.args.memory.now) (g.M.Memory.seen c.insert-2.new.self) lits x same different (omega arith) is.free is.live is.low is.few is.live_alone
 
 pub returns-clause-few_slots : goal.returns-clause-few_slots
-returns-clause-few_slots g c =
-    let lits = c.args.lits.now in
-    let x = c.deref.result.now in
-    let made = c.in_ok-kept.ensures in
-    let same = subst (λ d. same_clause d lits ≡ true) (sym c.deref.ensures.value) made.same in
-    let different = subst (λ d. size d ≡ length d) (sym c.deref.ensures.value) made.different in
-    let as_many : length x ≡ size lits = sym different ∙ size_same x lits (same_there x lits same) (same_back x lits same) in
-    subst (λ n. (g.M.Memory.seen c.insert-2.new.self).slots ≤ (g.M.Memory.seen c.args.memory.now).slots + slots_for n) as_many c.insert-2.ensures.few_slots
+returns-clause-few_slots g c = grind (arith, size_same, same_there)

@@ -1,21 +1,20 @@
 use Rattle.std.proofs.Common.{◌≡◌, ◌+◌, length, sym, ap, ◌∙◌, subst, arith}
 use Rattle.std.proofs.lemmas.List.{get_or_default}
-use Rattle.clause_index.specs.Code.Chains.{home, link_at}
+use Rattle.clause_index.specs.{Code.Chains.home, Code.Chains.link_at, declared.link.Link.Link}
 use Rattle.clause_index.proofs.IndexLemmas.Chains.{few}
-use Rattle.clause_index.proofs.IndexLemmas.Found.{IsNot, chain_of, chain_inside, chain_low, in_chain}
-use Rattle.clause_index.proofs.IndexLemmas.Found.{other_hash}
-use Rattle.clause_index.proofs.IndexLemmas.Walks.{found_in, search_ends, search_over}
-use Rattle.clause_index.proofs.IndexLemmas.Walks.{IsSearched, searches_on}
-use Rattle.clause_index.specs.declared.link.Link.{Link}
-use Rattle.clause_index.proofs.index.Index.find_placed.Goals.{else-link-key-via-then-link-key+else-is_at, else-link-key-via-else-link-key}
+use Rattle.clause_index.proofs.IndexLemmas.Found.{IsNot, chain_of, chain_inside, chain_low}
+use Rattle.clause_index.proofs.IndexLemmas.{Found.in_chain, Found.other_hash, Walks.searches_on}
+use Rattle.clause_index.proofs.IndexLemmas.Walks.{found_in, search_ends, search_over, IsSearched}
 use Rattle.clause_index.proofs.index.Index.find_placed.Goals as goal
+use Rattle.clause_index.proofs.index.Index.find_placed.Goals.{else-link-key-via-then-link-key+else-is_at}
+use Rattle.clause_index.proofs.index.Index.find_placed.Goals.{else-link-key-via-else-link-key}
 
 pub returns-then-at-clause-none : goal.returns-then-at-clause-none
 returns-then-at-clause-none g c live s k sound placed is alike =
     let index = c.args.self.now in
     let key = c.args.key in
     search_ends index.links.items (chain_of index live sound key) (IsNot index.seed live key (g.T.Sought.is c.args.sought.now)) c.loop-step._step c.loop-step.at
-    (c.loop-step.invariant live sound) c.if-at.true (chain_low index live sound key) s (in_chain index live sound key s k placed is alike) k is alike
+    (c.loop-step.invariant live sound) c.if-at.true (chain_low index live sound key) s (grind (arith, in_chain)) k is alike
 
 pub index-link-requires : goal.index-link-requires
 index-link-requires g c =
@@ -26,8 +25,7 @@ index-link-requires g c =
     let there = found_in index.links.items (chain_of index live sound key) (IsNot index.seed live key (g.T.Sought.is c.args.sought.now)) c.loop-step._step c.loop-step.at
     (c.loop-step.invariant live sound) c.if-at.false
     in
-    let inside = chain_inside index live sound key c.loop-step.at there in
-    omega arith
+    grind (arith, chain_inside)
 
 pub loop-step-preserved : goal.loop-step-preserved
 loop-step-preserved g c live sound =
@@ -55,4 +53,4 @@ returns-clause-none g c live s k sound placed is alike =
     let chain = chain_of index live sound key in
     let most = few chain (length index.links.items) (sound.chained.apart (home (length index.heads.items) key)) (chain_inside index live sound key) in
     search_over index.links.items chain (IsNot index.seed live key (g.T.Sought.is c.args.sought.now)) c.loop-step._step c.loop-step.at
-    (c.loop-step.invariant live sound) (omega arith) s (in_chain index live sound key s k placed is alike) k is alike
+    (c.loop-step.invariant live sound) (omega arith) s (grind (arith, in_chain)) k is alike

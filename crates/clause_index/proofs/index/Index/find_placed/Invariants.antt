@@ -1,9 +1,7 @@
-use Rattle.std.specs.FinMap.{FinMap}
-use Rattle.std.specs.Ordering.{nat_cmp}
+use Rattle.std.specs.{FinMap.FinMap, Ordering.nat_cmp}
 use Rattle.cnf_base.specs.Literals.{Clause}
 use Rattle.clause_index.specs.Code.Chains.{Indexes}
-use Rattle.clause_index.proofs.IndexLemmas.Found.{IsNot, chain_of}
-use Rattle.clause_index.proofs.IndexLemmas.Walks.{IsSearched}
+use Rattle.clause_index.proofs.IndexLemmas.{Found.IsNot, Found.chain_of, Walks.IsSearched}
 use Rattle.clause_index.proofs.index.Index.find_placed.Given as goal
 
 abbrev pub invariant-loop-step : goal.invariant-loop-step

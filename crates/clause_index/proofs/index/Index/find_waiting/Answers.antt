@@ -1,6 +1,5 @@
 use Rattle.std.proofs.Common.{◌<◌, length, sym, ap, ◌∙◌, subst, arith, inl, inr}
-use Rattle.std.proofs.lemmas.Bool.{cases_eq}
-use Rattle.std.proofs.lemmas.List.{get_or_default}
+use Rattle.std.proofs.lemmas.{Bool.cases_eq, List.get_or_default}
 use Rattle.std.specs.FinMap as maps
 use Rattle.clause_index.specs.declared.link.Link.{Link}
 use Rattle.clause_index.proofs.IndexLemmas.Found.{is_inside, other_hash}

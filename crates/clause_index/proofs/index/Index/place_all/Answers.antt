@@ -1,7 +1,6 @@
 use Rattle.std.proofs.Common.{◌<◌, length, refl, sym, ap, ◌∙◌, subst, arith}
 use Rattle.std.proofs.lemmas.List.{get_or_default}
-use Rattle.clause_index.specs.Code.Chains.{ArePlaced, hash_in}
-use Rattle.clause_index.specs.declared.link.Link.{Link}
+use Rattle.clause_index.specs.{Code.Chains.ArePlaced, Code.Chains.hash_in, declared.link.Link.Link}
 use Rattle.clause_index.proofs.IndexLemmas.Anew.{passes, puts}
 use Rattle.clause_index.proofs.index.Index.place_all.Goals.{then-slot+then-link-slot, else-slot}
 use Rattle.clause_index.proofs.index.Index.place_all.Goals.{else-slot-via-then-slot+else-link-slot, else-slot-via-else-slot}

@@ -1,6 +1,5 @@
 use Rattle.std.proofs.Common.{◌≡◌, ◌<◌, length}
-use Rattle.std.specs.FinMap.{FinMap}
-use Rattle.std.specs.Ordering.{nat_cmp}
+use Rattle.std.specs.{FinMap.FinMap, Ordering.nat_cmp}
 use Rattle.cnf_base.specs.Literals.{Clause}
 use Rattle.clause_index.specs.Code.Chains.{Indexes}
 use Rattle.clause_index.proofs.index.Index.place_all.Given as goal

@@ -1,8 +1,7 @@
 use Rattle.std.proofs.Common.{◌≡◌, ◌≢◌, ℕ, set, refl, sym, ap, ◌∙◌, arith}
 use Rattle.std.proofs.lemmas.List.{get_or-set_same, get_or-set_other, length-set}
 use Rattle.std.proofs.lemmas.Option.{none-some}
-use Rattle.clause_index.specs.Code.Chains.{below, link_at}
-use Rattle.clause_index.specs.declared.link.Link.{Link}
+use Rattle.clause_index.specs.{Code.Chains.below, Code.Chains.link_at, declared.link.Link.Link}
 use Rattle.clause_index.proofs.IndexLemmas.Added.{comes_in, waits}
 use Rattle.clause_index.proofs.IndexLemmas.Anew.{above_is, below_is, chained_kept}
 use Rattle.clause_index.proofs.index.Index.put.Goals as goal
@@ -13,7 +12,7 @@ returns-then-slot-self-clause-indexed c held now old free here rest =
     let slot = c.args.slot in
     comes_in index.links.items c.put_in.new.links.items index.heads.items c.put_in.new.heads.items index.placed held now old slot c.args.hash here rest
     c.put_in.ensures.links c.put_in.ensures.heads c.put_in.ensures.others c.if-slot-self.true
-    (c.put_in.ensures.chained (below index.placed held) old.chained (below_is held index.placed slot c.if-slot-self.true ∙ free))
+    (grind (arith, below_is))
 
 pub returns-else-slot-self-clause-indexed : goal.returns-else-slot-self-clause-indexed
 returns-else-slot-self-clause-indexed c held now old free here rest =

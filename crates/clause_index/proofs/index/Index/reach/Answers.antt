@@ -1,6 +1,5 @@
 use Rattle.std.proofs.Common.{◌≡◌, ℕ, ◌+◌, ◌<◌, length, vec_len, refl, sym, ap, ◌∙◌, arith}
-use Rattle.clause_index.specs.Code.Chains.{hash_in, link_at}
-use Rattle.clause_index.specs.declared.link.Link.{Link}
+use Rattle.clause_index.specs.{Code.Chains.hash_in, Code.Chains.link_at, declared.link.Link.Link}
 use Rattle.clause_index.proofs.IndexLemmas.Longer.{longer}
 use Rattle.clause_index.proofs.index.Index.reach.Goals as goal
 

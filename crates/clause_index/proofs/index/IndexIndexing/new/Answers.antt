@@ -1,7 +1,6 @@
-use Rattle.std.proofs.Common.{◌≡◌, ℕ, None, ap, option_map, subst, sym, length, ◌<◌, ◌∙◌, arith}
-use Rattle.std.specs.Ordering.{nat_cmp}
+use Rattle.std.proofs.Common.{◌≡◌, ℕ, None, ap, option_map, subst, sym, ◌∙◌, arith}
+use Rattle.std.{specs.Ordering.nat_cmp, proofs.lemmas.Option.none-some}
 use Rattle.std.specs.FinMap as maps
-use Rattle.std.proofs.lemmas.Option.{none-some}
 use Rattle.clause_index.specs.Hashes.{hash}
 use Rattle.clause_index.specs.Code.Chains.{AreChained, below, hash_in}
 use Rattle.clause_index.proofs.IndexLemmas.Anew.{above_is, chained_none}
@@ -11,7 +10,7 @@ pub returns : goal.returns
 returns c =
     let none : (s : ℕ) → hash_in c.args.seed maps.empty s ≡ None = λ s. ap (option_map (hash c.args.seed)) (maps.get-empty nat_cmp s) in
     record {
-      chained = subst (λ hs. AreChained c.new-2.result.items hs (below 0 (hash_in c.args.seed maps.empty))) (sym c.new.ensures.items) (chained_none c.new-2.result.items 0 _ (λ s. above_is (hash_in c.args.seed maps.empty) 0 s (omega arith)));
+      chained = subst (λ hs. AreChained c.new-2.result.items hs (below 0 (hash_in c.args.seed maps.empty))) (sym c.new.ensures.items) (chained_none c.new-2.result.items 0 _ (λ s. grind (arith, above_is)));
       waiting = λ s h le e. absurd (none-some h (sym (none s) ∙ e));
-      vacant = λ s low free. let empty = c.new-2.ensures.items in absurd (let wrong : ⊥ = omega (arith, subst (λ xs. s < length xs) empty low) in wrong);
+      vacant = grind arith;
     }

@@ -1,45 +1,29 @@
-use Rattle.std.proofs.Common.{◌≡◌, ◌≢◌, ℕ, ◌<◌, Some, length, set, get_or, option_map, sym, ap, ◌∙◌, subst, arith}
-use Rattle.std.proofs.Common.{inl, inr}
-use Rattle.std.proofs.lemmas.Bool.{cases_eq}
-use Rattle.std.proofs.lemmas.List.{get_or_default, get_or-set_same, get_or-set_other, length-set}
-use Rattle.clause_index.specs.Hashes.{hash}
+use Rattle.std.proofs.Common.{◌≡◌, ◌≢◌, ℕ, ◌<◌, Some, length, set, get_or, option_map, sym, ap, ◌∙◌}
+use Rattle.std.proofs.Common.{subst, arith, inl, inr, get_or-set_same, get_or-set_other, length-set}
+use Rattle.std.proofs.lemmas.{Bool.cases_eq, List.get_or_default}
+use Rattle.clause_index.specs.{Hashes.hash, declared.index.Index.Index, declared.link.Link.Link}
 use Rattle.clause_index.specs.Code.Chains.{AreLinked, hash_in, home, link_at}
-use Rattle.clause_index.specs.declared.index.Index.{Index}
-use Rattle.clause_index.specs.declared.link.Link.{Link}
 use Rattle.clause_index.proofs.IndexLemmas.Anew.{all_chained, all_placed, placed_same}
 use Rattle.clause_index.proofs.IndexLemmas.Found.{is_inside, is_low, some_heads}
-use Rattle.clause_index.proofs.IndexLemmas.Chains.{not_self}
-use Rattle.clause_index.proofs.IndexLemmas.TakeOut.{first_goes, first_vacant, next_goes, next_vacant}
-use Rattle.clause_index.proofs.IndexLemmas.Whole.{held_less}
-use Rattle.clause_index.proofs.index.IndexIndexing.remove.Goals.{in-Some, in-None}
+use Rattle.clause_index.proofs.IndexLemmas.{Chains.not_self, TakeOut.next_vacant, Whole.held_less}
+use Rattle.clause_index.proofs.IndexLemmas.TakeOut.{first_goes, first_vacant, next_goes}
 use Rattle.clause_index.proofs.index.IndexIndexing.remove.Goals as goal
+use Rattle.clause_index.proofs.index.IndexIndexing.remove.Goals.{in-Some, in-None}
 
 pub place_all-requires : goal.place_all-requires
-place_all-requires c = record { some = some_heads c.args.self.now c.requires.there.0 c.requires.there.1 c.args.slot _ c.requires.there.2 }
+place_all-requires c = grind (arith, some_heads)
 
 pub index-link-requires : goal.index-link-requires
-index-link-requires c =
-    let inside = is_inside c.args.self.now c.requires.there.0 c.requires.there.1 c.args.slot _ c.requires.there.2 in
-    let as_many = c.place_all.ensures.links in
-    omega arith
+index-link-requires c = grind (arith, is_inside)
 
 pub home_of-home-requires : goal.home_of-home-requires
-home_of-home-requires c =
-    let some = some_heads c.args.self.now c.requires.there.0 c.requires.there.1 c.args.slot _ c.requires.there.2 in
-    let as_many = c.place_all.ensures.heads in
-    omega arith
+home_of-home-requires c = grind (arith, some_heads)
 
 pub overflow_cast-slot : goal.overflow_cast-slot
-overflow_cast-slot c = let low = is_low c.args.self.now c.requires.there.0 c.requires.there.1 c.args.slot _ c.requires.there.2 in omega arith
+overflow_cast-slot c = grind (arith, is_low)
 
 pub index_mut-requires-2 : goal.index_mut-requires-2
-index_mut-requires-2 c =
-    let inside = is_inside c.args.self.now c.requires.there.0 c.requires.there.1 c.args.slot _ c.requires.there.2 in
-    let as_many = c.place_all.ensures.links in
-    elim c.match-before.branch [
-      | in-None w ↦ rw (w.self-is) (omega arith)
-      | in-Some w ↦ rw (w.self-is) (omega arith)
-    ]
+index_mut-requires-2 c = grind (arith, is_inside)
 
 pub returns : goal.returns
 returns c live indexed there =

@@ -1,5 +1,6 @@
-use Rattle.clause_memory.proofs.SlotLemmas.{has_slot}
+use Rattle.std.proofs.Common.{arith}
+use Rattle.clause_memory.proofs.SlotLemmas.{held_at}
 use Rattle.clause_memory.proofs.slots.SlotsMemory.end.Goals as goal
 
 pub returns-clause-past : goal.returns-clause-past
-returns-clause-past c s alive = c.self.invariant.below s (has_slot c.self.inside.clauses.slots c.self.inside.end c.args.self.now c.self.view_is s alive)
+returns-clause-past c s alive = grind (arith, held_at)

@@ -1,17 +1,12 @@
 use Rattle.std.proofs.Common.{arith}
-use Rattle.clause_memory.proofs.SlotLemmas.{few_seen, has_slot, stored_seen}
+use Rattle.clause_memory.proofs.SlotLemmas.{few_held, slots_stored, held_at}
 use Rattle.clause_memory.proofs.slots.SlotsMemory.recall_invariant.Goals as goal
 
 pub returns-clause-live_alone : goal.returns-clause-live_alone
-returns-clause-live_alone c =
-    stored_seen c.self.inside.clauses.slots c.self.inside.end c.args.self.now c.self.view_is
+returns-clause-live_alone c = grind (arith, slots_stored)
 
 pub returns-clause-few : goal.returns-clause-few
-returns-clause-few c = few_seen c.self.inside.clauses.slots c.self.inside.end c.self.invariant c.args.self.now c.self.view_is
+returns-clause-few c = grind (arith, few_held _ _ c.self.invariant)
 
 pub returns-clause-low : goal.returns-clause-low
-returns-clause-low c s alive =
-    let below = c.self.invariant.below s
-    (has_slot c.self.inside.clauses.slots c.self.inside.end c.args.self.now c.self.view_is s
-    alive) in
-    let few = c.self.invariant.few in omega arith
+returns-clause-low c s alive = grind (arith, held_at)

@@ -1,6 +1,5 @@
 use Rattle.std.proofs.Common.{arith}
-use Rattle.ids.specs.Code.Cache.{cached_at}
-use Rattle.ids.proofs.IdLemmas.Cache.{moved_all}
+use Rattle.ids.{specs.Code.Cache.cached_at, proofs.IdLemmas.Cache.moved_all}
 use Rattle.ids.proofs.cache.Cache.longer.Goals as goal
 
 pub returns : goal.returns

@@ -1,6 +1,5 @@
 use Rattle.std.proofs.Common.{◌≡◌, ℕ}
-use Rattle.ids.specs.Code.Cache.{cached_at}
-use Rattle.ids.proofs.IdLemmas.Cache.{moved_to}
+use Rattle.ids.{specs.Code.Cache.cached_at, proofs.IdLemmas.Cache.moved_to}
 use Rattle.ids.proofs.cache.Cache.longer.Given as goal
 
 abbrev pub invariant-loop-i : goal.invariant-loop-i

@@ -1,16 +1,12 @@
 use Rattle.std.proofs.Common.{cond, eqb, subst, sym, ap, ◌∙◌, arith}
 use Rattle.std.specs.FinMap as maps
-use Rattle.ids.specs.Code.Far.{far_at}
-use Rattle.ids.specs.Code.Ids.{page_at, entry_at, entry_for, IsOwned}
+use Rattle.ids.specs.Code.{Far.far_at, Ids.page_at, Ids.entry_at, Ids.entry_for, Ids.IsOwned}
 use Rattle.ids.proofs.IdLemmas.Map.{as_map-insert, unbound_entry, both_none, once-paged, page_empty}
 use Rattle.ids.proofs.IdLemmas.Map.{page_filled, entry_for-far, entry_for-paged}
 use Rattle.ids.proofs.map.Ids.bind.Goals as goal
 
 pub fill-requires-clause-empty : goal.fill-requires-clause-empty
-fill-requires-clause-empty c =
-    let i = c.self.inside in
-    let none = unbound_entry (entry_for i.directory i.pages i.far) c.args.id (omega arith) (ap (λ m. maps.get m c.args.id) c.self.view_is ∙ c.requires) in
-    page_empty i.directory i.pages i.far c.args.id none c.page_for.new.directory c.page_for.new.pages c.page_for.ensures.paged c.page_for.ensures.same _ c.in_ok-page.ensures.ok c.if-page-eq0.false
+fill-requires-clause-empty c = grind (arith, unbound_entry, page_empty)
 
 pub invariant_of-self-2 : goal.invariant_of-self-2
 invariant_of-self-2 c =

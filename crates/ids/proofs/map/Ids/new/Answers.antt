@@ -1,6 +1,4 @@
-use Rattle.std.proofs.Common.{arith}
-use Rattle.std.specs.BTreeMap.{is_at}
-use Rattle.std.specs.Map.{lookup}
+use Rattle.std.{proofs.Common.arith, specs.BTreeMap.is_at, specs.Map.lookup}
 use Rattle.ids.proofs.IdLemmas.Map.{as_map-empty, has_no_page, entry_for-else}
 use Rattle.ids.proofs.map.Ids.new.Goals as goal
 

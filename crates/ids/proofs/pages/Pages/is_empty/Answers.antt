@@ -1,6 +1,4 @@
-use Rattle.std.proofs.Common.{arith}
-use Rattle.std.proofs.lemmas.Bool.Decides.{nat_tests}
-use Rattle.std.proofs.lemmas.Grind.{common_steps}
+use Rattle.std.proofs.{Common.arith, lemmas.Bool.Decides.nat_tests, lemmas.Grind.common_steps}
 use Rattle.ids.proofs.IdLemmas.Pages.{counts_none}
 use Rattle.ids.proofs.pages.Pages.is_empty.Goals as goal
 

@@ -1,5 +1,4 @@
-use Rattle.std.proofs.Common.{refl, arith}
-use Rattle.std.proofs.lemmas.Grind.{common_steps}
+use Rattle.std.proofs.{Common.refl, Common.arith, lemmas.Grind.common_steps}
 use Rattle.ids.proofs.IdLemmas.Pages.{counts_same}
 use Rattle.ids.proofs.pages.Pages.make.Goals as goal
 

@@ -1,5 +1,4 @@
-use Rattle.std.proofs.Common.{arith}
-use Rattle.std.proofs.lemmas.Grind.{common_steps}
+use Rattle.std.proofs.{Common.arith, lemmas.Grind.common_steps}
 use Rattle.ids.proofs.IdLemmas.Pages.{counts_written}
 use Rattle.ids.proofs.pages.Pages.write.Goals as goal
 

@@ -1,17 +1,13 @@
-use Rattle.std.proofs.Common.{◌&&◌, not, eq-eqb, ne_eqb, sym, ap, ◌∙◌, inl, inr}
+use Rattle.std.proofs.Common.{◌&&◌, not, eq-eqb, ne_eqb, sym, ap, ◌∙◌, inl, inr, arith}
 use Rattle.std.proofs.lemmas.Bool.{cases_eq}
 use Rattle.tables.specs.Lists.{list_at}
-use Rattle.occurrences.specs.Code.Known.{is_known}
-use Rattle.occurrences.specs.Occurrences.{occurs}
+use Rattle.occurrences.specs.{Code.Known.is_known, Occurrences.occurs}
 use Rattle.occurrences.proofs.TestLemmas.{and_true, and_false, all_weaker}
 use Rattle.occurrences.proofs.EntryLemmas.{reserved, reserved_known, reserved_occurs}
 use Rattle.occurrences.proofs.by_literal.Occurrences.add.Goals as goal
 
 pub invariant_of-self : goal.invariant_of-self
-invariant_of-self c =
-    let old = c.args.self.now in
-    let same = reserved old.births c.reserve.new.self c.args.slot c.reserve.result c.reserve.ensures.ok c.reserve.ensures.err in
-    record { low = old.low; known = λ l. all_weaker (is_known old.births) (is_known c.reserve.new.self) (reserved_known old.births c.reserve.new.self same) (list_at old.lists l) (old.known l) }
+invariant_of-self c = grind (arith, reserved, all_weaker, reserved_known)
 
 pub returns-in-Err-clause-err : goal.returns-in-Err-clause-err
 unfolding occurs

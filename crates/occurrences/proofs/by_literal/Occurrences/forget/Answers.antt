@@ -1,12 +1,10 @@
-use Rattle.std.proofs.Common.{◌≡◌, true, refl, sym, ap, ◌∙◌, subst}
+use Rattle.std.proofs.Common.{◌≡◌, true, refl, sym, ap, ◌∙◌, subst, arith}
 use Rattle.std.specs.List.{list_any, list_all}
 use Rattle.tables.specs.Lists.{list_at}
-use Rattle.occurrences.specs.Entries.{is_of}
-use Rattle.occurrences.specs.Code.Known.{is_known}
-use Rattle.occurrences.specs.Occurrences.{occurs}
+use Rattle.occurrences.specs.{Entries.is_of, Code.Known.is_known, Occurrences.occurs}
 use Rattle.occurrences.proofs.TestLemmas.{all_weaker}
-use Rattle.occurrences.proofs.EntryLemmas.{forgotten, rid_of, rid_known, noted_others, noted_known}
 use Rattle.occurrences.proofs.EntryLemmas.{noted_never, none_never, rid_lists, written_others}
+use Rattle.occurrences.proofs.EntryLemmas.{forgotten, rid_of, rid_known, noted_others, noted_known}
 use Rattle.occurrences.proofs.by_literal.Occurrences.forget.Goals as goal
 
 pub invariant_of-self : goal.invariant_of-self
@@ -50,6 +48,4 @@ returns-in-None c l s =
 
 pub returns-in_default : goal.returns-in_default
 unfolding occurs
-returns-in_default c l s =
-    let old = c.args.self.now in
-    forgotten old.births old.births c.args.slot (λ k ne. refl) (none_never old.births c.args.slot (sym c.get.ensures ∙ c.in_default.is)) (list_at old.lists l) (old.known l) s
+returns-in_default c l s = grind (arith, forgotten, none_never)

@@ -1,9 +1,7 @@
 use Rattle.std.proofs.Common.{◌<◌, arith, filter, sym, ap, ◌∙◌, subst}
 use Rattle.std.proofs.lemmas.Result.{on_ok_weaker}
 use Rattle.tables.specs.Lists.{list_at}
-use Rattle.occurrences.specs.Entries.{counts}
-use Rattle.occurrences.specs.Code.Known.{AreAlike}
-use Rattle.occurrences.specs.Occurrences.{occurs}
+use Rattle.occurrences.specs.{Entries.counts, Code.Known.AreAlike, Occurrences.occurs}
 use Rattle.occurrences.proofs.EntryLemmas.{alike_cleaned, gathered, put_alike, put_beyond, put_over}
 use Rattle.occurrences.proofs.by_literal.Occurrences.gather.Goals as goal
 

@@ -1,5 +1,4 @@
-use Rattle.std.proofs.Common.{◌≡◌, ℕ, take}
-use Rattle.std.specs.List.{list_any}
+use Rattle.std.{proofs.Common.◌≡◌, proofs.Common.ℕ, proofs.Common.take, specs.List.list_any}
 use Rattle.cnf_base.specs.Literals.{complement, has}
 use Rattle.occurrences.specs.Occurrences.{occurs}
 use Rattle.occurrences.proofs.by_literal.Occurrences.slots_touched.Given as goal

@@ -1,7 +1,6 @@
 -- One more literal.
 use Rattle.std.proofs.Common.{Some}
-use Rattle.tables.specs.Filled.{at}
-use Rattle.tables.proofs.FilledLemmas.{written_more}
+use Rattle.tables.{specs.Filled.at, proofs.FilledLemmas.written_more}
 use Rattle.tables.proofs.filled.Filled.set_each.Goals as goal
 
 pub loop-l-preserved : goal.loop-l-preserved

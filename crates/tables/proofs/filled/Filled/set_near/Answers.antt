@@ -1,22 +1,17 @@
 use Rattle.std.proofs.Common.{Some, slice_get, ◌∙◌, arith}
-use Rattle.cnf_base.specs.Literals.{complement}
-use Rattle.cnf_base.proofs.WalkLemmas.{is_in}
+use Rattle.cnf_base.{specs.Literals.complement, proofs.WalkLemmas.is_in}
 use Rattle.tables.proofs.FilledLemmas.{near_key, written_more}
 use Rattle.tables.proofs.filled.Filled.set_near.Goals as goal
 
 pub write_both-requires-clause-first : goal.write_both-requires-clause-first
 write_both-requires-clause-first g c =
     let x = c.l-item.result in
-    let room = c.requires.room x (is_in c.args.lits.now c.loop-l.l-index c.loop-l-test.true x c.l-item.is) in
-    let inside = near_key c.args.self.now c.requires.none_far x room.0 in
-    omega (arith, inside, c.index.ensures.value, c.loop-l.invariant.long)
+    grind (arith, is_in, near_key)
 
 pub write_both-requires-clause-second : goal.write_both-requires-clause-second
 write_both-requires-clause-second g c =
     let x = c.l-item.result in
-    let room = c.requires.room x (is_in c.args.lits.now c.loop-l.l-index c.loop-l-test.true x c.l-item.is) in
-    let inside = near_key c.args.self.now c.requires.none_far (complement x) room.1 in
-    omega (arith, inside, c.index-in-loop-l.ensures.value ∙ c.neg.ensures, c.loop-l.invariant.long)
+    grind (arith, is_in, near_key)
 
 pub loop-l-preserved : goal.loop-l-preserved
 loop-l-preserved g c =

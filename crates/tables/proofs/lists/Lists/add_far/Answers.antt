@@ -1,10 +1,7 @@
 use Rattle.std.proofs.Common.{◌≡◌, None, length, arith, ap, rules, slice_get, [], nat_lt}
-use Rattle.std.proofs.lemmas.Grind.{common_steps}
+use Rattle.std.proofs.lemmas.{Grind.common_steps, Map.Entries.sum_by-insert_entry}
 use Rattle.std.proofs.lemmas.Cmp.{nat_cmp_total}
-use Rattle.std.proofs.lemmas.Map.Entries.{sum_by-insert_entry}
-use Rattle.std.specs.BTreeMap.{get}
-use Rattle.std.specs.Map.{values_of}
-use Rattle.std.specs.Ordering.{nat_cmp}
+use Rattle.std.specs.{BTreeMap.get, Map.values_of, Ordering.nat_cmp}
 use Rattle.tables.specs.Lists.{items_or, total}
 use Rattle.tables.proofs.ListsLemmas.{far_added, far_known, was_empty}
 use Rattle.tables.proofs.lists.Lists.add_far.Goals as goal

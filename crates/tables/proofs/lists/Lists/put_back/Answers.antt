@@ -1,6 +1,5 @@
 use Rattle.std.proofs.Common.{◌<◌, ◌≤◌, length, [], slice_get, sym, ap, ◌∙◌, arith}
-use Rattle.std.proofs.lemmas.List.{get_or-set_same}
-use Rattle.std.proofs.lemmas.Option.{slice_get-get_or}
+use Rattle.std.proofs.lemmas.{List.get_or-set_same, Option.slice_get-get_or}
 use Rattle.tables.specs.Lists.{far_at, items_or}
 use Rattle.tables.proofs.ListsLemmas.{rest_written, total_again, total_put}
 use Rattle.tables.proofs.lists.Lists.put_back.Goals as goal

@@ -1,9 +1,6 @@
 use Rattle.std.proofs.Common.{◌≤◌, length, arith, ap}
-use Rattle.std.proofs.lemmas.Cmp.{nat_cmp_total}
-use Rattle.std.proofs.lemmas.Map.Entries.{sum_by-insert_entry}
-use Rattle.std.specs.BTreeMap.{get}
-use Rattle.std.specs.Map.{values_of}
-use Rattle.std.specs.Ordering.{nat_cmp}
+use Rattle.std.proofs.lemmas.{Cmp.nat_cmp_total, Map.Entries.sum_by-insert_entry}
+use Rattle.std.specs.{BTreeMap.get, Map.values_of, Ordering.nat_cmp}
 use Rattle.tables.specs.Lists.{total}
 use Rattle.tables.proofs.ListsLemmas.{found_far, unless_refused, was_empty}
 use Rattle.tables.proofs.lists.Lists.put_far.Goals as goal

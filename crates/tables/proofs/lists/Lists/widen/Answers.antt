@@ -1,9 +1,6 @@
 use Rattle.std.proofs.Common.{cond, eqb, length, slice_get, [], ◌∷◌, ◌++◌, sym, ap, ◌∙◌, arith}
-use Rattle.std.proofs.Common.{is_some}
-use Rattle.std.proofs.lemmas.List.{length-append}
-use Rattle.std.proofs.lemmas.List.Sums.{sum_by_push}
-use Rattle.std.specs.BTreeMap.{get}
-use Rattle.std.specs.Ordering.{nat_cmp}
+use Rattle.std.proofs.{Common.is_some, lemmas.List.length-append, lemmas.List.Sums.sum_by_push}
+use Rattle.std.specs.{BTreeMap.get, Ordering.nat_cmp}
 use Rattle.tables.specs.Lists.{far_at, items_or, total}
 use Rattle.tables.proofs.ListsLemmas.{known_more, near_more}
 use Rattle.tables.proofs.lists.Lists.widen.Goals as goal
