@@ -1,8 +1,7 @@
 -- What the tool's own check did is what a check of the tool does.
 use Rattle.std.proofs.Common.{◌≡◌, ℕ, Bool, List, Option, subst, sym}
 use Rattle.cnf_base.specs.Stream.{Reader}
-use Rattle.command_line.specs.declared.args.Args.{Args}
-use Rattle.command_line.specs.declared.tool.Tool.{Tool}
+use Rattle.command_line.specs.declared.{args.Args.Args, tool.Tool.Tool}
 use Rattle.filter_io.specs.Runs.{Answers, Checks}
 use Rattle.sat_check.specs.declared.checked.Checked.{Checked}
 use Rattle.report.specs.declared.status.Status.{Status}

@@ -3,11 +3,10 @@ use Rattle.std.proofs.Common.{◌≡◌, ◌≢◌, ℕ, zero, suc, ◌+◌, ◌
 use Rattle.std.proofs.Common.{[], ◌∷◌, ◌++◌, length, length-append, refl, ap, ◌∙◌, arith, inl, inr}
 use Rattle.std.proofs.Common.{eq-eqb, ne_eqb, add-one, Option, Some, unwrap_or, slice_get, rules}
 use Rattle.std.proofs.lemmas.Bool.{cases_eq, cases_lt}
-use Rattle.std.proofs.{lemmas.Bool.Decides.nat_tests, lemmas.Option.slice_get_past}
+use Rattle.std.proofs.lemmas.{Bool.Decides.nat_tests, Option.slice_get_past}
 use Rattle.cnf_base.specs.Literals.{has}
-use Rattle.numbering.specs.Names.{number_in}
+use Rattle.numbering.specs.{Names.number_in, Code.Numbers.IsNumbering}
 use Rattle.numbering.specs.Code.Numbers.{name_up_to, names_of, counted_as, met_up_to, number_or}
-use Rattle.numbering.specs.Code.Numbers.{IsNumbering}
 
 -- ---- A list of variables
 

@@ -1,4 +1,10 @@
 -- A check, step by step, and how far it reads a proof.
+use Rattle.std.proofs.Common.{Bool, Err, IsSome, List, None, Ok, Option, Some, [], ap, append_assoc}
+use Rattle.std.proofs.Common.{arith, false, inr, is_some, refl, rules, subst, sym, true, ℕ, ◌++◌}
+use Rattle.std.proofs.Common.{◌+◌, ◌↔◌, ◌∙◌, ◌∷◌, ◌≡◌, ◌≤◌, ◌⊎◌}
+use Rattle.std.proofs.lemmas.{Bool.MatchBool-at_false, Bool.false≢true, Option.none-some}
+use Rattle.std.specs.{List.list_any, Prelude.IsTrue, Prelude.Result}
+use Rattle.sat_check.specs.declared.input_fault.InputFault.TheVariants as of
 use Rattle.cnf_base.proofs.SeenLemmas.{Seen-fact, Seen-nothing, Seen-run}
 use Rattle.cnf_base.proofs.StreamLemmas.{Along-map, Along-none, Along-then, Along-within}
 use Rattle.cnf_base.specs.{Literals.Clause, Seen.IsSeen, Seen.Seen, Stream.Along, Stream.Input}
@@ -12,31 +18,24 @@ use Rattle.report.specs.declared.status.Status.TheVariants.{Malformed, NotVerifi
 use Rattle.report.specs.declared.status.Status.TheVariants.{OutOfMemory as NoMemory, WriteFailed}
 use Rattle.sat_check.proofs.{FormulaLemmas.unread_fault, OutcomeLemmas.Outcome-after}
 use Rattle.sat_check.proofs.OutcomeLemmas.{Writes-all, Writes-still, no_verdict, text_of-append}
-use Rattle.sat_check.proofs.ReportLemmas.{Rest-clean, Rest-fault, Rest-some, Rest-step, some_report}
-use Rattle.sat_check.proofs.ReportLemmas.{traced_same}
+use Rattle.sat_check.proofs.ReportLemmas.{Rest-fault, Rest-some, Rest-step, some_report}
+use Rattle.sat_check.{proofs.ReportLemmas.traced_same, specs.FormulaReach.ReadsNoFurtherThanFault}
 use Rattle.sat_check.specs.Code.Checking.{AllReports, GoesOn, IsLoaded, IsRefused, IsTold}
-use Rattle.sat_check.specs.Code.Checking.{LeavesProof, LeavesRest, Loads, Rest, RunsInto}
-use Rattle.sat_check.specs.Code.Checking.{Standing, Stops, counted, end_report, traced}
+use Rattle.sat_check.specs.Code.Checking.{LeavesProof, LeavesRest, Loads, Rest, RunsInto, Standing}
+use Rattle.sat_check.specs.Code.Checking.{Stops, counted, end_report, traced}
 use Rattle.sat_check.specs.Code.{Reach.IsVerdict, Writer.LeavesWriter}
-use Rattle.sat_check.specs.FormulaReach.{ReadsNoFurtherThanFault}
 use Rattle.sat_check.specs.Reach.{ReadsNoFurther, TellsFault, TellsLoss, deciding_step, refused_end}
 use Rattle.sat_check.specs.Report.{Outcome, Report, Reports, bare_steps, is_cut_short, text_of}
 use Rattle.sat_check.specs.{Report.with_lines, declared.checked.Checked.Checked}
-use Rattle.std.proofs.Common.{Bool, Err, IsSome, List, None, Ok, Option, Some, [], ap}
-use Rattle.std.proofs.Common.{append_assoc, arith, false, inr, is_some, refl, rules, subst, sym}
-use Rattle.std.proofs.Common.{true, ℕ, ◌++◌, ◌+◌, ◌↔◌, ◌∙◌, ◌∷◌, ◌≡◌, ◌≤◌, ◌⊎◌}
-use Rattle.std.proofs.lemmas.{Bool.MatchBool-at_false, Bool.false≢true, Option.none-some}
-use Rattle.std.specs.{List.list_any, Prelude.IsTrue, Prelude.Result}
 use Rattle.steps.specs.ProofSession.{View, is_over}
 use Rattle.theory.proofs.LawLemmas.Existence.{after_finite, same_finite}
 use Rattle.theory.proofs.LawLemmas.{Losses.lost_same, Rules.answer_unique, Verdicts.ends_same}
 use Rattle.theory.proofs.LratLemmas.{LiveSets.SameClauses-sym, Steps.ok_err, Steps.ok_is}
 use Rattle.theory.specs.{Losses.HasLost, Losses.LostBySteps, Losses.StepLoses, Rules.Answers}
+use Rattle.theory.specs.{Verdicts.verified, declared.accepted.Accepted.Accepted}
 use Rattle.theory.specs.Rules.{IsFinite, Rule, Same, State, after, by_copies, by_ids, start, sum_of}
 use Rattle.theory.specs.Verdicts.{Ending, Ends, Verdict, is_empty, is_last, system_of}
-use Rattle.theory.specs.{Verdicts.verified, declared.accepted.Accepted.Accepted}
 use Rattle.writers.{proofs.LineLemmas.Writes-then, specs.Lines.Sink, specs.Lines.Writes}
-use Rattle.sat_check.specs.declared.input_fault.InputFault.TheVariants as of
 
 same_sym : (s t : State) → Same s t → Same t s
 same_sym (by_ids s) (by_ids t) same = (SameClauses-sym _ _ same.0, sym same.1)
@@ -103,7 +102,7 @@ module _ (s : View) (step : Step) (end : StepEnd) (offset : ℕ) (p : Proof) (re
         later.past x.0 ending last x.2 (sym (later_step p.steps word x.0 ending x.2) ∙ (rw x.1 at d));
     past_fault = later.past_fault;
     refused = λ words ending v e. let x = split words ending e in
-        rw x.1 (later.refused x.0 ending v x.2 ∙ later_end word x.0 ending);
+        grind arith;
     only = later.only;
     lost = λ words ending v e. let x = split words ending e in
         rw x.1 (search (rules, (over x.0), (later.lost x.0 ending v x.2)));
@@ -268,7 +267,7 @@ module _ (trace : Bool) (start now new : Standing) (first session : View) (accep
       wrote = rw (text_of-append so_far.written (traced trace number goes.word)) (Writes-then _ _ _ _ _ so_far.wrote goes.wrote);
       whole = goes.whole;
       sound = goes.sound;
-      finite = same_finite t.state (after session.state step goes.word) goes.state (after_finite session.state step goes.word so_far.finite);
+      finite = grind (arith, same_finite, after_finite);
       least = omega (arith, goes.peak);
       no_failure = goes.no_failure ∙ so_far.no_failure;
     }
@@ -288,14 +287,14 @@ module _ (trace : Bool) (start now new : Standing) (first session : View) (accep
     Checking-stop checked last stops refuses told only loss none_lost none not = Along-then _ _ _ _ _ _ so_far.run gives (λ i j k m p q.
         let s = stops so_far.count k.offset q.0.0 (new.to_come k) counts so_far.least so_far.finite in
         ended checked last i j k s.0 p (rw q.0.2 s.1) s.2
-        (rw q.0.2 (LeavesRest-decided session step q.0.0 k.offset (new.to_come k) k checked refuses (λ v. told v ∙ q.0.1) only loss none_lost (TellsFault-none None (new.to_come k).fault checked none not) (rw (← q.0.2) q.1))))
+        (rw q.0.2 (LeavesRest-decided session step q.0.0 k.offset (new.to_come k) k checked refuses (λ v. told v ∙ q.0.1) only loss none_lost (grind (arith, TellsFault-none)) (rw (← q.0.2) q.1))))
 
   module _ (step : Step) (checked : Checked) (none : checked.refused ≡ None) (quiet : checked.literal_lost ≡ false) (last : Sink) where
     pub Checking-end : Along now.stream new.stream (Gave (Ok false) None step)
         → Outcome checked.status lines.held last.held (end_report None) → TellsFault None None checked → Along start.stream new.stream (λ i j. Ended checked last i j)
     Checking-end gives o tells = Along-then _ _ _ _ _ _ so_far.run gives (λ i j k m p q.
-        ended checked last i j k (end_report None) p (rw q.0.1 (Rest-clean trace session.state so_far.count session.peak)) o
-        (rw q.0.1 (LeavesRest-none session None None k checked none quiet tells (rw (← q.0.1) q.1))))
+        ended checked last i j k (end_report None) p (rw q.0.1 (grind arith)) o
+        (grind (arith, LeavesRest-none)))
 
     -- what is told where the proof has this fault
     abbrev TellsOf : Fault → Type 0
@@ -336,9 +335,9 @@ reports_nothing rule trace steps formula proof new checked was now same none qui
       first = Seen-nothing formula;
       second = Seen-nothing proof;
       fact = λ i j s t. let some = some_report rule trace i (steps j) in (
-        record { report = some.0; reports = some.1; outcome = o some.0 },
-        record { unread = λ n. refl; past = λ words ending last whole e d. omega arith; fault = λ offset e. omega arith },
-        record { unread = λ n. none; refused = λ words ending whole is e. absurd (no_verdict checked.status was.held now.held [] (o (record { lines = []; status = Malformed })) (inr is)); only = λ _. none; loss = TellsLoss-none rule (formula_of i).fault (formula_of i).clauses (steps j) checked none quiet; malformed = TellsFault-none (formula_of i).fault (steps j).fault checked sound not },
+        grind arith,
+        grind arith,
+        record { unread = λ n. none; refused = λ words ending whole is e. absurd (no_verdict checked.status was.held now.held [] (o (record { lines = []; status = Malformed })) (inr is)); only = λ _. none; loss = grind (arith, TellsLoss-none); malformed = grind (arith, TellsFault-none) },
         unread_fault i formula formula refl,
       );
     })
@@ -386,4 +385,4 @@ module _ (rule : Rule) (trace : Bool) (to_come : ProofReading → Suffix → Pro
 pub reports_as : (rule other : Rule) (trace : Bool) (steps others : Input → Proof) (formula formula_new proof new : Reader) (checked : Checked) (was now : Sink) → rule ≡ other → ((j : Input) → steps j ≡ others j)
     → AllReports rule trace steps formula formula_new proof new checked was.held now.held → AllReports other trace others formula formula_new proof new checked was.held now.held
 reports_as rule other trace steps others formula formula_new proof new checked was now is all reports =
-    search rules
+    grind arith

@@ -1,4 +1,7 @@
 -- An input in which no fault was found was read to its end; so a claim is as the grammar has it.
+use Rattle.std.proofs.Common.{Bool, Err, List, None, Ok, Option, Result, Some, [], ap, arith, refl}
+use Rattle.std.proofs.Common.{reverse, rules, subst, sym, ℕ, ◌∙◌, ◌∷◌, ◌≡◌}
+use Rattle.cnf_base.specs.declared.token.Token.TheVariants as token
 use Rattle.cnf_base.specs.{Grammar.word_lines, Literals.Literal, Literals.has, Printing.input_of}
 use Rattle.cnf_base.specs.{Stream.Input, Text.Listed}
 use Rattle.cnf_base.specs.Text.{Listing, Spot, is_comment, lines_listing, lines_of, listing_of}
@@ -9,11 +12,8 @@ use Rattle.dimacs.specs.Claim.{IsConsistent, Said, claim_among, claim_of, nothin
 use Rattle.dimacs.specs.Formula.{body_among, body_on_word, formula_of, formula_with, header_of}
 use Rattle.dimacs.specs.{Formula.judged, Grammar.ModelText, Printing.IsModel}
 use Rattle.dimacs.specs.declared.header.Header.{Header}
-use Rattle.std.proofs.Common.{Bool, Err, List, None, Ok, Option, Result, Some, [], ap, arith, refl}
-use Rattle.std.proofs.Common.{reverse, rules, subst, sym, ℕ, ◌∙◌, ◌∷◌, ◌≡◌}
 use Rattle.std.proofs.lemmas.List.{reverse-reverse, Sorted.IsPermutation-reverse}
 use Rattle.std.{proofs.lemmas.List.Sorted.list_any-IsPermutation, specs.Prelude.IfOk}
-use Rattle.cnf_base.specs.declared.token.Token.TheVariants as token
 
 -- ---- What is left of a text ends as the text does
 
@@ -106,7 +106,7 @@ has_reverse ls l = sym (list_any-IsPermutation _ ls (reverse ls) (IsPermutation-
 pub claim_text : (bytes : List ℕ) (listed : List Literal) → claim_of (input_of bytes) ≡ Ok listed
     → IsModel (reverse listed) × ModelText (word_lines bytes) (reverse listed)
 claim_text bytes listed ok = model_grammar.read_is_written bytes (reverse listed)
-    (ok ∙ ap (λ ls. Ok ls) (sym (reverse-reverse listed)))
+    (grind (arith, reverse-reverse))
 
 -- a claim holds no complements
 pub claim_consistent : (i : Input) → IfOk (claim_of i) IsConsistent

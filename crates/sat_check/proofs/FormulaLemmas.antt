@@ -1,25 +1,25 @@
 -- A formula is read, and loaded, clause by clause.
+use Rattle.std.proofs.Common.{Bool, List, None, Some, [], ap, append-nil, append_assoc, arith}
+use Rattle.std.proofs.Common.{false, length, length-append, max, refl, rules, suc, sym, true, zero}
+use Rattle.std.proofs.Common.{ℕ, ◌++◌, ◌+◌, ◌-◌, ◌||◌, ◌∙◌, ◌∷◌, ◌≡◌, ◌≤◌}
+use Rattle.std.proofs.lemmas.{List.Folds.list_any-append, List.Sums.sum_by-append, Option.none-some}
+use Rattle.std.specs.{FinMap.get-empty, Ordering.nat_cmp}
+use Rattle.std.specs.Prelude.{Err, Ok, Result, slice_get}
+use Rattle.std.specs.FinMap as maps
 use Rattle.cnf_base.proofs.SeenLemmas.{Seen-fact, Seen-nothing, Seen-run}
 use Rattle.cnf_base.proofs.SetLemmas.{same_itself}
 use Rattle.cnf_base.proofs.StreamLemmas.{Along-map, Along-none, Along-then, Along-within}
-use Rattle.cnf_base.specs.Code.Seen.{OfSeen}
-use Rattle.cnf_base.specs.Literals.{Clause, same_clause, size}
+use Rattle.cnf_base.specs.{Code.Seen.OfSeen, Literals.Clause, Literals.same_clause, Literals.size}
 use Rattle.cnf_base.specs.Stream.{Along, Input, Reader, Stream, Suffix, bytes_read, from_start}
 use Rattle.cnf_base.specs.{Stream.unread_stream, declared.fault.Fault.Fault}
 use Rattle.cnf_base.specs.declared.{fault.Fault.TheVariants.OutOfMemory, place.Place.Place}
 use Rattle.dimacs.specs.Formula.{Body, Formula, ends_at, formula_at, formula_of, opened}
-use Rattle.dimacs.specs.Reading.{FormulaReading, GivesClause, GivesEnd}
-use Rattle.dimacs.specs.Reading.{PassesNoEnd, clauses_to_come, ends_to_come, unopened}
+use Rattle.dimacs.specs.Reading.{FormulaReading, GivesClause, GivesEnd, PassesNoEnd}
+use Rattle.dimacs.specs.Reading.{clauses_to_come, ends_to_come, unopened}
 use Rattle.dimacs.specs.declared.header.Header.{Header}
 use Rattle.{drat_steps.proofs.DratLemmas.Steps.none_listed, sat_check.specs.Code.Checking.IsLoaded}
 use Rattle.sat_check.specs.Code.{Checking.Loads, Checking.LoadsBody, FormulaReach.LeavesFault}
-use Rattle.sat_check.specs.{FormulaReach.ReadsNoFurtherThanFault}
-use Rattle.std.proofs.Common.{Bool, List, None, Some, [], ap, append-nil, append_assoc, arith}
-use Rattle.std.proofs.Common.{false, length, length-append, max, refl, rules, suc}
-use Rattle.std.proofs.Common.{sym, true, zero, ℕ, ◌++◌, ◌+◌, ◌-◌, ◌||◌, ◌∙◌, ◌∷◌, ◌≡◌, ◌≤◌}
-use Rattle.std.proofs.lemmas.{List.Folds.list_any-append, List.Sums.sum_by-append, Option.none-some}
-use Rattle.std.specs.{FinMap.get-empty, Ordering.nat_cmp}
-use Rattle.std.specs.Prelude.{Err, Ok, Result, slice_get}
+use Rattle.sat_check.specs.FormulaReach.{ReadsNoFurtherThanFault}
 use Rattle.steps.specs.{ProofSession.View, Session.SessionState, Session.fresh, Session.view_of}
 use Rattle.theory.proofs.DratLemmas.Copies.{copies-cons, none_alive}
 use Rattle.theory.proofs.LawLemmas.{Existence.numbered_above, Rules.same_trans, Rules.sum_same}
@@ -29,7 +29,6 @@ use Rattle.theory.specs.Lrat.{lrat_start, numbered, with_clause}
 use Rattle.theory.specs.Rules.{Rule, Same, State, by_copies, by_ids, drat, lrat, rule_of, start}
 use Rattle.theory.specs.Rules.{sum_of, with_input}
 use Rattle.theory.specs.{Sizes.size_at, Sizes.sum_to, Sizes.total, Verdicts.is_empty}
-use Rattle.std.specs.FinMap as maps
 
 -- ---- A whole input
 
@@ -48,7 +47,7 @@ seen_within P old borrows source last new is kept run =
     rw kept (record {
       seen = Seen-run old borrows last R within;
       fact = λ i seen. let x = Seen-fact old borrows last R within i seen in
-          let read = x.2.1 in (x.0, x.2.0, omega (arith, read));
+          grind arith;
     })
 
 -- another fact of what was seen
@@ -102,15 +101,14 @@ pub later_left : (read : List Clause) (old : FormulaReading) (i k : Suffix) (n o
 later_left read old i k n offset passed least at = let on = passed.2 in
     let same : length on.1.0 ≡ length read = on.1.1 in
     passed.3 (n - length read) offset
-    (sym (past_first on.1.0 passed.1 n (n - length read) (omega (arith, same, least)))
-    ∙ sym (ap (λ r. slice_get r n) on.1.2) ∙ at)
+    (grind (arith, past_first))
 
 -- so the token at fault wasn't
 pub fault_left : (read : List Clause) (old : FormulaReading) (i k : Suffix) → NonePassed old read i k
     → LeavesFault (clauses_to_come old i).clauses (ends_to_come old i) k
 fault_left read old i k passed offset at =
     let all : length (clauses_to_come old i).clauses ≡ length read + length passed.0.clauses =
-    ap (λ b. length b.clauses) passed.2.0 ∙ length-append read passed.0.clauses in
+    grind (arith, length-append) in
     later_left read old i k _ offset passed (omega (arith, all)) at
 
 -- whatever was given, no end that was to come was passed
@@ -125,7 +123,7 @@ FaultAfter cs f b = b ≡ record { clauses = cs; fault = Some f }
 pub Reads-start : (r : FormulaReading) → r.complete ≡ 0 → Reads r r []
 Reads-start r none = record {
   count = sym none;
-  run = Along-map _ _ _ _ (Along-none r.stream) (λ i j m e. (ap (clauses_to_come r) e, ([], refl, ap (ends_to_come r) e)));
+  run = Along-map _ _ _ _ (Along-none r.stream) (grind arith);
   header = refl;
 }
 
@@ -133,7 +131,7 @@ module _ (old now new : FormulaReading) (clauses : List Clause) (so_far : Reads 
   pub Reads-clause : Gave now new (Ok true) c
       → new.complete ≡ now.complete + 1 → new.header ≡ now.header → Reads old new (clauses ++ c ∷ [])
   Reads-clause gives count header = record {
-    count = length_push clauses c ∙ ap (λ n. n + 1) so_far.count ∙ sym count;
+    count = grind (arith, length_push);
     run = Along-then _ _ _ _ _ _ so_far.run gives (λ i j k m p q. (
       search (rules, append_assoc),
       (p.1.0 ++ k.offset ∷ [], search (rules, arith, length-append), search (rules, append_assoc)),
@@ -273,7 +271,7 @@ module _ (rule : Rule) (s : View) (left : Reader) (borrows : List ℕ) (source :
   all_loads last new result kept run =
       seen_map left new _ (λ i. Loads rule s result (formula_of i) × ReadsNoFurtherThanFault i left new)
       (seen_within (Loaded result) left borrows source last new is kept run)
-      (λ i x. (x.1.0, λ offset at. let left = x.1.1 offset at in omega (arith, left, x.2)))
+      (grind arith)
 
   fault_loads : (f : Fault) (x : Formula) → x.fault ≡ Some f → Loads rule s (Err f) x
   fault_loads f x h = search rules

@@ -1,44 +1,40 @@
 -- A formula is judged by the literals of a model; the report of it, and what a verified one says.
-use Rattle.cnf_base.proofs.SetLemmas.{any_from, any_some}
+use Rattle.std.proofs.Common.{◌++◌, List, None, Option, Some, [], arith, codes, false, get_or}
+use Rattle.std.proofs.Common.{length, refl, rules, slice_get, suc, true, ℕ, ◌%◌, ◌*◌, ◌+◌, ◌-◌, ◌/◌}
+use Rattle.std.proofs.Common.{◌<◌, ◌∙◌, ◌∷◌, ◌≡◌, ◌≤◌}
+use Rattle.std.proofs.lemmas.{Option.none-some, Bool.Decides.nat_tests, Option.slice_get-get_or}
+use Rattle.std.specs.Prelude.{Err, IfOk, IsTrue, Ok, Result, ◌==◌}
+use Rattle.sat_check.specs.declared.input_fault.InputFault.TheVariants as of
+use Rattle.cnf_base.{proofs.SetLemmas.any_from, proofs.SetLemmas.any_some, specs.Code.Seen.OfSeen}
 use Rattle.cnf_base.specs.Literals.{Clause, Literal, complement, has}
 use Rattle.cnf_base.specs.{Seen.OfBothSeen, Stream.Input, Stream.Reader, Stream.bytes_read}
 use Rattle.cnf_base.specs.declared.fault.Fault.{Fault, TheVariants.OutOfMemory}
+use Rattle.cnf_base.proofs.StreamLemmas.{Along-map, Along-then}
+use Rattle.cnf_base.specs.Stream.{Along, Stream, Suffix, unread_stream}
 use Rattle.dimacs.proofs.OffsetLemmas.{ends_of-length}
-use Rattle.dimacs.specs.Claim.{IsClaim, IsConsistent, claim_of}
-use Rattle.dimacs.specs.Formula.{Formula, ends_of, formula_of}
+use Rattle.dimacs.specs.{Claim.IsClaim, Claim.IsConsistent, Claim.claim_of, Reading.unopened}
+use Rattle.dimacs.specs.Formula.{Formula, ends_of, formula_of, Body, ends_at, formula_at, opened}
+use Rattle.dimacs.specs.Reading.{FormulaReading, PassesNoEnd, clauses_to_come, ends_to_come}
 use Rattle.report.specs.Lines.{a_model, fault_line, fault_status}
 use Rattle.report.specs.declared.status.Status.{Status, TheVariants.Malformed}
 use Rattle.report.specs.declared.status.Status.TheVariants.{OutOfMemory as NoMemory, Verified}
 use Rattle.sat_check.proofs.EndingLemmas.{claim_consistent}
-use Rattle.sat_check.proofs.FormulaLemmas.{FaultAfter, Gave, NonePassed, Reads, Reads-clause, Reads-done, Reads-fault}
-use Rattle.sat_check.proofs.FormulaLemmas.{Reads-start, fault_left, later_left, length_push, seen_map, seen_nothing, seen_within, unread_fault}
-use Rattle.cnf_base.proofs.StreamLemmas.{Along-map, Along-then}
-use Rattle.cnf_base.specs.Code.Seen.{OfSeen}
-use Rattle.cnf_base.specs.Stream.{Along, Stream, Suffix, unread_stream}
-use Rattle.dimacs.specs.Formula.{Body, ends_at, formula_at, opened}
-use Rattle.dimacs.specs.Reading.{FormulaReading, PassesNoEnd, clauses_to_come, ends_to_come, unopened}
-use Rattle.sat_check.specs.Code.FormulaReach.{LeavesFault}
-use Rattle.sat_check.specs.Code.Judging.{LeavesUnmet}
+use Rattle.sat_check.proofs.FormulaLemmas.{FaultAfter, Gave, NonePassed, Reads, Reads-clause}
+use Rattle.sat_check.proofs.FormulaLemmas.{Reads-done, Reads-fault, Reads-start, fault_left}
+use Rattle.sat_check.proofs.FormulaLemmas.{later_left, length_push, seen_map, seen_nothing}
+use Rattle.sat_check.proofs.FormulaLemmas.{seen_within, unread_fault}
+use Rattle.sat_check.specs.{Code.FormulaReach.LeavesFault, FormulaReach.ReadsNoFurtherThanFault}
+use Rattle.sat_check.specs.Code.Judging.{LeavesUnmet, Judges, ReadsToUnmet, judged_report, unmet_in}
 use Rattle.sat_check.specs.declared.judgement.Judgement.TheVariants.{Met, Unmet}
-use Rattle.std.proofs.Common.{ap, cond, sym, ◌++◌}
-use Rattle.std.proofs.lemmas.Option.{none-some}
 use Rattle.sat_check.proofs.OutcomeLemmas.{both_told, written_model}
 use Rattle.sat_check.proofs.SoundLemmas.{fault_is_no_verdict, outcome_complete, outcome_verified}
-use Rattle.sat_check.specs.Code.Judging.{Judges, ReadsToUnmet, judged_report, unmet_in}
-use Rattle.sat_check.specs.FormulaReach.{ReadsNoFurtherThanFault}
 use Rattle.sat_check.specs.ModelReport.{ChecksModel, ModelConsequences, ReadsFormulaNoFurther}
-use Rattle.sat_check.specs.ModelReport.{Satisfies, TellsModelFault, TellsUnmet}
-use Rattle.sat_check.specs.ModelReport.{claim_report, first_unmet, meets, model_report}
+use Rattle.sat_check.specs.ModelReport.{Satisfies, TellsModelFault, TellsUnmet, claim_report}
+use Rattle.sat_check.specs.ModelReport.{first_unmet, meets, model_report}
 use Rattle.sat_check.specs.{Reach.TellsFault, Report.Outcome, Report.Report, Report.concluded}
 use Rattle.sat_check.specs.declared.{checked.Checked.Checked, judgement.Judgement.Judgement}
-use Rattle.std.proofs.Common.{List, None, Option, Some, [], arith, codes, false, get_or, length}
-use Rattle.std.proofs.Common.{refl, rules, slice_get, suc, true, ℕ, ◌%◌, ◌*◌, ◌+◌, ◌-◌, ◌/◌, ◌<◌}
-use Rattle.std.proofs.Common.{◌∙◌, ◌∷◌, ◌≡◌, ◌≤◌}
-use Rattle.std.proofs.lemmas.{Bool.Decides.nat_tests, Option.slice_get-get_or}
-use Rattle.std.specs.Prelude.{Err, IfOk, IsTrue, Ok, Result, ◌==◌}
 use Rattle.theory.specs.Models.{Assignment, HasModel, holds}
 use Rattle.writers.specs.Lines.{Sink}
-use Rattle.sat_check.specs.declared.input_fault.InputFault.TheVariants as of
 
 -- ---- A formula is judged by listed literals, clause by clause
 
@@ -58,7 +54,7 @@ not_passed : (listed : List Literal) (read : List Clause) (old : FormulaReading)
     → LeavesUnmet listed (clauses_to_come old i).clauses (ends_to_come old i) k
 not_passed listed read old i k met passed m offset unmet at = let later = passed.0.clauses in
     let among : first_unmet (1 + length read) listed later ≡ Some m =
-    sym (first_unmet-append 1 listed read later met) ∙ sym (ap (λ b. first_unmet 1 listed b.clauses) passed.2.0) ∙ unmet in
+    grind (arith, first_unmet-append) in
     let least = unmet_bound (1 + length read) listed later m among in
     later_left read old i k (m - 1) offset passed (omega (arith, least)) at
 
@@ -78,8 +74,8 @@ module _ (listed : List Literal) (old now new : FormulaReading) (met : ℕ) (so_
   Judging-clause gives is count header = record {
     clauses = so_far.clauses ++ c ∷ [];
     reads = Reads-clause old now new so_far.clauses so_far.reads c gives count header;
-    all = first_unmet-append 1 listed so_far.clauses (c ∷ []) so_far.all ∙ ap (λ b. cond b None (Some (1 + length so_far.clauses))) is;
-    count = ap (λ n. n + 1) so_far.count ∙ sym (length_push so_far.clauses c);
+    all = grind (arith, first_unmet-append);
+    count = grind (arith, length_push);
   }
 
   -- what is found of the clauses, and that no more was read than the first that isn't met, nor than the token at fault
@@ -135,14 +131,13 @@ module _ (listed : List Literal) (left : Reader) (borrows : List ℕ) (source : 
   all_judges result run = seen_map left new _ _
       (seen_within (λ p i j. Leaves result (formula_at p i) (ends_at p i) j) left borrows source last new is kept run) (λ i x. (
         x.1.0,
-        λ k offset unmet at. let later = x.1.1 k offset unmet at in omega (arith, later, x.2),
-        λ offset at. let later = x.1.2 offset at in omega (arith, later, x.2),
+        λ k offset unmet at. grind arith,
+        λ offset at. grind arith,
       ))
 
   -- the header has a fault
   pub judges_fault : (f : Fault) → Along source last (λ i j. (formula_at source.place i ≡ unopened f) × PassesNoEnd (ends_at source.place i) j) → AllJudges listed left new (Err f)
-  judges_fault f run = all_judges (Err f) (Along-map _ _ _ _ run (λ i j m e.
-      rw e.0 (search rules, λ k offset unmet at. absurd (none-some k unmet), λ offset at. e.1 _ offset at)))
+  judges_fault f run = all_judges (Err f) (grind (arith, none-some))
 
   -- the clauses were judged
   pub judges_body : (r : FormulaReading) (result : Result Judgement Fault) → Along source r.stream (λ i j. (formula_at source.place i ≡ opened r.header (clauses_to_come r j)) × (ends_at source.place i ≡ ends_to_come r j))
@@ -248,17 +243,17 @@ satisfied_model : (claim : Result (List Literal) Fault) (clauses : List Clause) 
 satisfied_model claim clauses s = (
   assigned s.listed,
   λ k c at. let w = any_some (has s.listed) c (s.met k c at) in
-      any_from (holds (assigned s.listed)) c w.0 w.1 (listed_holds s.listed s.consistent w.0 w.2),
+      grind (arith, any_from, listed_holds),
 )
 
 -- what follows from the report of a model
 model_consequences : (i j : Input) (old new : Option (List ℕ)) (status : Status) → Outcome status old new (model_report i j) → ModelConsequences i j old new status
 model_consequences i j old new status o = record {
-  whole = λ is. (said (outcome_verified status old new (model_report i j) is o)).1;
-  satisfied = λ is. (said (outcome_verified status old new (model_report i j) is o)).0;
+  whole = λ is. (said (grind (arith, outcome_verified))).1;
+  satisfied = λ is. (said (grind (arith, outcome_verified))).0;
   complete = search (rules, outcome_complete, satisfied_verified);
-  has_model = λ is. satisfied_model (claim_of j) (formula_of i).clauses (said (outcome_verified status old new (model_report i j) is o)).0;
-  written = λ w. satisfied_model (claim_of j) (formula_of i).clauses (said (written_model (claim_of j) (formula_of i) status old new o w)).0;
+  has_model = λ is. satisfied_model (claim_of j) (formula_of i).clauses (said (grind (arith, outcome_verified))).0;
+  written = λ w. satisfied_model (claim_of j) (formula_of i).clauses (said (grind (arith, written_model))).0;
 }
   where
     said : (model_report i j).status ≡ Verified → Satisfies (claim_of j) (formula_of i).clauses × ((formula_of i).fault ≡ None)
@@ -279,7 +274,7 @@ pub both_check_model : (formula formula_new output output_new : Reader) (Told : 
     → OfBothSeen formula formula_new output output_new (λ i j. ChecksModel i j first last status × ReadsFormulaNoFurther (claim_of j) i formula formula_new × Told i j)
 both_check_model formula formula_new output output_new Told status old new first last before after =
     both_told formula formula_new output output_new (Made formula formula_new Told status) _ old new first last
-    before after (λ i j x. (checks_model i j first last status x.0, x.2, x.3))
+    before after (λ i j x. grind (arith, checks_model))
 
 -- ---- What is told of a fault
 

@@ -1,10 +1,14 @@
 -- What a run wrote, and how it ended.
+use Rattle.std.proofs.Common.{Bool, List, None, Option, Some, [], ap, append_assoc, arith, codes}
+use Rattle.std.proofs.Common.{false, length, min, not, refl, rules, subst, suc, sym, true, zero, ℕ}
+use Rattle.std.proofs.Common.{◌%◌, ◌&&◌, ◌++◌, ◌+◌, ◌-◌, ◌/◌, ◌==◌, ◌^◌, ◌||◌, ◌∙◌, ◌∷◌, ◌≡◌}
 use Rattle.cnf_base.proofs.TextLemmas.{append_nil}
-use Rattle.cnf_base.specs.{Literals.Clause, Literals.Literal, Printing.line_of}
-use Rattle.cnf_base.specs.{Seen.OfBothSeen, Stream.Input, Stream.Reader, Text.lines_of}
+use Rattle.cnf_base.specs.{Literals.Clause, Literals.Literal, Printing.line_of, Seen.OfBothSeen}
+use Rattle.cnf_base.specs.{Stream.Input, Stream.Reader, Text.lines_of}
 use Rattle.cnf_base.specs.declared.fault.{BinaryFault.BinaryFault, Fault.Fault, TextFault.TextFault}
 use Rattle.dimacs.specs.{Formula.Formula, Formula.formula_of, declared.header.Header.Header}
 use Rattle.{proofs.specs.Reading.Proof, report.specs.Lines.Certificate, report.specs.Lines.a_model}
+use Rattle.{theory.specs.declared.refusal.Refusal.Refusal, writers.proofs.LineLemmas.Appends-then}
 use Rattle.report.specs.Lines.{a_proof, binary_text, fault_line, fault_status, formula_line}
 use Rattle.report.specs.Lines.{kind_text, refusal_line, sentence, shown, sign_text, steps_line}
 use Rattle.report.specs.{Lines.with_cause, Lines.word_text, declared.status.Status.Status}
@@ -14,18 +18,14 @@ use Rattle.sat_check.specs.Code.Reach.{IsVerdict}
 use Rattle.sat_check.specs.ModelReport.{claim_report, clauses_report, first_unmet, met_report}
 use Rattle.sat_check.specs.Report.{HasWritten, Outcome, Report, ReportsFormula, concluded}
 use Rattle.sat_check.specs.Report.{proof_report, text_of, trace_lines, verdict_report, with_lines}
-use Rattle.std.proofs.Common.{Bool, List, None, Option, Some, [], ap, append_assoc, arith, codes}
-use Rattle.std.proofs.Common.{false, length, min, not, refl, rules, subst, suc, sym, true, zero}
-use Rattle.std.proofs.Common.{ℕ, ◌%◌, ◌&&◌, ◌++◌, ◌+◌, ◌-◌, ◌/◌, ◌==◌, ◌^◌, ◌||◌, ◌∙◌, ◌∷◌, ◌≡◌}
 use Rattle.std.proofs.lemmas.Bool.{and_parts, Decides.nat_tests}
 use Rattle.std.proofs.lemmas.Grind.{common_steps, flat_map-append}
 use Rattle.std.proofs.lemmas.List.{append_cancel_left, Folds.list_all-append, Folds.list_any-append}
 use Rattle.std.specs.Fmt.{digit_glyph, digits, digits_onto}
-use Rattle.std.specs.{Io.KnownBytes.Appends, List.list_all, List.list_any, Prelude.Err}
-use Rattle.std.specs.{Prelude.Ok, Prelude.OnOk, Prelude.Result, Prelude.decimal, Str.bytes_eq}
+use Rattle.std.specs.{Io.KnownBytes.Appends, List.list_all, List.list_any, Prelude.Err, Prelude.Ok}
+use Rattle.std.specs.{Prelude.OnOk, Prelude.Result, Prelude.decimal, Str.bytes_eq}
 use Rattle.theory.specs.{Rules.Rule, Verdicts.Ending, Verdicts.no_empty_clause, Verdicts.refused}
 use Rattle.theory.specs.{Verdicts.system_of, Verdicts.verified, declared.accepted.Accepted.Accepted}
-use Rattle.{theory.specs.declared.refusal.Refusal.Refusal, writers.proofs.LineLemmas.Appends-then}
 use Rattle.writers.{proofs.LineLemmas.Writes-nothing, specs.Lines.Sink, specs.Lines.Writes}
 
 pub text_of-append : (front back : List (List ℕ)) → text_of (front ++ back) ≡ text_of front ++ text_of back
@@ -84,7 +84,7 @@ Outcome-refused old new r w = ([], r.lines, refl, Writes-nothing old new w)
 pub Outcome-line : (status : Status) (old now : Sink) (new : Option (List ℕ)) (text : List ℕ) (r : Report)
     → Writes old now (line_of text) → now.is_broken ≡ false → Outcome status now.held new r → Outcome status old.held new (with_lines (text ∷ []) r)
 Outcome-line status old now new text r w sound o =
-    Outcome-after status old.held now.held new (text ∷ []) r (rw (append_nil (line_of text)) (Writes-all old now (line_of text) w sound)) o
+    search (rules, Outcome-after, append_nil, Writes-all)
 
 -- the bytes of a line, by the text that they are
 written : (old new : Sink) (bytes text : List ℕ) → bytes ≡ text → Writes old new (line_of bytes) → Writes old new (line_of text)
@@ -99,14 +99,14 @@ module _ (certificate : Certificate) (status : Status) (old first second last : 
     pub concluded-second : Outcome WriteFailed old.held second.held (concluded certificate text status)
     concluded-second =
         Outcome-line WriteFailed old first second.held text (record { lines = sentence certificate status ∷ []; status = status }) (written old first bytes text e w) sound
-        (Outcome-broken first second (sentence certificate status) (record { lines = []; status = status }) (written first second last_bytes (sentence certificate status) is v))
+        (grind (arith, Outcome-broken, written))
 
     module _ (also : second.is_broken ≡ false) (flushed : Writes second last []) where
       pub concluded-flush : Outcome WriteFailed old.held last.held (concluded certificate text status)
       concluded-flush =
           Outcome-line WriteFailed old first last.held text (record { lines = sentence certificate status ∷ []; status = status }) (written old first bytes text e w) sound
-          (Outcome-line WriteFailed first second last.held (sentence certificate status) (record { lines = []; status = status }) (written first second last_bytes (sentence certificate status) is v) also
-          (Outcome-closed second last (record { lines = []; status = status }) flushed))
+          (Outcome-line WriteFailed first second last.held (sentence certificate status) (record { lines = []; status = status }) (grind (arith, written)) also
+          (grind (arith, Outcome-closed)))
 
       pub concluded-whole : last.is_broken ≡ false → Outcome status old.held last.held (concluded certificate text status)
       concluded-whole end =

@@ -1,4 +1,6 @@
 -- A report: the rest of it, step by step, and the whole.
+use Rattle.std.proofs.Common.{Bool, Err, List, None, Ok, Option, Some, [], ap, arith, codes, cond}
+use Rattle.std.proofs.Common.{false, length, max, refl, rules, sym, true, ℕ, ◌++◌, ◌+◌, ◌∙◌, ◌∷◌}
 use Rattle.cnf_base.specs.{Literals.Clause, Printing.line_of, Stream.Input}
 use Rattle.cnf_base.specs.Text.{Listing, listing_of}
 use Rattle.cnf_base.specs.declared.fault.Fault.{Fault, TheVariants.OutOfMemory}
@@ -13,10 +15,8 @@ use Rattle.sat_check.proofs.OutcomeLemmas.{Outcome-after, Outcome-line, Writes-a
 use Rattle.sat_check.specs.Code.Checking.{IsLoaded, IsRefused, Loads, Rest, Stops, counted}
 use Rattle.sat_check.specs.Code.Checking.{end_report, is_memory, peak_of, traced}
 use Rattle.sat_check.specs.Code.Reach.{IsVerdict}
-use Rattle.sat_check.specs.Report.{Checks, Outcome, Report, Reports, ReportsFormula}
-use Rattle.sat_check.specs.Report.{bare_steps, concluded, proof_report, text_of, with_lines}
-use Rattle.std.proofs.Common.{Bool, Err, List, None, Ok, Option, Some, [], ap, arith, codes, cond}
-use Rattle.std.proofs.Common.{false, length, max, refl, rules, sym, true, ℕ, ◌++◌, ◌+◌, ◌∙◌, ◌∷◌}
+use Rattle.sat_check.specs.Report.{Checks, Outcome, Report, Reports, ReportsFormula, bare_steps}
+use Rattle.sat_check.specs.Report.{concluded, proof_report, text_of, with_lines}
 use Rattle.std.{proofs.Common.◌≡◌, proofs.Common.◌≤◌, specs.Prelude.Result}
 use Rattle.{steps.specs.ProofSession.View, theory.proofs.LawLemmas.Existence.after_finite}
 use Rattle.theory.proofs.LawLemmas.{Existence.same_finite, Existence.start_finite, Rules.after_same}
@@ -69,7 +69,7 @@ module _ (trace : Bool) (s : State) (n peak : ℕ) where
 
   pub Rest-some : IsFinite s → (p : Proof) → (r : Report) × Rest trace s n peak p r
   Rest-some b p = let v = some_ending (bare_steps p) s b in
-      (proof_report trace n (max peak (peak_of s (bare_steps p) v.0)) v.0 v.1 p.fault, record { words = v.0; ending = v.1; verdict = v.2; report = refl })
+      (proof_report trace n (max peak (peak_of s (bare_steps p) v.0)) v.0 v.1 p.fault, grind arith)
 
   module _ (st : Step) (end : StepEnd) (offset : ℕ) (p : Proof) where
     pub Rest-refused : (r : Refusal) → Answers s st (Err r) → Rest trace s n peak (with_step st end offset p) (concluded a_proof (refusal_line (n + 1) r) NotVerified)
@@ -171,7 +171,7 @@ module _ (trace : Bool) (number : ℕ) (old : View) (step : Step) (was now : Sin
       _,
       verified_rest n offset end p (last_word word e) least,
       rw (← traced_same trace number (n + 1) word is) (Outcome-after status was.held mid.held now.held (traced trace number word) _ (Writes-all was mid (text_of (traced trace number word)) wrote whole)
-          (rw (← steps_same number (n + 1) m new.peak is shown) o)),
+          (grind (arith, steps_same))),
     )
 
 -- ---- A whole report
@@ -198,7 +198,7 @@ module _ (rule : Rule) (s : View) (clauses : List Clause) (l : IsLoaded rule s c
   pub checks_some : (trace : Bool) (h : Header) (p : Proof) → (r : Report) × Checks (system_of rule) trace h clauses p (with_lines (formula_line h ∷ []) r)
   checks_some trace h p = let v = some_verdict rule clauses (bare_steps p) in
       let peak = peak_of (start rule clauses) (bare_steps p) v.0 in
-      (proof_report trace 0 peak v.0 v.1 p.fault, record { words = v.0; ending = v.1; verdict = v.2; report = refl })
+      (proof_report trace 0 peak v.0 v.1 p.fault, grind arith)
 
 -- ---- From the formula to the report
 

@@ -1,4 +1,6 @@
 -- What status 0 and a written `s VERIFIED` mean, by a rule and by DRAT's own proof system.
+use Rattle.std.proofs.Common.{arith, Bool, List, None, Option, [], ap, false, max, min, refl, rules}
+use Rattle.std.proofs.Common.{slice_get, true, ℕ, ◌-◌, ◌^◌, ◌∷◌, ◌≡◌, ◌⊎◌}
 use Rattle.cnf_base.specs.Literals.{Clause, size}
 use Rattle.cnf_base.specs.{Seen.OfBothSeen, Stream.Input, Stream.Reader, declared.fault.Fault.Fault}
 use Rattle.dimacs.specs.{Formula.Formula, Formula.formula_of, declared.header.Header.Header}
@@ -8,11 +10,9 @@ use Rattle.sat_check.proofs.OutcomeLemmas.{both_told, written_verified}
 use Rattle.sat_check.specs.Code.Checking.{AllReports, RunsInto, peak_of}
 use Rattle.sat_check.specs.FormulaReach.{ReadsNoFurtherThanFault}
 use Rattle.sat_check.specs.{Reach.ReadsNoFurther, Reach.TellsWhy, Report.Checks, Report.ChecksProof}
+use Rattle.sat_check.specs.{Runs.Runs, Runs.RunsPlaced, declared.checked.Checked.Checked}
 use Rattle.sat_check.specs.Report.{IsUnlessBroken, Outcome, ProofConsequences, Report, Reports}
 use Rattle.sat_check.specs.Report.{ReportsAreUnique, ReportsFormula, Verifies, bare_steps, peak_by}
-use Rattle.sat_check.specs.{Runs.Runs, Runs.RunsPlaced, declared.checked.Checked.Checked}
-use Rattle.std.proofs.Common.{Bool, List, None, Option, [], ap, false, max, min, refl}
-use Rattle.std.proofs.Common.{rules, slice_get, true, ℕ, ◌-◌, ◌^◌, ◌∷◌, ◌≡◌, ◌⊎◌}
 use Rattle.std.specs.Prelude.{MatchBool, sum_by, ◌↔◌}
 use Rattle.theory.proofs.LawLemmas.Verdicts.{verdict_sound, verdict_unique}
 use Rattle.theory.specs.{Drat.after_drat, Drat.drat_step, Losses.HasLost, Losses.LostBySteps}
@@ -57,8 +57,8 @@ proof_consequences : (rule : Rule) (trace : Bool) (i : Input) (p : Proof) (old n
 proof_consequences rule trace i p old new status x = record {
   verified = search (rules, report_verified, outcome_verified);
   complete = search (rules, outcome_complete, verifies_reported);
-  sound = λ is. refuted (outcome_verified status old new x.report is x.outcome);
-  written = λ w. refuted (written_verified rule trace i p x.report status old new x.reports x.outcome w);
+  sound = λ is. refuted (grind (arith, outcome_verified));
+  written = λ w. refuted (grind (arith, written_verified));
 }
   where
     refuted : x.report.status ≡ Verified → ¬ HasModel (slice_get (formula_of i).clauses)

@@ -1,4 +1,9 @@
 -- The theorem, by the report and the grammars.
+use Rattle.std.proofs.Common.{arith, Bool, List, None, Option, Some, ap, append-nil, codes, false}
+use Rattle.std.proofs.Common.{refl, reverse, rules, slice_get, true, ℕ, ◌≡◌}
+use Rattle.std.{proofs.lemmas.Bool.false_from_ne_true, specs.List.list_all, specs.Prelude.IsFalse}
+use Rattle.std.proofs.lemmas.List.Sums.{AllPass-from_list_all, list_all-from_AllPass}
+use Rattle.std.proofs.lemmas.Option.{get_or_from_slice_get, slice_get-get_or, slice_get_within}
 use Rattle.cnf_base.proofs.SeenLemmas.{seen_is_some}
 use Rattle.cnf_base.proofs.SetLemmas.{all_each, any_from, any_some, each_all}
 use Rattle.cnf_base.specs.Literals.{Clause, Literal, has}
@@ -11,8 +16,8 @@ use Rattle.proofs.proofs.{BinaryGrammar.binary_both_ways, DratGrammar.drat_both_
 use Rattle.proofs.proofs.LratGrammar.{lrat_both_ways}
 use Rattle.proofs.specs.{Grammar.IsLratText, Lrat.lrat_steps, Reading.Proof, Steps.Step}
 use Rattle.report.specs.declared.status.Status.{Status}
-use Rattle.sat_check.proofs.EndingLemmas.{claim_consistent, claim_ends}
-use Rattle.sat_check.proofs.EndingLemmas.{claim_text, formula_ends, formula_header, has_reverse}
+use Rattle.sat_check.proofs.EndingLemmas.{claim_consistent, claim_ends, claim_text, formula_ends}
+use Rattle.sat_check.proofs.EndingLemmas.{formula_header, has_reverse}
 use Rattle.sat_check.proofs.ModelLemmas.{Made, assigned, listed_holds, verified_satisfied}
 use Rattle.sat_check.proofs.OutcomeLemmas.{written_model, written_verified}
 use Rattle.sat_check.proofs.SoundLemmas.{outcome_verified, report_verified, verifies_sound}
@@ -21,12 +26,6 @@ use Rattle.sat_check.specs.Report.{Outcome, Reports, Verifies, bare_steps, drat_
 use Rattle.sat_check.specs.Runs.{IsDratProof, IsVerifiedBy}
 use Rattle.sat_check.specs.Theorem.{IsAnswered, IsFormulaText, IsSatisfied, ShowsSatisfied}
 use Rattle.sat_check.specs.Theorem.{ShowsUnsatisfiable, StepsVerify}
-use Rattle.std.proofs.Common.{Bool, List, None, Option, Some, ap, append-nil, codes}
-use Rattle.std.proofs.Common.{false, inl, inr, refl, reverse, rules, slice_get, true, ℕ, ◌∙◌, ◌≡◌}
-use Rattle.std.proofs.lemmas.Bool.{false_from_ne_true}
-use Rattle.std.proofs.lemmas.List.Sums.{AllPass-from_list_all, list_all-from_AllPass}
-use Rattle.std.proofs.lemmas.Option.{get_or_from_slice_get, slice_get-get_or, slice_get_within}
-use Rattle.std.specs.{List.list_all, Prelude.IsFalse}
 use Rattle.theory.specs.Models.{Assignment, HasModel, holds, satisfies}
 use Rattle.theory.specs.{Rules.Rule, Verdicts.system_of}
 
@@ -54,7 +53,7 @@ formula_text : (bytes : List ℕ) → (formula_of (input_of bytes)).fault ≡ No
     → (h : Header) × IsFormulaText bytes h (formula_of (input_of bytes)).clauses
 formula_text bytes whole = let read = formula_header (input_of bytes) whole in
     let written = formula_grammar.read_is_written bytes read.0 _ read.1 in
-    (read.0, record { within = written.0; text = written.1 })
+    grind arith
 
 -- and a text is read as those
 text_read : (bytes : List ℕ) (h : Header) (clauses : List Clause) →
@@ -89,10 +88,7 @@ module _ (rule : Rule) (trace : Bool) (steps : Input → Proof)
   verifies : IsAnswered (codes "s VERIFIED") status old new → (i j : Input) →
       IsSeen both.first i → IsSeen both.second j → Verifies (system_of rule) (formula_of i) (steps j)
   verifies answer i j seen also = let x = told i j (both.fact i j seen also) in
-      report_verified rule trace i (steps j) x.report x.reports (elim answer [
-        | inl is ↦ outcome_verified status old new x.report is x.outcome
-        | inr w ↦ written_verified rule trace i _ x.report status old new x.reports x.outcome w
-      ])
+      report_verified rule trace i (steps j) x.report x.reports (grind (arith, outcome_verified, written_verified))
 
   -- so the formula was read whole
   whole_formula : IsAnswered (codes "s VERIFIED") status old new → (bytes : List ℕ) →
@@ -141,8 +137,7 @@ lrat_read bytes ss text = (lrat_both_ways.written_is_read bytes ss text).all
 met_true : (v : Assignment) (listed : List Literal) → list_all (holds v) (reverse listed) ≡ true →
     (c : Clause) → meets listed c ≡ true → satisfies v c ≡ true
 met_true v listed trues c h = let w = any_some (has listed) c h in
-    any_from (holds v) c w.0 w.1
-    (all_each (holds v) (reverse listed) w.0 trues (has_reverse listed w.0 ∙ w.2))
+    grind (arith, any_from, all_each, reverse, has_reverse)
 
 satisfied_by : (bytes output_bytes : List ℕ) →
     Satisfies (claim_of (input_of output_bytes)) (formula_of (input_of bytes)).clauses
@@ -158,7 +153,7 @@ satisfied_by bytes output_bytes s whole = let text = formula_text bytes whole in
       listed = claim.1;
       some = (
         assigned (reverse s.listed),
-        each_all _ (reverse s.listed) (listed_holds (reverse s.listed) claim.0.consistent),
+        grind (arith, each_all, reverse, listed_holds),
       );
       each = search (rules, at_all, met_true);
     }
@@ -172,10 +167,7 @@ module _ (formula formula_new output output_new : Reader) (old new : Option (Lis
       IsSeen both.first i → IsSeen both.second j
       → Satisfies (claim_of j) (formula_of i).clauses × ((formula_of i).fault ≡ None)
   confirms answer i j seen also = let o = told i j (both.fact i j seen also) in
-      verified_satisfied (claim_of j) (formula_of i) (elim answer [
-        | inl is ↦ outcome_verified status old new (model_report i j) is o
-        | inr w ↦ written_model (claim_of j) (formula_of i) status old new o w
-      ]) (claim_consistent j)
+      verified_satisfied (claim_of j) (formula_of i) (grind (arith, outcome_verified, written_model)) (claim_consistent j)
 
   pub shows_satisfied : ShowsSatisfied formula.left output.left status old new
   shows_satisfied bytes output_bytes holds also_holds answer =

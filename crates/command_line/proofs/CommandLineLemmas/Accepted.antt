@@ -6,18 +6,15 @@ use Rattle.std.proofs.Common.{length-append, rules}
 use Rattle.std.proofs.lemmas.{List.Elements.filter-append, Slice.Eq.bytes_eq-Decides}
 use Rattle.std.proofs.lemmas.{Grind.common_steps, Bool.Decides.nat_tests}
 use Rattle.std.specs.Prelude.{◌==◌, ◌&&◌, ◌||◌, drop, is_some, not, slice_get, if◌then◌else◌}
-use Rattle.std.specs.Prelude.{filter}
-use Rattle.std.specs.{Str.bytes_eq, List.fold, List.list_all, List.list_any}
+use Rattle.std.specs.{Prelude.filter, Str.bytes_eq, List.fold, List.list_all, List.list_any}
 use Rattle.clap.specs.Faults.{check_fault, default_fault, defaults_fault, fault_of, settle_fault}
 use Rattle.clap.specs.Faults.{turn_fault, walk_fault}
-use Rattle.clap.specs.{Kinds.Kinds, Kinds.or_else, Takes.is_given}
+use Rattle.clap.specs.{Kinds.Kinds, Kinds.or_else, Takes.is_given, Walk.with_default}
 use Rattle.clap.specs.Walk.{Held, Row, Text, Walk, finished, nothing_held, settled, walk, walked}
-use Rattle.clap.specs.Walk.{with_default}
 use Rattle.clap.specs.declared.error.kind.ErrorKind.TheVariants as kind
-use Rattle.command_line.specs.Code.Commands.{command_of}
+use Rattle.command_line.specs.{Code.Commands.command_of, declared.tool.Tool.Tool}
 use Rattle.command_line.specs.Words.{Accepts, is_among, is_empty_word, is_flag, is_known}
 use Rattle.command_line.specs.Words.{is_read_twice, is_some_empty, names, times}
-use Rattle.command_line.specs.declared.tool.Tool.{Tool}
 use Rattle.command_line.specs.declared.tool.Tool.TheVariants.{Drat, Lrat, Model}
 use Rattle.command_line.proofs.CommandLineLemmas.Rules.{fault_is, files_and_texts, flag_full}
 use Rattle.command_line.proofs.CommandLineLemmas.Rules.{rules_of, top_of}

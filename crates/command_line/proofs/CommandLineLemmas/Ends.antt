@@ -4,19 +4,17 @@ use Rattle.std.proofs.Common.{Bool, true, false, Option, Some, None, ℕ, cond, 
 use Rattle.std.proofs.lemmas.{Slice.Eq.bytes_eq-Decides, List.Folds.find-append}
 use Rattle.std.specs.Prelude.{◌&&◌, drop, is_some, option_and_then, slice_get}
 use Rattle.std.specs.{Str.bytes_eq, List.fold, Option.option_or}
-use Rattle.clap.specs.Faults.{fault_of, walk_fault}
+use Rattle.clap.specs.{Faults.fault_of, Faults.walk_fault, Simple.matches_of}
 use Rattle.clap.specs.Walk.{Row, Rule, Text, Walk, finished, first_of, nothing_held, one_of}
 use Rattle.clap.specs.Walk.{reading_by, row_text, settled_rows, walk, with_default}
-use Rattle.clap.specs.Simple.{matches_of}
 use Rattle.clap.specs.declared.parser.matches.ValueSource.TheVariants.{DefaultValue}
 use Rattle.command_line.specs.{Code.Commands.command_of, Words.is_among, Words.is_flag, Words.names}
 use Rattle.command_line.specs.declared.tool.Tool.{Tool}
 use Rattle.command_line.specs.declared.tool.Tool.TheVariants.{Drat, Lrat, Model}
 use Rattle.command_line.proofs.CommandLineLemmas.Rules.{fault_is, flag_full, files_and_texts}
 use Rattle.command_line.proofs.CommandLineLemmas.Rules.{formula_full, matches_are, rules_of}
-use Rattle.command_line.proofs.CommandLineLemmas.Rules.{second_full, top_of}
+use Rattle.command_line.proofs.CommandLineLemmas.{Rules.second_full, Rules.top_of, Rows.row_for}
 use Rattle.command_line.proofs.CommandLineLemmas.Rows.{at_end, has_row-row_for, option_or-None}
-use Rattle.command_line.proofs.CommandLineLemmas.Rows.{row_for}
 use Rattle.command_line.proofs.CommandLineLemmas.Turns.{at, or_nil}
 use Rattle.command_line.proofs.CommandLineLemmas.Steps.{After, Shows, end_mark, file_row, flag_row}
 use Rattle.command_line.proofs.CommandLineLemmas.Steps.{start_after, words_after}

@@ -13,9 +13,8 @@ use Rattle.command_line.specs.{Code.Commands.command_of, declared.tool.Tool.Tool
 use Rattle.command_line.proofs.CommandLineLemmas.Rules.{fault_is, name_of, rules_of, top_of}
 use Rattle.command_line.proofs.CommandLineLemmas.Turns.{IsName, at, holding, long_met, longs_of}
 use Rattle.command_line.proofs.CommandLineLemmas.Turns.{nat_eq_same, or_nil, short_refused}
-use Rattle.command_line.proofs.CommandLineLemmas.Turns.{shorts_of}
+use Rattle.command_line.proofs.CommandLineLemmas.{Turns.shorts_of, Steps.tail_free}
 use Rattle.command_line.proofs.CommandLineLemmas.Steps.{After, end_mark, start_after, step_after}
-use Rattle.command_line.proofs.CommandLineLemmas.Steps.{tail_free}
 
 -- the text after a hyphen is text, and has a first character
 tail_is_text : (y : ℕ) (ys : Text) → is_utf8 (45 ∷ y ∷ ys) ≡ true → is_utf8 (y ∷ ys) ≡ true

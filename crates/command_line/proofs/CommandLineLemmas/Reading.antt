@@ -7,11 +7,10 @@ use Rattle.clap.specs.Words.{App, FailsBy, Text, fault_of, found_of, is_simple_a
 use Rattle.clap.specs.Words.{one_of, one_text, rows_of}
 use Rattle.clap.specs.Simple.{HasMatchesOf, is_simple, matches_of}
 use Rattle.clap.specs.declared.{error.Error.Error, parser.matches.ArgMatches.ArgMatches}
-use Rattle.clap.specs.declared.error.kind.ErrorKind.TheVariants as kind
 use Rattle.clap.proofs.WalkLemmas.{one_text-rows}
-use Rattle.command_line.specs.Code.Commands.{command_of}
+use Rattle.clap.specs.declared.error.kind.ErrorKind.TheVariants as kind
+use Rattle.command_line.specs.{Code.Commands.command_of, declared.tool.Tool.Tool}
 use Rattle.command_line.specs.Words.{is_known, Accepts, end_mark, is_among, is_flag, said_by}
-use Rattle.command_line.specs.declared.tool.Tool.{Tool}
 use Rattle.command_line.proofs.CommandLineLemmas.Rules.{is_plain, is_simple_too}
 use Rattle.command_line.proofs.CommandLineLemmas.Ends.{Reads, flag_text, parse_reads}
 use Rattle.command_line.proofs.CommandLineLemmas.Known.{all_text, parse_knows}

@@ -2,8 +2,7 @@
 use Rattle.std.proofs.Common.{arith, ◌≡◌, refl, List, [], ◌∷◌, ◌++◌, append-nil}
 use Rattle.std.proofs.Common.{true, false, Option, Some, None, true≢false, rules}
 use Rattle.std.proofs.lemmas.List.{Folds.find-append, Folds.list_any-append, Elements.filter-append}
-use Rattle.std.specs.Prelude.{is_some}
-use Rattle.std.specs.{Str.bytes_eq, List.find, Option.option_or}
+use Rattle.std.specs.{Prelude.is_some, Str.bytes_eq, List.find, Option.option_or}
 use Rattle.clap.specs.Walk.{Row, Rule, Text, at_row, has_row, reading_by, with_values, without}
 use Rattle.clap.specs.declared.parser.matches.ValueSource.TheVariants.{CommandLine}
 use Rattle.command_line.specs.{Words.is_among, Words.is_flag, Words.names, declared.tool.Tool.Tool}

@@ -2,15 +2,13 @@
 use Rattle.std.proofs.Common.{◌≤◌, ◌≡◌, ◌∙◌, ◌<◌, ap, sym, subst, refl, codes, List, [], ◌∷◌, ◌++◌}
 use Rattle.std.proofs.Common.{append_assoc, append-nil, Bool, true, false, Option, Some, None, ℕ}
 use Rattle.std.proofs.Common.{cond, suc, true≢false, ⊎_elim, arith, length, rules}
-use Rattle.std.proofs.lemmas.Slice.Eq.{bytes_eq-Decides}
+use Rattle.std.{proofs.lemmas.Slice.Eq.bytes_eq-Decides, specs.Str.bytes_eq, specs.List.fold}
 use Rattle.std.specs.Prelude.{◌==◌, ◌&&◌, ◌||◌, is_some, option_map, slice_get}
-use Rattle.std.specs.{Str.bytes_eq, List.fold}
 use Rattle.clap.specs.Faults.{settle_fault, step_fault, turn_fault, walk_fault}
-use Rattle.clap.specs.Kinds.{or_else}
+use Rattle.clap.specs.{Kinds.or_else, Walk.to_positional, Walk.used, Walk.value, Walk.walked}
 use Rattle.clap.specs.Walk.{Row, Rule, Text, Walk, arg_by_index, has_row, settled_rows}
-use Rattle.clap.specs.Walk.{to_positional, used, value, walked}
-use Rattle.clap.specs.declared.error.kind.ErrorKind.TheVariants as kind
 use Rattle.clap.proofs.OnLiterals.{clap_on_literals}
+use Rattle.clap.specs.declared.error.kind.ErrorKind.TheVariants as kind
 use Rattle.command_line.proofs.CommandLineLemmas.Rules.{flag_full, formula_full, name_of, rules_of}
 use Rattle.command_line.proofs.CommandLineLemmas.Rules.{second_full, top_of}
 use Rattle.command_line.proofs.CommandLineLemmas.Rows.{among_added, among_kept, has_row-row_for}

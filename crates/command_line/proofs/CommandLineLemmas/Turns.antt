@@ -1,15 +1,13 @@
 -- What `clap`'s walk makes of one word, and when it refuses the word.
 use Rattle.std.proofs.Common.{◌≡◌, ◌∙◌, ap, ap₂, sym, subst, refl, codes, List, [], ◌∷◌, Bool, true}
 use Rattle.std.proofs.Common.{false, Option, Some, None, ℕ, cond, suc, true≢false, inl, inr, ◌⊎◌}
-use Rattle.std.proofs.Common.{arith, length, rules}
-use Rattle.std.proofs.lemmas.Bool.Decides.{nat_tests}
+use Rattle.std.proofs.{Common.arith, Common.length, Common.rules, lemmas.Bool.Decides.nat_tests}
 use Rattle.std.specs.Prelude.{◌==◌, ◌&&◌, ◌||◌, not, if◌then◌else◌, slice_get, take, ◌+◌}
 use Rattle.std.specs.Str.{bytes_eq, chars}
 use Rattle.std.specs.{List.before_first, List.prefix_len, Option.option_map_or}
-use Rattle.clap.specs.Lexer.{has_byte, long_of, short_of}
+use Rattle.clap.specs.{Lexer.has_byte, Lexer.long_of, Lexer.short_of, Kinds.Kinds, Kinds.or_else}
 use Rattle.clap.specs.Faults.{bundle_fault, bundle_step_fault, flags_fault, long_fault}
 use Rattle.clap.specs.Faults.{settle_fault, short_fault, step_fault, turn_fault}
-use Rattle.clap.specs.Kinds.{Kinds, or_else}
 use Rattle.clap.specs.Walk.{Held, Outcome, Row, Rule, Step, Text, Walk, after_flag, after_step}
 use Rattle.clap.specs.Walk.{arg_by_index, arg_by_long, arg_by_short, bundle_met, idle, plain}
 use Rattle.clap.specs.Walk.{short_or_plain, to_positional, value, walked}

@@ -11,10 +11,9 @@ use Rattle.cnf_base.proofs.SetLemmas.{same_itself, same_symm, same_there, same_b
 use Rattle.theory.specs.declared.accepted.Accepted.TheVariants.{Deleted}
 use Rattle.theory.specs.{Drat.SameLive, Drat.take_off, Losses.DeleteLoses}
 use Rattle.theory.specs.Propagation.{Live, Forced, Clash, IsRootReason, by_both}
-use Rattle.theory.proofs.DratLemmas.Copies.{covers_of}
+use Rattle.theory.proofs.{DratLemmas.Copies.covers_of, PropagationLemmas.Forced.clash_through}
 use Rattle.theory.proofs.LawLemmas.Losses.{none_held, still_held, no_reason_kept}
 use Rattle.theory.proofs.PropagationLemmas.Covers.{Covers, forced_covers, clash_covers}
-use Rattle.theory.proofs.PropagationLemmas.Forced.{clash_through}
 use Rattle.propagation.specs.Assumptions.{IsValue, IsAnswer, Propagation, Assuming, assumed_by}
 use Rattle.propagation.specs.declared.answer.Answer.{Answer}
 use Rattle.propagation.specs.declared.answer.Answer.TheVariants as answers

@@ -1,22 +1,19 @@
 -- The answers to a DRAT step, from what propagation over the slots says.
 use Rattle.std.proofs.Common.{◌≡◌, ◌≢◌, ℕ, Bool, true, false, cond, Some, None, Ok, Err, List, []}
-use Rattle.std.proofs.Common.{◌∷◌, ◌++◌, slice_get, ◌+◌, refl, sym, ap, ◌∙◌, subst, arith}
-use Rattle.std.proofs.Common.{rules}
+use Rattle.std.proofs.Common.{◌∷◌, ◌++◌, slice_get, ◌+◌, refl, sym, ap, ◌∙◌, subst, arith, rules}
 use Rattle.std.proofs.lemmas.{Bool.false_from_ne_true, List.map-append, List.Folds.list_any_at}
 use Rattle.std.proofs.lemmas.Option.{slice_get_within, get_or_from_slice_get, none-some, same_Some}
 use Rattle.std.specs.{List.list_any, Ordering.nat_cmp, FinMap.FinMap}
 use Rattle.std.specs.FinMap as maps
 use Rattle.cnf_base.specs.Literals.{Literal, Clause, complement, complements, has, without}
-use Rattle.cnf_base.specs.Literals.{same_clause}
+use Rattle.cnf_base.{specs.Literals.same_clause, proofs.MapLemmas.inserted_is}
 use Rattle.cnf_base.proofs.SetLemmas.{has_append_left, has_append_right, has_append_cases, has_head}
 use Rattle.cnf_base.proofs.SetLemmas.{both_pass, same_symm, same_trans}
-use Rattle.cnf_base.proofs.MapLemmas.{inserted_is}
 use Rattle.theory.specs.{Sets.SameSet, declared.accepted.Accepted.Accepted}
 use Rattle.theory.specs.declared.accepted.Accepted.TheVariants.{Rat, Deleted, Ignored}
-use Rattle.theory.specs.declared.drat_rules.DratRules.{DratRules}
+use Rattle.theory.specs.{declared.drat_rules.DratRules.DratRules, Lrat.AnswersChain, Lrat.conflict}
 use Rattle.theory.specs.declared.refusal.Refusal.TheVariants.{NotRup, NeitherRupNorRat}
 use Rattle.theory.specs.Propagation.{Live, Clash, HasRup, IsRootReason}
-use Rattle.theory.specs.Lrat.{AnswersChain, conflict}
 use Rattle.theory.specs.Drat.{AnswersAdd, AnswersDelete, take_off, copies_of, SameLive}
 use Rattle.theory.proofs.PropagationLemmas.Forced.{forced_assumed, clash_through}
 use Rattle.theory.proofs.DratLemmas.Copies.{copies-cons, alive_at}

@@ -11,19 +11,17 @@ use Rattle.cnf_base.proofs.SetLemmas.{any_from, any_none, any_some, has-compleme
 use Rattle.cnf_base.proofs.SetLemmas.{has_append_right, has_head}
 use Rattle.trail.specs.{LiteralSet.in_set, declared.literal_set.LiteralSet.LiteralSet}
 use Rattle.trail.specs.Reduced.{is_reduced}
-use Rattle.theory.specs.Sets.{SameSet, conflicts}
+use Rattle.theory.specs.{Sets.SameSet, Sets.conflicts, Drat.AnswersListed, Drat.AnswersWithWitness}
 use Rattle.theory.specs.declared.accepted.Accepted.{Accepted, TheVariants.Pr}
 use Rattle.theory.specs.declared.refusal.Refusal.TheVariants.{InconsistentSet, NeitherRupNorPr}
 use Rattle.theory.specs.Propagation.{Live, Clash, HasPr, HasRup, open_literals}
 use Rattle.theory.specs.Lrat.{AnswersChain, conflict}
-use Rattle.theory.specs.Drat.{AnswersListed, AnswersWithWitness}
 use Rattle.theory.proofs.PropagationLemmas.Forced.{clash_by_false, forced_assumed}
 use Rattle.theory.proofs.PropagationLemmas.Conflicts.{not_both}
 use Rattle.proofs.specs.Steps.{clause_part, witness_part}
 use Rattle.drat_steps.specs.Code.Candidates.{AllClash, SomeQuiet, Searched}
-use Rattle.drat_steps.proofs.DratLemmas.Slots.{slots-pr}
+use Rattle.drat_steps.proofs.DratLemmas.{Slots.slots-pr, Steps.rup_listed, Steps.there}
 use Rattle.drat_steps.proofs.DratLemmas.Steps.{answers_rup, back, clash_same, no_rup_listed}
-use Rattle.drat_steps.proofs.DratLemmas.Steps.{rup_listed, there}
 
 -- ---- The set that was filled with the witness
 

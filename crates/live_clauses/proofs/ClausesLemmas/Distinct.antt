@@ -6,9 +6,8 @@ use Rattle.std.proofs.lemmas.List.Sorted.{IsNonDecreasingBy-from_sort}
 use Rattle.std.proofs.lemmas.Map.Keys.{IsDistinct-from_sorted, IsDistinct-IsPermutation}
 use Rattle.std.proofs.lemmas.Map.Keys.{sorted_from_strictly_increasing}
 use Rattle.std.proofs.lemmas.Map.Keys.{IsStrictlyIncreasing-from_distinct}
-use Rattle.std.specs.List.{IsDistinct, AllByRecursion}
+use Rattle.std.specs.{List.IsDistinct, List.AllByRecursion, Ordering.nat_cmp, Ordering.eq_by_cmp}
 use Rattle.std.specs.List.Sorted.{IsStrictlySortedBy, IsStrictlyIncreasing, IsPermutation, IsSorted}
-use Rattle.std.specs.Ordering.{nat_cmp, eq_by_cmp}
 use Rattle.cnf_base.specs.Literals.{has}
 use Rattle.cnf_base.proofs.SetLemmas.{has_cases, has_head, has_tail}
 
@@ -45,7 +44,7 @@ distinct_more k ks absent h = (all_other ks absent, h)
         equal j e = grind (arith, nat_tests)
 
 tie : (j k : ℕ) → eq_by_cmp nat_cmp k j ≡ nat_eq k j
-tie j k = grind (arith, nat_tests)
+tie j k = grind arith
 
 pub distinct_from_sorted : (keys : List ℕ) → IsStrictlySortedBy nat_cmp keys → IsDistinct nat_eq keys
 unfolding IsDistinct

@@ -1,9 +1,9 @@
 -- Identifiers, slots and clauses as one finite map.
 use Rattle.std.proofs.Common.{◌≡◌, ℕ, true, Option, Some, None, option_map, List, [], ◌∷◌, map, ◌<◌}
 use Rattle.std.proofs.Common.{◌≤◌, ◌≢◌, refl, sym, arith, nat_cmp, nat_eq, length, ◌⊎◌, rules}
-use Rattle.std.proofs.{lemmas.Option.same_Some, lemmas.Option.none-some, lemmas.Bool.cases_eq}
 use Rattle.std.specs.FinMap.{FinMap, find, get-entries, get-empty, get-from_entries}
 use Rattle.std.specs.{Option.IsSome, Cmp.nat_cmp_total, Bool.IsTrue, List.IsDistinct}
+use Rattle.std.specs.FinMap as maps
 use Rattle.cnf_base.specs.Literals.{Literal, Clause, has, same_clause}
 use Rattle.cnf_base.proofs.SetLemmas.{has_head, has_tail}
 use Rattle.cnf_base.proofs.MapLemmas.{insert_here, insert_other, inserted_is, remove_here}
@@ -11,15 +11,11 @@ use Rattle.cnf_base.proofs.MapLemmas.{remove_other, removed_back, same_maps, sum
 use Rattle.clause_db.specs.Store.{copies_with, literals_in}
 use Rattle.live_clauses.proofs.ClausesLemmas.Distinct.{distinct_head, distinct_tail}
 use Rattle.live_clauses.specs.Code.LiveClauses.{clause_at, held_at, joined, IsPaired, IsTally}
-use Rattle.live_clauses.specs.Code.LiveClauses.{AreOwners}
-use Rattle.live_clauses.specs.declared.owners.Owners.{Owners}
+use Rattle.live_clauses.specs.{Code.LiveClauses.AreOwners, declared.owners.Owners.Owners}
 use Rattle.live_clauses.specs.LiveClauses.{LiveClausesState, Holds, AllHold}
-use Rattle.theory.specs.Propagation.{Live}
+use Rattle.theory.{specs.Propagation.Live, proofs.LratLemmas.LiveSets.SameClauses-refl}
 use Rattle.theory.specs.Lrat.{with_clause, without_id, SameAt, SameClauses}
-use Rattle.theory.proofs.LratLemmas.LiveSets.{SameClauses-refl}
 use Rattle.theory.proofs.LratLemmas.Sums.{sum_with, sum_without, with_here, with_other}
-use Rattle.theory.proofs.LratLemmas.Sums.{without_here, without_other}
-use Rattle.std.specs.FinMap as maps
 
 -- ---- The map that is seen
 
@@ -45,17 +41,16 @@ module _ (ids : FinMap nat_cmp ℕ) (store after : FinMap nat_cmp Clause) (id sl
 
   module _ (c : Clause) (stored : maps.get after slot ≡ Some c) (after_ids : FinMap nat_cmp ℕ) (bound : after_ids ≡ maps.insert ids id slot) where
     pub held_with : (k : ℕ) → held_at after_ids after k ≡ with_clause (held_at ids store) id c k
-    held_with k =
-        search (rules, arith, cases_eq, insert_here, with_here, insert_other, old_slot, with_other)
+    held_with k = search (rules, arith, insert_here, insert_other)
 
     -- an identifier that is bound now, and its slot
     slot_cases : (k s : ℕ) → maps.get after_ids k ≡ Some s → ((k ≡ id) × (s ≡ slot)) ⊎ (maps.get ids k ≡ Some s)
-    slot_cases k s at = search (rules, arith, cases_eq, same_Some, insert_here, insert_other)
+    slot_cases k s at = search (rules, arith, insert_here, insert_other)
 
     pub paired_with : maps.get ids id ≡ None → IsPaired after_ids after
     paired_with unbound =
         let here : maps.get after_ids id ≡ Some slot = search (rules, insert_here) in
-        search (rules, slot_cases, old_slot, cases_eq, none-some, insert_other)
+        grind (arith, slot_cases, old_slot, insert_other)
 
     filled_is : after ≡ maps.insert store slot c
     filled_is = inserted_is store after slot c stored others
@@ -74,7 +69,7 @@ not_bound ids store k h = search rules
 module _ (ids after_ids : FinMap nat_cmp ℕ) (store : FinMap nat_cmp Clause) (id : ℕ) (paired : IsPaired ids store) (unbound : after_ids ≡ maps.remove ids id) where
   -- an identifier that is still bound was bound, and is another one
   still_bound : (k s : ℕ) → maps.get after_ids k ≡ Some s → (k ≢ id) × (maps.get ids k ≡ Some s)
-  still_bound k s at = search (rules, cases_eq, none-some, remove_here, remove_other)
+  still_bound k s at = search (rules, remove_here, remove_other)
 
   pub owners_without : (owners : Owners) → AreOwners owners ids → AreOwners owners after_ids
   owners_without owners are = search (rules, still_bound)
@@ -82,26 +77,20 @@ module _ (ids after_ids : FinMap nat_cmp ℕ) (store : FinMap nat_cmp Clause) (i
   -- where it was not bound
   module _ (none : maps.get ids id ≡ None) where
     pub none_held : (k : ℕ) → held_at after_ids store k ≡ held_at ids store k
-    none_held k = search (rules, arith, cases_eq, remove_here, remove_other)
+    none_held k = search (rules, arith, remove_here, remove_other)
 
     pub none_without : (k : ℕ) → held_at after_ids store k ≡ without_id (held_at ids store) id k
-    none_without k =
-        search (rules, arith, remove_here, remove_other, cases_eq, without_here, without_other)
+    none_without k = search (rules, arith, remove_here, remove_other)
 
     pub none_paired : IsPaired after_ids store
-    none_paired = search (rules, arith, cases_eq, none-some, remove_here, remove_other)
+    none_paired = search (rules, arith, remove_here, remove_other)
 
   module _ (slot : ℕ) (bound : maps.get ids id ≡ Some slot) (after : FinMap nat_cmp Clause) (freed : after ≡ maps.remove store slot) where
-    kept_slot : (k s : ℕ) → k ≢ id → maps.get ids k ≡ Some s → maps.get after s ≡ maps.get store s
-    kept_slot k s apart at = search (rules, arith, remove_other)
-
     pub held_without : (k : ℕ) → held_at after_ids after k ≡ without_id (held_at ids store) id k
-    held_without k =
-        search (rules, arith, cases_eq, remove_here, without_here, remove_other, kept_slot, without_other)
+    held_without k = search (rules, arith, remove_here, remove_other)
 
     pub paired_without : IsPaired after_ids after
-    paired_without =
-        search (rules, arith, still_bound, kept_slot, cases_eq, remove_here, remove_other, same_Some)
+    paired_without = search (rules, arith, remove_here, remove_other)
 
     module _ (c : Clause) (at : maps.get store slot ≡ Some c) (top : ℕ) (tally : IsTally (held_at ids store) top (literals_in store)) where
       pub tally_without : IsTally (held_at after_ids after) top (literals_in after)
@@ -119,12 +108,12 @@ module _ (ids after_ids : FinMap nat_cmp ℕ) (store after : FinMap nat_cmp Clau
   pub add_live : SameClauses (maps.get (joined after_ids after)) (with_clause (maps.get state.live) id lits)
   add_live =
       let same = same_changed (held_at ids store) id stored.0 lits stored.2 in
-      record { at = λ k. search (rules, arith, joined_is, held_with, same) }
+      grind (arith, joined_is, held_with)
 
   pub add_invariant : (top : ℕ) → IsTally (held_at ids store) top (literals_in store) → top < id → IsPaired after_ids after × IsTally (held_at after_ids after) id (literals_in after)
   add_invariant top tally above =
       let w = stored in
-      (paired_with ids store after id slot paired free others w.0 w.1 after_ids bound (not_bound ids store id (tally.none_above id above)), tally_with ids store after id slot paired free others w.0 w.1 after_ids bound top tally above)
+      (grind (arith, paired_with, not_bound), tally_with ids store after id slot paired free others w.0 w.1 after_ids bound top tally above)
 
 -- ---- What is kept by a removal
 
@@ -132,13 +121,13 @@ module _ (ids after_ids : FinMap nat_cmp ℕ) (store : FinMap nat_cmp Clause) (i
   pub absent_invariant : None ≡ maps.get ids id → (top : ℕ) → IsTally (held_at ids store) top (literals_in store) → IsPaired after_ids store × IsTally (held_at after_ids store) top (literals_in store)
   absent_invariant none top tally =
       let held = none_held ids after_ids store id paired unbound (sym none) in
-      (none_paired ids after_ids store id paired unbound (sym none), search (rules, held))
+      grind (arith, none_paired)
 
   pub removed_invariant : (slot : ℕ) → Some slot ≡ maps.get ids id → (after : FinMap nat_cmp Clause) → after ≡ maps.remove store slot → (top : ℕ) → IsTally (held_at ids store) top (literals_in store) →
       IsPaired after_ids after × IsTally (held_at after_ids after) top (literals_in after)
   removed_invariant slot bound after freed top tally =
       let w = clause_of (maps.get store slot) (paired.filled id slot (sym bound)) in
-      (paired_without ids after_ids store id paired unbound slot (sym bound) after freed, tally_without ids after_ids store id paired unbound slot (sym bound) after freed w.0 w.1 top tally)
+      (grind (arith, paired_without), tally_without ids after_ids store id paired unbound slot (sym bound) after freed w.0 w.1 top tally)
     where
       clause_of : (o : Option Clause) → IsSome o → (c : Clause) × (o ≡ Some c)
       clause_of o h = search rules
@@ -161,7 +150,7 @@ slots_counted ids l own (k ∷ ks) store different hold =
 -- the slot of an identifier whose clause holds the literal, and the clause in it
 pub holder : (ids : FinMap nat_cmp ℕ) (store : FinMap nat_cmp Clause) (state : LiveClausesState) → joined ids store ≡ state.live → IsPaired ids store → (l : Literal) (k : ℕ) → Holds (maps.get state.live) l k →
     (slot : ℕ) × (maps.get ids k ≡ Some slot) × (c : Clause) × (maps.get store slot ≡ Some c) × (has c l ≡ true)
-holder ids store state view paired l k h = search (rules, arith, none-some, joined_is, same_Some)
+holder ids store state view paired l k h = search (rules, arith, joined_is)
 
 pub holding_counts : (ids : FinMap nat_cmp ℕ) (store : FinMap nat_cmp Clause) (state : LiveClausesState) → joined ids store ≡ state.live → IsPaired ids store → (l : Literal) (count : ℕ) → count ≡ copies_with store l →
     (ks : List ℕ) → AllHold (maps.get state.live) l ks → length ks ≤ count

@@ -1,7 +1,6 @@
 -- The clauses that a literal touches, by their slots and by their identifiers.
-use Rattle.std.proofs.Common.{◌≡◌, ℕ, true, Some, List, [], ◌∷◌, map}
-use Rattle.std.proofs.Common.{◌∙◌, slice_index, arith, rules}
-use Rattle.std.proofs.lemmas.{Bool.or_left, List.Sorted.list_any-IsPermutation}
+use Rattle.std.proofs.Common.{◌≡◌, ℕ, true, Some, List, [], ◌∷◌, map, ◌∙◌, slice_index, arith}
+use Rattle.std.proofs.{Common.rules, lemmas.Bool.or_left, lemmas.List.Sorted.list_any-IsPermutation}
 use Rattle.std.specs.{Ordering.nat_cmp, FinMap.FinMap}
 use Rattle.std.specs.List.Sorted.{IsStrictlyIncreasing, IsPermutation, IsSorted}
 use Rattle.std.specs.FinMap as maps
@@ -32,8 +31,7 @@ module _ (ids : FinMap nat_cmp ℕ) (store : FinMap nat_cmp Clause) (state : Liv
   touched_each : (k : ℕ) → has found k ≡ true → Holds (maps.get state.live) (complement l) k
   touched_each k member =
       let w = mapped_from _ slots k (found_has k ∙ member) in
-      let t = each w.0 w.1 in
-      search (rules, joined_is, owner_of)
+      grind (arith, joined_is, owner_of)
 
   touched_all : (k : ℕ) → Holds (maps.get state.live) (complement l) k → has found k ≡ true
   touched_all k holds =

@@ -2,14 +2,15 @@
 use Rattle.std.proofs.Common.{◌≡◌, ◌≢◌, ℕ, Result, OnOk, ◌+◌, ◌<◌, ◌≤◌, Bool, true, false, ◌&&◌}
 use Rattle.std.proofs.Common.{eqb, eqb-true, Some, None, List, [], ◌∷◌, ◌++◌, take, length, get_or}
 use Rattle.std.proofs.Common.{sym, ap, ◌∙◌, subst, arith, inl, inr}
+use Rattle.std.specs.FinMap as maps
 use Rattle.std.specs.{Ordering.nat_cmp, FinMap.FinMap}
 use Rattle.std.proofs.lemmas.Bool.{false≢true, true≢false, cases_Bool, cases_eq, or_cases, or_left}
 use Rattle.std.proofs.lemmas.List.{take-take, take_all}
 use Rattle.std.proofs.lemmas.{Option.same_Some, Bool.and_parts, Result.on_ok_weaker}
 use Rattle.cnf_base.specs.Literals.{Literal, complement, Clause, has}
 use Rattle.cnf_base.proofs.{LiteralLemmas.complement-complement, WalkLemmas.has_more}
-use Rattle.cnf_base.proofs.SetLemmas.{has_append_right, has_append_cases, has_cases, has_head}
 use Rattle.cnf_base.proofs.{MapLemmas.after_remove, MapLemmas.remove_other, WalkLemmas.has_take}
+use Rattle.cnf_base.proofs.SetLemmas.{has_append_right, has_append_cases, has_cases, has_head}
 use Rattle.clause_db.specs.Store.{IsTouchedAt}
 use Rattle.propagation.specs.Code.Closure.{AreForced, FollowsFrom, IsFollowed, TakesIn, is_old}
 use Rattle.propagation.specs.{Code.Closure.by_unit, Closure.IsWhole}
@@ -22,7 +23,6 @@ use Rattle.theory.proofs.PropagationLemmas.Unit.{none_left_follow, one_left_foll
 use Rattle.trail.proofs.TrailLemmas.Left.{nothing_is, one_is, more_differ, settled_at}
 use Rattle.trail.proofs.TrailLemmas.Longer.{has_begun}
 use Rattle.propagation.proofs.PropagationLemmas.Below.{below_none, below_some}
-use Rattle.std.specs.FinMap as maps
 
 pub follows_forced : (live : Live) (ls : List Literal) → AreForced live ls → (k : ℕ) (c : Clause)
     → live k ≡ Some c → (l : Literal) → FollowsFrom ls c l → Forced live [] l
@@ -117,8 +117,8 @@ module _ (live : Live) (before now after : List Literal) (begins : take (length 
       → (s : ℕ) (c : Clause) → has (take (i + 1) slots) s ≡ true → live s ≡ Some c
       → TakesIn before after c
   each_taken so_far d here takes s c h at = elim (or_cases (has (take i slots) s) (eqb x s) (sym (has_more slots i inside x is s) ∙ h)) [
-    | inl old ↦ taken_in before before now after c (λ l h. h) (λ l. has_begun now after l more) (so_far s c old at)
-    | inr e ↦ subst (TakesIn before after) (same_Some d c (here ∙ ap live (eqb-true x s e) ∙ at)) (taken_in before now after after d (λ l. has_begun before now l begins) (λ l h. h) takes)
+    | inl old ↦ grind (arith, taken_in, has_begun)
+    | inr e ↦ grind (arith, eqb-true, taken_in, has_begun)
   ]
 
 -- ---- The clauses in which a literal is false were taken
@@ -154,7 +154,7 @@ module _ (live : FinMap nat_cmp Clause) (lits after : List Literal) (done : ℕ)
     followed_more sound all takes = record {
       sound = sound;
       takes = λ k c at. elim (cases_Bool (has c (complement m))) [
-        | inl here ↦ taken_here c (so_far.takes k c at) (takes k c (all k (record { clause = c; at = at; touched = or_left (has c (complement m)) false here })) at)
+        | inl here ↦ taken_here c (so_far.takes k c at) (takes k c (grind (arith, or_left)) at)
         | inr apart ↦ taken_apart c (so_far.takes k c at) apart
       ];
     }
@@ -192,9 +192,7 @@ module _ (live : FinMap nat_cmp Clause) (slot : ℕ) where
         takes = λ k d here m member others.
             let known = λ (l : Literal) (h : has d l ≡ true) (ne : l ≢ m). ap (λ ls. has ls (complement l)) (sym begins) ∙ others l h ne in
             elim (cases_eq k slot) [
-              | inl e ↦
-                  let same = same_Some d c (sym here ∙ ap (maps.get live) e ∙ at) in
-                  takes m (ap (λ x. has x m) (sym same) ∙ member) (λ l h ne. known l (ap (λ x. has x l) same ∙ h) ne)
+              | inl e ↦ grind arith
               | inr ne ↦
                   has_begun lits next m begins
                   (whole.all m (forced_unit (maps.get (maps.remove live slot)) [] k d (remove_other live slot k ne ∙ here) m member (λ l h apart. whole.sound (complement l) (known l h apart))))
@@ -208,7 +206,7 @@ module _ (live : FinMap nat_cmp Clause) (slot : ℕ) where
       within_closed passes closed = record {
         unit = λ k d here m member others.
             let known = λ (l : Literal) (h : has d l ≡ true) (ne : l ≢ m). and_parts (has lits (complement l)) (passes (complement l)) (others l h ne) in
-            let follows : has lits m ≡ true = whole.all m (forced_unit (maps.get live) [] k d here m member (λ l h ne. whole.sound (complement l) (known l h ne).0)) in
+            let follows : has lits m ≡ true = whole.all m (grind arith) in
             elim (cases_eq k slot) [
               | inl e ↦ grind (arith, same_Some)
               | inr ne ↦ ap (λ b. b && passes m) follows ∙ closed.unit k d (remove_other live slot k ne ∙ here) m member (λ l h apart. (known l h apart).1)

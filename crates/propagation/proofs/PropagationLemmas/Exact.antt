@@ -104,7 +104,7 @@ module _ (live : Live) (before lits added : List Literal) (sound : (l : Literal)
     exact_after all after alike begins forced closed = record {
       sound = λ l h. forced_through live (before ++ added) all
           (λ k m. forced_assumed live all k (alike k ∙ m)) l
-          (forced_through live more (before ++ added) more_forced l (forced l h));
-      start = λ l h. has_begun more after l begins (assumed_set l (sym (alike l) ∙ h));
+          (grind (arith, forced_through, more_forced));
+      start = grind (arith, has_begun, assumed_set);
       closed = closed;
     }

@@ -3,15 +3,14 @@ use Rattle.std.proofs.Common.{◌≡◌, ◌≢◌, ℕ, ◌+◌, ◌*◌, ◌<�
 use Rattle.std.proofs.Common.{◌∷◌, sum_by, IsSome, nat_le, ◌≤◌, sym, ap, ◌∙◌, arith, rules}
 use Rattle.std.specs.{Ordering.nat_cmp, FinMap.FinMap}
 use Rattle.std.proofs.lemmas.{List.Sums.sum_by-cons, Bool.cases_lt, Bool.lt-leb}
+use Rattle.std.specs.FinMap as maps
 use Rattle.cnf_base.specs.{Literals.Clause, Literals.same_clause, Literals.size, Maps.sum_over}
 use Rattle.cnf_base.proofs.{MapLemmas.inserted_is, MapLemmas.sum_insert, SizeLemmas.size_same}
 use Rattle.cnf_base.proofs.SetLemmas.{both_pass, same_back, same_symm, same_there, same_trans}
-use Rattle.clause_db.specs.Store.{slots_for}
+use Rattle.clause_db.{specs.Store.slots_for, proofs.StoreLemmas.Below.gone}
 use Rattle.clause_db.proofs.StoreLemmas.Below.{below, below_all, below_next, below_none, below_same}
-use Rattle.clause_db.proofs.StoreLemmas.Below.{gone}
 use Rattle.propagation.specs.{Slots.most_slots, Slots.slots_needed, Assumptions.Propagation}
 use Rattle.theory.specs.Drat.{SameLive}
-use Rattle.std.specs.FinMap as maps
 
 -- what a clause counts as a copy of `e`
 abbrev pub is_copy : Clause → Clause → ℕ
@@ -53,7 +52,7 @@ needs_more old new slot before after c d free at same others few more =
     let as_many : size d ≡ size c = size_same d c (same_there d c same) (same_back d c same) in
     let needs = ap slots_needed (inserted_is old new slot d at others)
     ∙ sum_insert (λ x. slots_for (size x)) old slot d free in
-    let as_needed = ap slots_for as_many in omega (arith, few, more, needs, as_needed)
+    grind arith
 
 -- what a clause needs is within what clauses may stand in
 one_within : (n : ℕ) → slots_for n ≤ 3 * n + 4 * cond (nat_le 2 n) 0 1

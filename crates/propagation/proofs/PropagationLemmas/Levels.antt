@@ -1,8 +1,8 @@
 -- Variables that assumptions noted, as assumptions come and go.
 use Rattle.std.proofs.Common.{◌≡◌, ◌≢◌, ℕ, ◌+◌, ◌/◌, ◌<◌, ◌≤◌, Bool, true, false, not, cond}
 use Rattle.std.proofs.Common.{eqb-true, eq-eqb, List, [], ◌∷◌, ◌++◌, is_some, map, filter, take}
-use Rattle.std.proofs.Common.{length, length-append, get_or, refl, sym, ◌∙◌, subst, inl, inr}
-use Rattle.std.proofs.Common.{◌⊎◌, arith, append-nil, rules}
+use Rattle.std.proofs.Common.{length, length-append, get_or, refl, sym, ◌∙◌, subst, inl, inr, ◌⊎◌}
+use Rattle.std.proofs.Common.{arith, append-nil, rules}
 use Rattle.std.proofs.lemmas.Bool.{false≢true, true≢false, cases_eq, or_cases, or_left, or_right}
 use Rattle.std.proofs.lemmas.List.{Elements.filter_agree, Elements.filter-append, take-append-le}
 use Rattle.cnf_base.specs.Literals.{Literal, complement, complements, has, variable}
@@ -51,22 +51,20 @@ module _ (lits more rest : List Literal) (old new : ℕ → Bool)
         | inl o ↦
             let k = mapped_member lits (l / 2) (set (l / 2) o) in
             let same = same_literal more apart k.0 l (added k.0 ∙ has_append_left lits (complements rest) k.0 k.1) w.0 k.2 in
-            has_append_left (of_variables old lits) (complements rest) l (has-filter (λ l. old (l / 2)) lits l (subst (λ m. has lits m ≡ true) same k.1) o)
+            grind (arith, has_append_left, has-filter)
         | inr r ↦
             let k = mapped_member rest (l / 2) r in let there = has-complements rest k.0 k.1 in
             let same = same_literal more apart (complement k.0) l (added (complement k.0) ∙ has_append_right lits (complements rest) (complement k.0) there) w.0 (variable-complement k.0 ∙ k.2) in
-            has_append_right (of_variables old lits) (complements rest) l (subst (λ m. has (complements rest) m ≡ true) same there)
+            grind (arith, has_append_right)
       ]
 
   back : (l : Literal) → has (of_variables old lits ++ complements rest) l ≡ true
       → has (of_variables new more) l ≡ true
   back l h =
       elim (has_append_cases (of_variables old lits) (complements rest) l h) [
-        | inl g ↦
-            let w = filter_has (λ l. old (l / 2)) lits l g in
-            has-filter (λ l. new (l / 2)) more l (added l ∙ has_append_left lits (complements rest) l w.0) (keeps (l / 2) w.1)
+        | inl g ↦ grind (arith, filter_has, has-filter, has_append_left)
         | inr g ↦
-            has-filter (λ l. new (l / 2)) more l (added l ∙ has_append_right lits (complements rest) l g)
+            has-filter (λ l. new (l / 2)) more l (grind (arith, has_append_right))
             (subst (λ v. new v ≡ true) (variable-complement l) (all (complement l) (complements_has rest l g)))
       ]
 

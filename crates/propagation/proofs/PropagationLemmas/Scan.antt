@@ -1,6 +1,7 @@
 -- The invariant of the plainest propagation, as clauses come and go.
 use Rattle.std.proofs.Common.{◌≡◌, ◌≢◌, ℕ, ◌++◌, ◌∷◌, true, false, length, take, Some, List, []}
-use Rattle.std.proofs.Common.{sym, ap, ◌∙◌, arith, rules}
+use Rattle.std.proofs.Common.{arith, rules}
+use Rattle.std.specs.FinMap as maps
 use Rattle.std.specs.{Ordering.nat_cmp, FinMap.FinMap, Result.IfOk, Result.OnErr, Result.is_err}
 use Rattle.std.specs.declared.result.Result.{TheVariants.Ok, TheVariants.Err, Result}
 use Rattle.std.proofs.lemmas.{Option.none-some, Option.same_Some, Bool.false≢true, Bool.cases_eq}
@@ -20,14 +21,10 @@ use Rattle.propagation.proofs.PropagationLemmas.Exact.{nothing_true, sound_befor
 use Rattle.propagation.proofs.PropagationLemmas.Exact.{conflict_clashes, answer_from, exact_after}
 use Rattle.theory.proofs.PropagationLemmas.Forced.{forced_assumed}
 use Rattle.cnf_base.proofs.{MapLemmas.get_remove, MapLemmas.sum_empty, SetLemmas.has_append_right}
-use Rattle.std.specs.FinMap as maps
 
 pub scan_empty : (live : FinMap nat_cmp Clause) (held : AssumptionsState) → live ≡ maps.empty
     → held.trail.lits ≡ [] → held.assumptions ≡ [] → IsScan live held
-scan_empty live held none unset nothing = record {
-  room = record { each = λ k c here. absurd (none-some c (sym (ap (λ m. maps.get m k) none ∙ maps.get-empty nat_cmp k) ∙ here)) };
-  exact = exact_nothing (maps.get live) held unset nothing;
-}
+scan_empty live held none unset nothing = grind (arith, maps.get-empty, exact_nothing)
 
 -- more room, and else nothing new
 pub held_reserved : (live : FinMap nat_cmp Clause) (Roots : List Literal → Type 0)

@@ -1,8 +1,9 @@
 -- What is kept of the literals that are true with nothing assumed, past a propagation too.
 use Rattle.std.proofs.Common.{arith, rules, ◌≡◌, ℕ, ◌/◌, true, false, Option, Some, is_some, List}
-use Rattle.std.proofs.Common.{[], ◌∷◌, length, take, sym, ap, ◌∙◌, subst}
-use Rattle.std.proofs.lemmas.Bool.{false_from_ne_true, true≢false, false≢true}
+use Rattle.std.proofs.Common.{[], ◌∷◌, length, take, sym, ap, ◌∙◌, subst, true≢false}
+use Rattle.std.proofs.lemmas.Bool.{false_from_ne_true, false≢true}
 use Rattle.std.specs.{Ordering.nat_cmp, FinMap.FinMap}
+use Rattle.std.specs.FinMap as maps
 use Rattle.cnf_base.specs.Literals.{Literal, complement, Clause, has, size}
 use Rattle.tables.specs.Filled.{at}
 use Rattle.theory.specs.{Propagation.Clash, Propagation.Forced, Sets.conflicts}
@@ -11,22 +12,20 @@ use Rattle.propagation.specs.Assumptions.{Assumption, AssumptionsState, roots_in
 use Rattle.propagation.specs.Code.Closure.{AreForced}
 use Rattle.root_literals.specs.Roots.{AreNoted, AreReasoned, HaveUnits, IsKept, IsKnown, IsStanding}
 use Rattle.root_literals.specs.{Roots.is_up_to_date, Roots.has_clash, declared.kept.Kept.Kept}
+use Rattle.root_literals.specs.{declared.history.History.History, Uses.AreCounted, Watched.IsPart}
+use Rattle.root_literals.specs.{declared.roots.Roots.Roots, Order.each_in_order, Watched.IsWatched}
 use Rattle.root_literals.specs.declared.kept.Kept.TheVariants.{All, Clash as KeptClash}
 use Rattle.root_literals.specs.History.{IsHistory, sure_of}
 use Rattle.root_literals.specs.Code.Propagated.{CanSet, PropagatesTo}
-use Rattle.root_literals.specs.{declared.history.History.History, Uses.AreCounted, Watched.IsPart}
-use Rattle.root_literals.specs.{declared.roots.Roots.Roots, Order.each_in_order, Watched.IsWatched}
 use Rattle.root_literals.proofs.RootLemmas.Closed.{all_closed, all_quiet, units_carried}
 use Rattle.root_literals.proofs.RootLemmas.Order.{has-in_order, seen_there}
 use Rattle.root_literals.proofs.RootLemmas.{Watched.front_part, Kept.seen_same}
+use Rattle.root_literals.proofs.RootLemmas.Uses.{counted_in_order}
 use Rattle.root_literals.proofs.RootLemmas.Reasons.{reasoned_forced, reasoned_same}
-use Rattle.root_literals.proofs.RootLemmas.{History.history_among, Uses.counted_in_order}
-use Rattle.trail.specs.Trail.{HasNoVariableTwice}
-use Rattle.trail.proofs.TrailLemmas.MakesFalse.{no_conflict}
-use Rattle.std.specs.FinMap as maps
+use Rattle.trail.{specs.Trail.HasNoVariableTwice, proofs.TrailLemmas.MakesFalse.no_conflict}
 
 pub kept_forced : (live : FinMap nat_cmp Clause) (roots : Roots) (lits : List Literal) → IsKept live roots lits → AreForced (maps.get (each_in_order live)) lits
-kept_forced live roots lits kept = reasoned_forced (maps.get (each_in_order live)) (at roots.reasons) lits kept.reasoned
+kept_forced live roots lits kept = grind (arith, reasoned_forced)
 
 -- ---- What is up to date
 
@@ -75,7 +74,7 @@ module _ (live : FinMap nat_cmp Clause) (roots : Roots) (lits : List Literal) (a
 
 module _ (a b : FinMap nat_cmp Clause) (x y : AssumptionsState) (r s : Literal → Option ℕ) (carried : PropagatesTo a b x y r s) where
   pub noted_carried : AreNoted (maps.get (each_in_order a)) r → AreNoted (maps.get (each_in_order b)) s
-  noted_carried noted = record { each = λ k c is l member. carried.noted l (noted.each k c (ap (λ m. maps.get m k) (sym carried.same) ∙ is) l member) }
+  noted_carried noted = grind arith
 
   pub known_carried : (kept : Kept) (lits : List Literal) → IsPart lits x.trail.lits → IsKnown a kept lits → IsKnown b kept lits
   known_carried All lits part known = (carried.kept [] lits lits part part known.0, units_carried a b lits carried.same carried.units known.1)
@@ -83,13 +82,13 @@ module _ (a b : FinMap nat_cmp Clause) (x y : AssumptionsState) (r s : Literal �
 
   -- what is watched still is
   pub front_carried : (doubts : List ℕ) (lits : List Literal) → IsPart lits x.trail.lits → (d p : ℕ) → IsWatched (sure_of doubts (maps.get a)) (take d lits) (take p lits) → IsWatched (sure_of doubts (maps.get b)) (take d lits) (take p lits)
-  front_carried doubts lits part d p = carried.kept doubts (take d lits) (take p lits) (λ l h. part l (front_part d lits l h)) (λ l h. part l (front_part p lits l h))
+  front_carried doubts lits part d p = grind (arith, front_part)
 
   pub history_carried : (doubts : List ℕ) (history : History) (lits : List Literal) → IsPart lits x.trail.lits → IsHistory (sure_of doubts (maps.get a)) history lits → IsHistory (sure_of doubts (maps.get b)) history lits
-  history_carried doubts history lits part = history_among (sure_of doubts (maps.get a)) (sure_of doubts (maps.get b)) history lits (λ d p _ _ _. front_carried doubts lits part d p)
+  history_carried doubts history lits part = grind (arith, front_carried)
 
   pub visited_carried : (doubts : List ℕ) (n : ℕ) (lits : List Literal) → IsPart lits x.trail.lits → IsWatched (sure_of doubts (maps.get a)) (take n lits) lits → IsWatched (sure_of doubts (maps.get b)) (take n lits) lits
-  visited_carried doubts n lits part = carried.kept doubts (take n lits) lits (λ l h. part l (front_part n lits l h)) part
+  visited_carried doubts n lits part = grind (arith, front_part)
 
   pub reasoned_carried : (lits : List Literal) → IsPart lits x.trail.lits → AreReasoned (maps.get (each_in_order a)) r lits → AreReasoned (maps.get (each_in_order b)) s lits
   reasoned_carried lits part are = grind (arith, reasoned_same)

@@ -1,15 +1,15 @@
 -- Where all is propagated, nothing more follows.
 use Rattle.std.proofs.Common.{rules, ◌≡◌, ◌≢◌, ℕ, Bool, true, false, cond, eq-eqb, ◌||◌, Some, List}
 use Rattle.std.proofs.Common.{Option, [], ◌∷◌, length, refl, sym, ap, ◌∙◌, subst, arith, inl, inr}
-use Rattle.std.proofs.lemmas.Bool.{cases_eq, true≢false, false≢true}
+use Rattle.std.proofs.{Common.true≢false, lemmas.Bool.cases_eq, lemmas.Bool.false≢true}
 use Rattle.std.specs.{Ordering.nat_cmp, FinMap.FinMap}
+use Rattle.std.specs.FinMap as maps
 use Rattle.cnf_base.specs.Literals.{Literal, complement, Clause, has, size}
 use Rattle.cnf_base.proofs.SetLemmas.{any_some, has_head, has_tail, has_cases}
 use Rattle.cnf_base.proofs.LiteralLemmas.{complement-complement, complement-other}
 use Rattle.cnf_base.proofs.SizeLemmas.{distinct_parts}
 use Rattle.theory.specs.Propagation.{IsClosed, Clash, by_empty, by_both}
-use Rattle.theory.specs.Sets.{conflicts}
-use Rattle.theory.proofs.PropagationLemmas.Conflicts.{conflict_from}
+use Rattle.theory.{specs.Sets.conflicts, proofs.PropagationLemmas.Conflicts.conflict_from}
 use Rattle.root_literals.specs.Watched.{IsMet, HasUnit, IsWatched}
 use Rattle.root_literals.specs.{Code.Propagated.PropagatesTo, Order.each_in_order}
 use Rattle.root_literals.proofs.RootLemmas.Order.{has-in_order, seen_there, there_seen}
@@ -19,7 +19,6 @@ use Rattle.watch_lists.specs.Watched.{is_unit_or_empty, unit_for, watches}
 use Rattle.watch_lists.proofs.WatchListsLemmas.Watched.{watches_first}
 use Rattle.trail.proofs.TrailLemmas.Longer.{has_begun}
 use Rattle.propagation.specs.Assumptions.{AssumptionsState}
-use Rattle.std.specs.FinMap as maps
 
 -- the unit rule of one clause
 pub clause_closed : (c : Clause) (trues : List Literal) → size c ≡ length c → HasUnit c trues → ((l : Literal) → has trues (complement l) ≡ true → IsMet c l trues) →
@@ -59,7 +58,7 @@ unit_alike c [] trues units alike unit = no_unit c (λ l. sym (alike l)) unit
   where
     no_unit : (c : Clause) → ((l : Literal) → has c l ≡ false) → HasUnit c trues → HasUnit [] trues
     no_unit [] none h = h
-    no_unit (a ∷ c) none h = absurd (true≢false (sym (has_head a c) ∙ none a))
+    no_unit (a ∷ c) none h = grind (arith, has_head a c, none a)
 unit_alike [] (a ∷ []) trues units alike unit = absurd unit
 unit_alike (b ∷ []) (a ∷ []) trues units alike unit = grind (arith, has_cases, has_head, false≢true)
 unit_alike (b ∷ e ∷ c) (a ∷ []) trues units alike unit = absurd (true≢false units)
@@ -71,15 +70,12 @@ module _ (live : FinMap nat_cmp Clause) (trues : List Literal) (different : (s :
   apart l h g = true≢false (sym (conflict_from trues l h g) ∙ quiet)
 
   pub all_closed : IsClosed (maps.get (each_in_order live)) (λ l. has trues l)
-  all_closed = record {
-    unit = λ k d at m member others.
-        let w = there_seen live k d at in
-        clause_closed w.0 trues (different k w.0 w.1) (units k w.0 w.1) (λ l h. watched.each k w.0 w.1 l h) apart m (sym (w.2 m) ∙ member) (λ l h ne. others l (w.2 l ∙ h) ne);
-  }
+  all_closed =
+      record { unit = λ k d at m member others. let w = there_seen live k d at in clause_closed w.0 trues (different k w.0 w.1) (units k w.0 w.1) (watched.each k w.0 w.1) apart m (sym (w.2 m) ∙ member) (grind arith) }
 
   no_empty : (c : Clause) → ((l : Literal) → has c l ≡ false) → HasUnit c trues → ⊥
   no_empty [] none h = h
-  no_empty (a ∷ c) none h = true≢false (sym (has_head a c) ∙ none a)
+  no_empty (a ∷ c) none h = grind (arith, has_head a c, none a)
 
   pub all_quiet : (assumed : List Literal) → ((a : Literal) → has assumed a ≡ true → has trues a ≡ true) → Clash (maps.get (each_in_order live)) assumed → ⊥
   all_quiet assumed start (by_empty k at) = let w = there_seen live k [] at in no_empty w.0 (λ l. sym (w.2 l)) (units k w.0 w.1)
@@ -99,4 +95,4 @@ units_carried before after trues same listed units s c is =
 pub units_kept : (a b : FinMap nat_cmp Clause) (x y : AssumptionsState) (r t : Literal → Option ℕ) → PropagatesTo a b x y r t →
     ((s : ℕ) (c : Clause) → maps.get a s ≡ Some c → HasUnit c x.trail.lits) → (s : ℕ) (c : Clause) → maps.get b s ≡ Some c → HasUnit c y.trail.lits
 units_kept a b x y r t carried units =
-    units_carried a b y.trail.lits carried.same carried.units (λ s d is. unit_more d x.trail.lits y.trail.lits (λ l h. has_begun x.trail.lits y.trail.lits l carried.extends.begins h) (units s d is))
+    units_carried a b y.trail.lits carried.same carried.units (λ s d is. unit_more d x.trail.lits y.trail.lits (grind (arith, has_begun, carried.extends.begins)) (units s d is))

@@ -1,9 +1,9 @@
 -- Looks at doubtful clauses.
-use Rattle.std.proofs.Common.{arith, ◌≡◌, ℕ, ◌+◌, ◌<◌, true, Some, List, [], ◌∷◌, length, take}
-use Rattle.std.proofs.Common.{get_or, sym, ap, ◌∙◌, inl, inr}
-use Rattle.std.proofs.lemmas.{Bool.false≢true, List.take_more, Option.same_Some}
+use Rattle.std.proofs.Common.{arith, ◌≡◌, ℕ, ◌+◌, ◌<◌, Some, List, [], ◌∷◌, length, take, get_or}
+use Rattle.std.proofs.Common.{sym, ap, ◌∙◌, inl, inr}
+use Rattle.std.proofs.lemmas.{Bool.false≢true, List.take_more}
 use Rattle.cnf_base.specs.Literals.{Literal, Clause, complement, has}
-use Rattle.cnf_base.proofs.SetLemmas.{has_cases, has_head}
+use Rattle.cnf_base.proofs.SetLemmas.{has_head}
 use Rattle.theory.specs.Propagation.{Live, open_literals}
 use Rattle.theory.proofs.PropagationLemmas.Open.{open_cases, open_has}
 use Rattle.trail.specs.Left.{how_many}
@@ -23,10 +23,6 @@ left_false ls c e k h = elim (open_cases ls c k h) [
   | inl left ↦ absurd (false≢true (ap (λ xs. has xs k) (sym (nothing_is (open_literals ls c) (sym e))) ∙ left))
   | inr is_false ↦ is_false
 ]
-
--- the clause in the slot has a literal that is true
-pub met_by : (live : Live) (slot : ℕ) (d : Clause) → live slot ≡ Some d → (m : Literal) → has d m ≡ true → (now : List Literal) → has now m ≡ true → (s : ℕ) → has (slot ∷ []) s ≡ true → (c : Clause) → live s ≡ Some c → (l : Literal) → IsMet c l now
-met_by live slot d here m member now set s among c is l there = grind (arith, has_cases, same_Some, false≢true)
 
 -- one more slot
 pub settled_more : (live : Live) (slots : List ℕ) (place : ℕ) → place < length slots → (first before now : List Literal) → IsPart first before → IsPart before now → AreSettled live (take place slots) first before →

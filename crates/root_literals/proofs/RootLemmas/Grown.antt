@@ -1,19 +1,18 @@
 -- What is kept where more follows.
 use Rattle.std.proofs.Common.{rules, ◌≡◌, ℕ, ◌+◌, ◌<◌, ◌≤◌, Bool, true, false, Option, Some, ◌∷◌}
 use Rattle.std.proofs.Common.{◌++◌, [], ◌⊎◌, inl, inr, List, length, take, get_or, refl, sym, ap}
-use Rattle.std.proofs.Common.{◌∙◌, subst, arith}
-use Rattle.std.proofs.lemmas.List.{take-take, take_all, take_more}
-use Rattle.std.specs.{Ordering.nat_cmp, FinMap.FinMap}
+use Rattle.std.proofs.Common.{◌∙◌, subst, arith, take-take, take_all}
+use Rattle.std.{proofs.lemmas.List.take_more, specs.Ordering.nat_cmp, specs.FinMap.FinMap}
+use Rattle.std.specs.FinMap as maps
 use Rattle.cnf_base.specs.Literals.{Literal, complement, Clause, has}
 use Rattle.tables.specs.Filled.{at}
 use Rattle.propagation.specs.Assumptions.{AssumptionsState}
-use Rattle.propagation.proofs.PropagationLemmas.Exact.{begins_on, longer_from}
 use Rattle.theory.specs.Propagation.{Live}
 use Rattle.root_literals.specs.History.{IsHistory, sure_of, visits, HasGrown}
 use Rattle.root_literals.specs.Roots.{AreReasoned, IsKept, IsKnown, has_clash, lacks_units, seen_of}
 use Rattle.root_literals.specs.{Code.Doubts.AreSettled, Uses.AreCounted}
-use Rattle.root_literals.specs.Watched.{IsPart, IsMet, IsWatched}
 use Rattle.root_literals.specs.{declared.history.History.History, Code.Propagated.PropagatesTo}
+use Rattle.root_literals.specs.Watched.{IsPart, IsMet, IsWatched}
 use Rattle.root_literals.specs.declared.{kept.Kept.TheVariants.WithoutUnits, roots.Roots.Roots}
 use Rattle.root_literals.proofs.RootLemmas.Watched.{front_part, sure_by, watched_done, watched_most}
 use Rattle.root_literals.proofs.RootLemmas.Watched.{watched_grown, watched_more, watched_all}
@@ -22,14 +21,13 @@ use Rattle.root_literals.proofs.RootLemmas.{History.watched_part, Kept.seen_same
 use Rattle.root_literals.proofs.RootLemmas.Uses.{counted_in_order, counted_longer}
 use Rattle.root_literals.proofs.RootLemmas.Carried.{history_carried, noted_carried, visited_carried}
 use Rattle.trail.proofs.TrailLemmas.Longer.{has_begun}
-use Rattle.std.specs.FinMap as maps
 
 module _ (a b : FinMap nat_cmp Clause) (x y : AssumptionsState) (r s : Literal → Option ℕ) (carried : PropagatesTo a b x y r s) where
   more : IsPart x.trail.lits y.trail.lits
   more l h = has_begun x.trail.lits y.trail.lits l carried.extends.begins h
 
   front : (n : ℕ) → n ≤ length x.trail.lits → take n y.trail.lits ≡ take n x.trail.lits
-  front n low = sym (take-take n (length x.trail.lits) y.trail.lits low) ∙ ap (take n) carried.extends.begins
+  front n low = grind (arith, take-take)
 
   pub visited_grown : (doubts : List ℕ) (n : ℕ) → n ≤ length x.trail.lits → IsWatched (sure_of doubts (maps.get a)) (take n x.trail.lits) x.trail.lits → IsWatched (sure_of doubts (maps.get b)) (take n y.trail.lits) y.trail.lits
   visited_grown doubts n low watched = grind (arith, watched_part, front, more, visited_carried)
@@ -105,6 +103,3 @@ begun_from live roots now before after kept quiet grown p low inside = elim grow
   | inl none ↦ watched_nothing (sure_of now.history.doubts.items (maps.get live)) (take (visits now.history) after) (take p after) (ap (λ n. take n after) none)
   | inr same ↦ search (rules, arith, watched_part, take-take, front_in_front, watched_most)
 ]
-
-pub grown_on : (old now : History) (x y z : List Literal) → (visits now ≡ 0) ⊎ HasGrown old now x y → take (length y) z ≡ y → (visits now ≡ 0) ⊎ HasGrown old now x z
-grown_on old now x y z first begins = grind (arith, begins_on, longer_from)

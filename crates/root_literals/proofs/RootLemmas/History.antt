@@ -1,9 +1,9 @@
 -- When the literals that are kept were propagated.
 use Rattle.std.proofs.Common.{◌≡◌, ◌≢◌, ℕ, ◌+◌, ◌<◌, ◌≤◌, List, [], ◌∷◌, ◌++◌, length, get_or, take}
-use Rattle.std.proofs.Common.{sym, ap, ◌∙◌, subst, arith, inl, inr, ◌⊎◌, rules}
-use Rattle.std.proofs.lemmas.List.{get_or-take, get_or_append_left, length-append, length-take-le}
+use Rattle.std.proofs.Common.{sym, ap, ◌∙◌, arith, inl, inr, ◌⊎◌, rules, get_or-take, length-append}
+use Rattle.std.proofs.Common.{length-take-le}
+use Rattle.std.proofs.lemmas.{List.get_or_append_left, Bool.cases_eq, Bool.cases_lt}
 use Rattle.std.proofs.{lemmas.List.take-take, lemmas.List.take_all, Math.Seq.get_or-append_seam}
-use Rattle.std.proofs.lemmas.Bool.{cases_eq, cases_lt}
 use Rattle.cnf_base.specs.Literals.{Literal, has}
 use Rattle.theory.specs.Propagation.{Live}
 use Rattle.root_literals.specs.History.{IsHistory, IsRewound, trues_at, visits}
@@ -19,10 +19,7 @@ pub watched_part : (live : Live) (done other trues more : List Literal) → IsPa
 watched_part live done other trues more fewer part watched = search rules
 
 pub front_in_front : (lits : List Literal) (d n : ℕ) → d ≤ n → IsPart (take d lits) (take n lits)
-front_in_front lits d n low l h = front_part d (take n lits) l (ap (λ ls. has ls l) (take-take d n lits low) ∙ h)
-
-watched_twice : (live : Live) (lits : List Literal) (d p n : ℕ) → d ≤ n → p ≤ n → IsWatched live (take d lits) (take p lits) → IsWatched live (take d (take n lits)) (take p (take n lits))
-watched_twice live lits d p n low inside watched = search (rules, take-take)
+front_in_front lits d n low l h = front_part d (take n lits) l (rw take-take h)
 
 -- ---- No visits
 
@@ -34,22 +31,13 @@ watched_none live history lits none = search rules
 
 -- ---- Other clauses
 
--- the same visits, where what they are known to have propagated is
-pub history_among : (live after : Live) (history : History) (lits : List Literal) → ((d p : ℕ) → d < visits history → history.floor < p → p ≤ length lits → IsWatched live (take d lits) (take p lits) → IsWatched after (take d lits) (take p lits)) →
-    IsHistory live history lits → IsHistory after history lits
-history_among live after history lits among is = search rules
-
 -- the same visits among other clauses, where what they are known to have propagated is, or no cut is told of
 pub history_noted : (live after : Live) (history noted : History) (lits : List Literal) → noted.visited ≡ history.visited →
     ((noted.floor ≡ history.floor) × ((d p : ℕ) → IsWatched live (take d lits) (take p lits) → IsWatched after (take d lits) (take p lits))) ⊎ (noted.floor ≡ length lits) → IsHistory live history lits → IsHistory after noted lits
 history_noted live after history noted lits visited either is = record {
-  inside = let n = ap (λ v. length v.items) visited in let low = is.inside in omega (arith, n, low);
-  began = λ d low. subst (λ v. d < get_or v.items d 0) (sym visited) (is.began d (subst (λ v. d < length v.items) visited low));
-  before = λ d p low at_most above inside. elim either [
-    | inl same ↦
-        same.1 d p (is.before d p (subst (λ v. d < length v.items) visited low) (subst (λ v. get_or v.items d 0 ≤ p) visited at_most) (subst (λ n. n < p) same.0 above) inside)
-    | inr high ↦ absurd (let wrong : ⊥ = omega (arith, high, above, inside) in wrong)
-  ];
+  inside = grind arith;
+  began = λ d low. grind (arith, is.began d);
+  before = λ d p low at_most above inside. grind (arith, is.before d p);
 }
 
 -- ---- More literals
@@ -61,14 +49,12 @@ history_on live history lits more begins longer past is = record {
   began = is.began;
   before = λ d p low at_most above inside. elim (cases_lt (length lits) p) [
     | inl far ↦ past d p low far
-    | inr within ↦
-        subst (λ ls. IsWatched live ls (take p more)) (sym (front d (omega (arith, low, is.inside))))
-        (subst (λ ls. IsWatched live (take d lits) ls) (sym (front p within)) (is.before d p low at_most above within))
+    | inr within ↦ rw (front d (omega (arith, low, is.inside)), front p within) (is.before d p low at_most above within)
   ];
 }
   where
     front : (k : ℕ) → k ≤ length lits → take k more ≡ take k lits
-    front k low = sym (take-take k (length lits) more low) ∙ ap (take k) begins
+    front k low = grind (arith, take-take)
 
 -- where the literals before the last visit are propagated among all
 pub history_longer : (live : Live) (history : History) (lits more : List Literal) (n : ℕ) → take (length lits) more ≡ lits → length lits ≤ length more → visits history ≤ n + 1 → IsWatched live (take n lits) lits → IsHistory live history lits → IsHistory live history more
@@ -92,26 +78,15 @@ pub history_begun : (live : Live) (history begun : History) (lits : List Literal
     ((p : ℕ) → trues ≤ p → p ≤ length lits → IsWatched live (take (visits history) lits) (take p lits)) → IsHistory live history lits → IsHistory live begun lits
 history_begun live history begun lits trues fits low_enough pushed floor_is watched is = record {
   inside = omega (arith, one_more, fits);
-  began = λ d low. elim (cases_eq d (visits history)) [
-    | inl e ↦ let here = last d e in omega (arith, here, e, low_enough)
-    | inr ne ↦ let old = earlier d (before_last d low ne) in let was = is.began d (before_last d low ne) in omega (arith, old, was)
-  ];
-  before = λ d p low at_most above inside. elim (cases_eq d (visits history)) [
-    | inl e ↦ let here = last d e in subst (λ n. IsWatched live (take n lits) (take p lits)) (sym e) (watched p (omega (arith, here, at_most)) inside)
-    | inr ne ↦
-        let old = earlier d (before_last d low ne) in
-        is.before d p (before_last d low ne) (omega (arith, old, at_most)) (subst (λ n. n < p) floor_is above) inside
-  ];
+  began = λ d low. grind (arith, cases_eq d (visits history), one_more, last d, earlier d, is.began d);
+  before = λ d p low at_most above inside. grind (arith, cases_eq d (visits history), one_more, last d, earlier d, is.before d p, watched p);
 }
   where
     one_more : visits begun ≡ visits history + 1
     one_more = ap length pushed ∙ length-append history.visited.items (trues ∷ [])
 
-    before_last : (d : ℕ) → d < visits begun → d ≢ visits history → d < visits history
-    before_last d low ne = grind (arith, cases_lt, one_more)
-
     earlier : (d : ℕ) → d < visits history → trues_at begun d ≡ trues_at history d
-    earlier d low = ap (λ ns. get_or ns d 0) pushed ∙ get_or_append_left history.visited.items (trues ∷ []) 0 d low
+    earlier d low = grind (arith, get_or_append_left)
 
     last : (d : ℕ) → d ≡ visits history → trues_at begun d ≡ trues
     last d e = ap (λ k. get_or begun.visited.items k 0) e ∙ ap (λ ns. get_or ns (visits history) 0) pushed ∙ get_or-append_seam history.visited.items trues [] 0
@@ -130,12 +105,7 @@ module _ (live : Live) (history now : History) (lits : List Literal) (place : �
   below some = search rules
 
   pub history_cut : IsHistory live now (take place lits)
-  history_cut = grind (arith, cases_eq, history_none, below, long, watched_twice, get_or-take)
+  history_cut = grind (arith, cases_eq, history_none, below, long, get_or-take, take-take)
 
   pub watched_cut : IsWatched live (take (visits now) (take place lits)) (take place lits)
-  watched_cut = elim (cases_eq (visits now) 0) [
-    | inl none ↦ watched_none live now (take place lits) none
-    | inr some ↦
-        let next = rewound.next some in let floor = rewound.floor some in let low = below some in
-        subst (λ ls. IsWatched live ls (take place lits)) (sym (take-take (visits now) place lits (omega (arith, low)))) (is.before (visits now) place next.0 next.1 floor.0 inside)
-  ]
+  watched_cut = grind (arith, watched_none, below, take-take, cases_eq (visits now) 0)

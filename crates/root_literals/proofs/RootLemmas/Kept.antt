@@ -1,31 +1,29 @@
 -- What is kept where clauses come and go.
-use Rattle.std.proofs.Common.{arith, ◌≡◌, ◌≢◌, ℕ, ◌+◌, ◌<◌, get_or, Bool, true, false, cond, eqb}
-use Rattle.std.proofs.Common.{eq-eqb, ne_eqb, Option, Some, None, is_some, option_map, List, []}
-use Rattle.std.proofs.Common.{◌∷◌, rules, length, take, ◌≤◌, refl, sym, ap, ◌∙◌, subst, inl, inr}
+use Rattle.std.proofs.Common.{arith, ◌≡◌, ◌≢◌, ℕ, ◌+◌, ◌<◌, get_or, true, false, cond, eqb, Option}
+use Rattle.std.proofs.Common.{Some, None, option_map, List, [], ◌∷◌, rules, length, take, ◌≤◌, refl}
+use Rattle.std.{proofs.Common.◌∙◌, proofs.Common.inl, specs.Ordering.nat_cmp, specs.FinMap.FinMap}
 use Rattle.std.proofs.lemmas.{Option.none-some, Option.same_Some, Bool.cases_eq, Bool.false≢true}
-use Rattle.std.specs.{Ordering.nat_cmp, FinMap.FinMap}
+use Rattle.std.specs.FinMap as maps
 use Rattle.cnf_base.specs.Literals.{Literal, complement, Clause, has}
 use Rattle.cnf_base.proofs.{MapLemmas.remove_here, MapLemmas.remove_other, SetLemmas.has_head}
 use Rattle.tables.specs.Filled.{at}
-use Rattle.root_literals.specs.History.{IsHistory, IsRewound, sure_of, visits}
+use Rattle.root_literals.specs.History.{IsRewound, sure_of, visits}
 use Rattle.root_literals.specs.declared.kept.Kept.TheVariants.{WithoutUnits, Clash as KeptClash}
-use Rattle.root_literals.specs.Roots.{seen_of, AreNoted, AreReasoned, HasReasons, HaveUnits, lacks_units}
-use Rattle.root_literals.specs.Roots.{IsArranged, IsFalseAt, IsKept, IsKnown, IsReasonAt, has_clash}
+use Rattle.root_literals.specs.Roots.{seen_of, AreNoted, HasReasons, HaveUnits, IsArranged, IsKept}
+use Rattle.root_literals.specs.Roots.{IsKnown, IsReasonAt, has_clash}
 use Rattle.root_literals.specs.declared.{kept.Kept.Kept, roots.Roots.Roots}
-use Rattle.root_literals.specs.{declared.history.History.History, Order.in_order}
+use Rattle.root_literals.specs.{declared.history.History.History, Order.in_order, Uses.AreCounted}
+use Rattle.root_literals.specs.{Uses.times, Order.each_in_order}
 use Rattle.root_literals.specs.Watched.{IsPart, IsMet, HasUnit, IsWatched}
-use Rattle.root_literals.specs.{Uses.AreCounted, Uses.clause_in, Uses.times, Order.each_in_order}
 use Rattle.root_literals.proofs.RootLemmas.Order.{get_ordered, has-in_order, seen_there}
 use Rattle.root_literals.proofs.RootLemmas.History.{history_cut, history_none, history_noted}
 use Rattle.root_literals.proofs.RootLemmas.History.{watched_cut, watched_none}
-use Rattle.root_literals.proofs.RootLemmas.Watched.{watched_sure}
 use Rattle.root_literals.proofs.RootLemmas.Reasons.{reasoned_among, reasoned_cut, reasoned_instead}
 use Rattle.root_literals.proofs.RootLemmas.Uses.{counted_among, counted_instead, in_rest}
 use Rattle.watch_lists.proofs.WatchListsLemmas.Watched.{watched_first}
 use Rattle.theory.specs.Propagation.{Live}
 use Rattle.trail.specs.declared.left.Left.TheVariants.{One, More}
 use Rattle.trail.specs.Trail.{HasNoVariableTwice}
-use Rattle.std.specs.FinMap as maps
 
 -- ---- One clause more
 
@@ -45,18 +43,8 @@ module _ (live after : FinMap nat_cmp Clause) (slot : ℕ) (c : Clause) (free : 
   still_there s d is = search (rules, cases_eq, none-some, option_map, get_ordered)
 
   pub noted_added : (reason_of : Literal → Option ℕ) → AreNoted (maps.get (each_in_order live)) reason_of → HasReasons c reason_of → AreNoted (maps.get (each_in_order after)) reason_of
-  noted_added reason_of noted reasons = record {
-    each = λ s d is l member. elim (cases_eq s slot) [
-      | inl e ↦ reasons l (sym (has-in_order c l) ∙ ap (λ x. has x l) (same_Some (in_order c) d (sym (seen_there after slot c here) ∙ ap (maps.get (each_in_order after)) (sym e) ∙ is)) ∙ member)
-      | inr ne ↦ noted.each s d (get_ordered live s ∙ ap (option_map in_order) (sym (others s ne)) ∙ sym (get_ordered after s) ∙ is) l member
-    ];
-  }
-
-  pub reasoned_added : (reason_of : Literal → Option ℕ) (lits : List Literal) → AreReasoned (maps.get (each_in_order live)) reason_of lits → AreReasoned (maps.get (each_in_order after)) reason_of lits
-  reasoned_added reason_of lits are = search (rules, reasoned_among, still_there)
-
-  pub false_added : (s : ℕ) (trues : List Literal) → IsFalseAt (maps.get (each_in_order live)) s trues → IsFalseAt (maps.get (each_in_order after)) s trues
-  false_added s trues false_at = search (rules, still_there)
+  noted_added reason_of noted reasons =
+      record { each = λ s d is l member. grind (arith, cases_eq s slot, reasons l, has-in_order c l, seen_there after slot c here, noted.each s d, get_ordered, others s) }
 
 -- two literals are not false, and stand first
 pub met_open : (c : Clause) (trues done more : List Literal) → IsPart done trues → IsArranged trues c More → (l : Literal) → has done (complement l) ≡ true → IsMet c l more
@@ -82,25 +70,18 @@ seen_same live roots after lits kept_is history_is seen quiet = grind arith
 -- ---- Another reason
 
 module _ (live : FinMap nat_cmp Clause) (roots after : Roots) (lits : List Literal) (kept_is : after.kept ≡ roots.kept) (history_is : after.history ≡ roots.history) (kept : IsKept live roots lits) where
-  with_reasons : AreNoted (maps.get (each_in_order live)) (at after.reasons) → AreReasoned (maps.get (each_in_order live)) (at after.reasons) lits → AreCounted (maps.get live) (at after.reasons) lits after.uses → IsKept live after lits
-  with_reasons noted reasoned counted = grind (arith, seen_same)
-
-  -- the same reasons, counted otherwise
-  pub kept_counted : after.reasons ≡ roots.reasons → AreCounted (maps.get live) (at after.reasons) lits after.uses → IsKept live after lits
-  kept_counted same counted = search rules
-
   -- another clause makes a literal true
   pub kept_instead : (m : Literal) (slot : ℕ) → HasNoVariableTwice lits → IsReasonAt (maps.get live) slot lits m → ((k : Literal) → at after.reasons k ≡ cond (eqb k m) (Some slot) (at roots.reasons k)) →
       AreCounted (maps.get live) (at after.reasons) lits after.uses → IsKept live after lits
-  kept_instead m slot apart by set counted =
-      with_reasons (record { each = λ s c is l member. ap is_some (set l) ∙ by_test (eqb l m) (at roots.reasons l) (kept.noted.each s c is l member) })
-      (reasoned_instead (maps.get (each_in_order live)) (at roots.reasons) lits kept.reasoned (at after.reasons) m slot apart shown (set m ∙ ap (λ b. cond b (Some slot) (at roots.reasons m)) (eq-eqb m m refl))
-      (λ l ne. set l ∙ ap (λ b. cond b (Some slot) (at roots.reasons l)) (ne_eqb l m ne)))
-      counted
+  kept_instead m slot apart by set counted = record {
+    noted = record { each = λ s d is l member. grind (arith, set l, kept.noted.each s d is l) };
+    reasoned = reasoned_instead (maps.get (each_in_order live)) (at roots.reasons) lits kept.reasoned (at after.reasons) m slot apart shown (grind (arith, set m)) (grind (arith, set));
+    known = rw kept_is kept.known;
+    history = rw history_is kept.history;
+    visited = grind arith;
+    counted = counted;
+  }
     where
-      by_test : (b : Bool) (o : Option ℕ) → is_some o ≡ true → is_some (cond b (Some slot) o) ≡ true
-      by_test b o h = grind arith
-
       shown : IsReasonAt (maps.get (each_in_order live)) slot lits m
       shown = record {
         clause = in_order by.clause;
@@ -109,52 +90,40 @@ module _ (live : FinMap nat_cmp Clause) (roots after : Roots) (lits : List Liter
         place = by.place;
         inside = by.inside;
         stands = by.stands;
-        others = λ k h. by.others k (sym (has-in_order by.clause k) ∙ h);
+        others = grind (arith, has-in_order);
       }
 
   module _ (m : Literal) (slot : ℕ) (apart : HasNoVariableTwice lits) (by : IsReasonAt (maps.get live) slot lits m) (set : (k : Literal) → at after.reasons k ≡ cond (eqb k m) (Some slot) (at roots.reasons k)) (before : ℕ) (c : Clause)
       (was : at roots.reasons m ≡ Some before) (there : maps.get live before ≡ Some c) where
     is_now : at after.reasons m ≡ Some slot
-    is_now = set m ∙ ap (λ b. cond b (Some slot) (at roots.reasons m)) (eq-eqb m m refl)
+    is_now = grind (arith, set m)
 
     others_stay : (l : Literal) → l ≢ m → at after.reasons l ≡ at roots.reasons l
-    others_stay l ne = set l ∙ ap (λ b. cond b (Some slot) (at roots.reasons l)) (ne_eqb l m ne)
+    others_stay l ne = grind (arith, set l)
 
     -- a copy of its unit clause
     pub kept_copy : c ≡ m ∷ [] → maps.get live slot ≡ Some (m ∷ []) → after.uses ≡ roots.uses → IsKept live after lits
-    kept_copy alone copy same = kept_instead m slot apart by set
-        (subst (AreCounted (maps.get live) (at after.reasons) lits) (sym same)
-        (counted_among (maps.get live) (maps.get live) (at roots.reasons) (at after.reasons) lits roots.uses kept.counted (grind (arith, cases_eq, is_now, others_stay))))
+    kept_copy alone copy same =
+        kept_instead m slot apart by set (rw same (counted_among (maps.get live) (maps.get live) (at roots.reasons) (at after.reasons) lits roots.uses kept.counted (grind (arith, cases_eq, is_now, others_stay))))
 
     -- a clause of which the literals are counted in the place of those of the other
     pub kept_exchange : (d : Clause) → maps.get live slot ≡ Some d → (place : ℕ) → place < length lits → get_or lits place 0 ≡ m → (after.uses.counted ≢ 0 → after.uses.counted ≡ roots.uses.counted) →
         (after.uses.counted ≢ 0 → place < roots.uses.counted → (k : Literal) → times roots.uses k + cond (has d k) 1 0 ≤ times after.uses k + cond (has c k) 1 0) → (roots.uses.counted ≤ place → after.uses ≡ roots.uses) → IsKept live after lits
     kept_exchange d here place inside stands counted exchanged stays =
-        kept_instead m slot apart by set
-        (counted_instead lits place m inside stands apart (maps.get live) (at roots.reasons) (at after.reasons) roots.uses after.uses c d (ap (clause_in (maps.get live)) was ∙ there) (ap (clause_in (maps.get live)) is_now ∙ here) others_stay counted exchanged stays kept.counted)
+        kept_instead m slot apart by set (counted_instead lits place m inside stands apart (maps.get live) (at roots.reasons) (at after.reasons) roots.uses after.uses c d (grind arith) (grind (arith, is_now)) others_stay counted exchanged stays kept.counted)
 
 -- ---- Fewer literals
 
 pub kept_cut : (live : FinMap nat_cmp Clause) (roots after : Roots) (lits now : List Literal) (place : ℕ) → IsKept live roots lits → place ≤ length lits → after.kept ≡ WithoutUnits → IsRewound roots.history after.history place → after.reasons ≡ roots.reasons → now ≡ take place lits →
     AreCounted (maps.get live) (at after.reasons) now after.uses → IsKept live after now
 kept_cut live roots after lits now place kept inside cut rewound reasons is counted = record {
-  noted = subst (λ t. AreNoted (maps.get (each_in_order live)) (at t)) (sym reasons) kept.noted;
+  noted = rw reasons kept.noted;
   reasoned = grind (arith, reasoned_cut);
-  known = subst (λ k. IsKnown live k now) (sym cut) tt;
-  history = subst (IsHistory (sure_of after.history.doubts.items (maps.get live)) after.history) (sym is) (elim (cases_eq (visits after.history) 0) [
-    | inl none ↦ history_none (sure_of after.history.doubts.items (maps.get live)) after.history (take place lits) none
-    | inr some ↦
-        subst (λ ds. IsHistory (sure_of ds (maps.get live)) after.history (take place lits)) (sym (rewound.doubts some))
-        (history_cut (sure_of roots.history.doubts.items (maps.get live)) roots.history after.history lits place kept.history rewound inside)
-  ]);
-  visited = λ quiet.
-      subst (λ k. IsWatched (sure_of (cond (lacks_units k) after.history.doubts.items []) (maps.get live)) (take (visits after.history) now) now) (sym cut)
-      (subst (λ ls. IsWatched (sure_of after.history.doubts.items (maps.get live)) (take (visits after.history) ls) ls) (sym is) (elim (cases_eq (visits after.history) 0) [
-        | inl none ↦ watched_none (sure_of after.history.doubts.items (maps.get live)) after.history (take place lits) none
-        | inr some ↦
-            subst (λ ds. IsWatched (sure_of ds (maps.get live)) (take (visits after.history) (take place lits)) (take place lits)) (sym (rewound.doubts some))
-            (watched_cut (sure_of roots.history.doubts.items (maps.get live)) roots.history after.history lits place kept.history rewound inside)
-      ]));
+  known = rw cut tt;
+  history =
+      grind (arith, cases_eq (visits after.history) 0, history_none, history_cut (sure_of roots.history.doubts.items (maps.get live)) roots.history after.history lits place kept.history rewound inside);
+  visited =
+      grind (arith, cases_eq (visits after.history) 0, watched_none, watched_cut (sure_of roots.history.doubts.items (maps.get live)) roots.history after.history lits place kept.history rewound inside);
   counted = counted;
 }
 
@@ -178,18 +147,17 @@ module _ (live : FinMap nat_cmp Clause) (slot : ℕ) where
   was_seen s d is = search (rules, cases_eq, none-some, option_map, gone, get_ordered, elsewhere)
 
   pub still_seen : (s : ℕ) → s ≢ slot → (d : Clause) → maps.get (each_in_order live) s ≡ Some d → maps.get (each_in_order (maps.remove live slot)) s ≡ Some d
-  still_seen s ne d is = get_ordered (maps.remove live slot) s ∙ ap (option_map in_order) (elsewhere s ne) ∙ sym (get_ordered live s) ∙ is
+  still_seen s ne d is = grind (arith, get_ordered, option_map, elsewhere)
 
   pub noted_left : (reason_of : Literal → Option ℕ) → AreNoted (maps.get (each_in_order live)) reason_of → AreNoted (maps.get (each_in_order (maps.remove live slot))) reason_of
   noted_left reason_of noted = record { each = λ s d is. noted.each s d (was_seen s d is) }
 
   watched_left : (done trues : List Literal) → IsWatched (maps.get live) done trues → IsWatched (maps.get (maps.remove live slot)) done trues
-  watched_left done trues watched = record { each = λ s d at_s. watched.each s d (was_there s d at_s) }
+  watched_left done trues watched = grind (arith, was_there)
 
   -- where no other clause is doubtful that wasn't
   watched_sure_left : (doubts later : List ℕ) (done trues : List Literal) → ((s : ℕ) → s ≢ slot → has later s ≡ has doubts s) → IsWatched (sure_of doubts (maps.get live)) done trues → IsWatched (sure_of later (maps.get (maps.remove live slot))) done trues
-  watched_sure_left doubts later done trues others =
-      search (rules, watched_sure, was_there, none-some, gone)
+  watched_sure_left doubts later done trues others = grind (arith, was_there, none-some, gone)
 
   -- nothing that is kept rests on it
   module _ (roots : Roots) (lits : List Literal) (kept : IsKept live roots lits) (c : Clause) (here : maps.get live slot ≡ Some c) (no_clash : roots.kept ≢ KeptClash slot)
@@ -201,10 +169,7 @@ module _ (live : FinMap nat_cmp Clause) (slot : ℕ) where
     kept_left later visited_is floor_is others = record {
       noted = noted_left (at roots.reasons) kept.noted;
       reasoned = reasoned_among (maps.get (each_in_order live)) (at roots.reasons) lits kept.reasoned (maps.get (each_in_order (maps.remove live slot))) (λ l s d member is at_s.
-          still_seen s (λ e.
-          let w = kept.reasoned.has_it l s member is in
-          let same = same_Some (in_order c) w.clause (sym (seen_there live slot c here) ∙ ap (maps.get (each_in_order live)) (sym e) ∙ w.at) in
-          no_reason l (sym (has-in_order c l) ∙ ap (λ x. has x l) same ∙ w.member) member (is ∙ ap Some e)) d at_s);
+          still_seen s (λ e. grind (arith, kept.reasoned.has_it l s member is, seen_there live slot c here, has-in_order c l, no_reason l)) d at_s);
       known = still_known roots.kept refl kept.known;
       history =
           history_noted (sure_of roots.history.doubts.items (maps.get live)) (sure_of later.doubts.items (maps.get (maps.remove live slot))) roots.history later lits visited_is
@@ -212,7 +177,3 @@ module _ (live : FinMap nat_cmp Clause) (slot : ℕ) where
       visited = grind (arith, watched_sure_left);
       counted = counted_among (maps.get live) (maps.get (maps.remove live slot)) (at roots.reasons) (at roots.reasons) lits roots.uses kept.counted (λ k l _. in_rest live slot k (at roots.reasons l));
     }
-      where
-        others_seen : (b : Bool) (s : ℕ) → s ≢ slot → has (cond b later.doubts.items []) s ≡ has (cond b roots.history.doubts.items []) s
-        others_seen true s ne = others s ne
-        others_seen false s ne = refl

@@ -1,12 +1,12 @@
 -- Clauses in order are the same sets.
-use Rattle.std.proofs.Common.{◌≡◌, ◌≢◌, ℕ, Bool, true, cond, eqb, eqb-true, filter, ◌&&◌}
-use Rattle.std.proofs.Common.{◌||◌, T, Option, Some, option_map, is_some, List, [], ◌∷◌, map}
-use Rattle.std.proofs.Common.{sum_by, refl, sym, ap, ◌∙◌, subst, arith, rules}
+use Rattle.std.proofs.Common.{◌≡◌, ◌≢◌, ℕ, Bool, true, cond, eqb, eqb-true, filter, ◌&&◌, ◌||◌, T}
+use Rattle.std.proofs.Common.{Option, Some, option_map, is_some, List, [], ◌∷◌, map, sum_by, refl}
+use Rattle.std.proofs.Common.{sym, ap, ◌∙◌, subst, arith, rules, nat_cmp, is_lt}
+use Rattle.std.specs.FinMap.{find, FinMap, is_sorted, Entries.below_all}
 use Rattle.std.proofs.lemmas.Option.{none-some, same_Some}
 use Rattle.std.proofs.lemmas.{Bool.Decides.nat_tests, Bool.true≢false, List.Sums.sum_by-cons}
-use Rattle.std.specs.Ordering.{nat_cmp, is_lt, eq_by_cmp}
-use Rattle.std.specs.FinMap.{FinMap, find, is_sorted, Entries.below_all}
-use Rattle.std.specs.{Cmp.nat_cmp_total, List.list_any}
+use Rattle.std.specs.{Ordering.eq_by_cmp, Cmp.nat_cmp_total, List.list_any}
+use Rattle.std.specs.FinMap as maps
 use Rattle.cnf_base.specs.Literals.{Literal, Clause, complement, complements, has, same_clause}
 use Rattle.cnf_base.specs.{Maps.sum_over, Literals.size}
 use Rattle.cnf_base.proofs.{LiteralLemmas.complement-complement, SizeLemmas.size_same}
@@ -16,7 +16,6 @@ use Rattle.cnf_base.proofs.MapLemmas.{get_insert, get_remove, inserted_is, same_
 use Rattle.propagation.specs.Assumptions.{HasAt}
 use Rattle.clause_db.specs.Store.{IsTouchedAt, literals_in}
 use Rattle.root_literals.specs.Order.{set_of, in_order, each_in_order}
-use Rattle.std.specs.FinMap as maps
 
 tie_back : (k q : ℕ) → eq_by_cmp nat_cmp k q ≡ eqb q k
 tie_back k q = grind (arith, nat_tests)
@@ -76,14 +75,12 @@ still_sorted live = subst T (sym (sorted_ordered (maps.entries live))) (maps.ent
 pub get_ordered : (live : FinMap nat_cmp Clause) (s : ℕ) → maps.get (each_in_order live) s ≡ option_map in_order (maps.get live s)
 unfolding each_in_order
 get_ordered live s =
-    maps.get-from_sorted nat_cmp (ordered (maps.entries live)) s (still_sorted live) ∙ find_ordered s (maps.entries live)
-    ∙ ap (option_map in_order) (sym (maps.get-entries live s))
+    grind (arith, maps.get-from_sorted, still_sorted, find_ordered, option_map, maps.get-entries)
 
 pub sum_ordered : (w v : Clause → ℕ) → ((c : Clause) → w (in_order c) ≡ v c) → (live : FinMap nat_cmp Clause) → sum_over w (each_in_order live) ≡ sum_over v live
 unfolding each_in_order
 sum_ordered w v alike live =
-    ap (λ es. sum_by w (map (λ e. e.1) es)) (maps.entries-from_sorted nat_cmp (ordered (maps.entries live)) (still_sorted live))
-    ∙ weights_ordered w v alike (maps.entries live)
+    grind (arith, sum_by, map, maps.entries-from_sorted, still_sorted, weights_ordered)
 
 pub literals_ordered : (live : FinMap nat_cmp Clause) → literals_in (each_in_order live) ≡ literals_in live
 literals_ordered = sum_ordered size size size-in_order
@@ -94,7 +91,7 @@ pub ordered_remove : (live : FinMap nat_cmp Clause) (s : ℕ) → each_in_order 
 ordered_remove live s = search (rules, same_maps, get_ordered, option_map, get_remove)
 
 pub ordered_empty : each_in_order maps.empty ≡ maps.empty
-ordered_empty = same_maps _ _ (λ q. get_ordered maps.empty q ∙ ap (option_map in_order) (maps.get-empty nat_cmp q) ∙ sym (maps.get-empty nat_cmp q))
+ordered_empty = grind (arith, same_maps, get_ordered, option_map, maps.get-empty)
 
 -- a clause that is put in the place of one with the same literals isn't seen
 pub ordered_same : (live : FinMap nat_cmp Clause) (s : ℕ) (c d : Clause) → maps.get live s ≡ Some c → ((l : Literal) → has d l ≡ has c l) → each_in_order (maps.insert live s d) ≡ each_in_order live

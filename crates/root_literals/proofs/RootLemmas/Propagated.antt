@@ -1,9 +1,8 @@
 -- What propagation leaves as it was.
-use Rattle.std.proofs.Common.{◌≡◌, ◌≢◌, ℕ, ◌+◌, Bool, true, false, ◌&&◌, cond, not, eqb, eq-eqb}
-use Rattle.std.proofs.Common.{eqb-true, Option, Some, is_some, [], ◌∷◌, ◌++◌, length, refl, sym, ap}
-use Rattle.std.proofs.Common.{◌∙◌, subst, arith}
-use Rattle.std.proofs.lemmas.{Bool.true≢false, List.take_all}
-use Rattle.std.specs.{Ordering.nat_cmp, FinMap.FinMap}
+use Rattle.std.proofs.Common.{◌≡◌, ◌≢◌, ℕ, Bool, true, false, ◌&&◌, cond, not, eqb, eqb-true}
+use Rattle.std.proofs.Common.{Option, Some, [], ◌∷◌, ◌++◌, refl, ◌∙◌, arith}
+use Rattle.std.{proofs.lemmas.List.take_all, specs.Ordering.nat_cmp, specs.FinMap.FinMap}
+use Rattle.std.specs.FinMap as maps
 use Rattle.cnf_base.specs.Literals.{Literal, complement, Clause, has}
 use Rattle.theory.specs.{Propagation.Forced, Propagation.Clash, Sets.SameSet}
 use Rattle.theory.proofs.PropagationLemmas.Forced.{forced_assumed, forced_unit, forced_through}
@@ -15,31 +14,32 @@ use Rattle.root_literals.specs.{Roots.IsFalseAt, Code.Propagated.PropagatesTo, W
 use Rattle.root_literals.proofs.RootLemmas.Order.{has-in_order, seen_there}
 use Rattle.root_literals.proofs.RootLemmas.Reasons.{reasoned_more, reasoned_same}
 use Rattle.trail.proofs.TrailLemmas.Longer.{has_begun, pushed_each}
-use Rattle.std.specs.FinMap as maps
 
 pub extends_none : (held : AssumptionsState) → Extends held held
-extends_none held = record { begins = take_all (length held.trail.lits) held.trail.lits (omega arith); longer = omega arith; reserved = λ v. refl; assumptions = refl; starts = refl }
+extends_none held = grind (arith, take_all)
 
 pub propagates_none : (live : FinMap nat_cmp Clause) (held : AssumptionsState) (reason_of : Literal → Option ℕ) → PropagatesTo live live held held reason_of reason_of
 propagates_none live held reason_of = grind (arith, forced_assumed, extends_none)
 
 pub propagates_on : (a b c : FinMap nat_cmp Clause) (x y z : AssumptionsState) (r s t : Literal → Option ℕ) → PropagatesTo a b x y r s → PropagatesTo b c y z s t → PropagatesTo a c x z r t
-propagates_on a b c x y z r s t first second =
-    let more : IsPart x.trail.lits y.trail.lits = λ l h. has_begun x.trail.lits y.trail.lits l first.extends.begins h in record {
-      same = second.same ∙ first.same;
-      units = λ s. second.units s ∙ first.units s;
-      kept = λ doubts done trues p q w. second.kept doubts done trues (λ l h. more l (p l h)) (λ l h. more l (q l h)) (first.kept doubts done trues p q w);
-      sound = λ l h. forced_through (maps.get (each_in_order a)) y.trail.lits x.trail.lits first.sound l (subst (λ m. Forced (maps.get m) y.trail.lits l) first.same (second.sound l h));
-      extends = extends_on x y z first.extends second.extends;
-      noted = λ l h. second.noted l (first.noted l h);
-      as_before = λ l h. second.as_before l (more l h) ∙ first.as_before l h;
-      reasoned = grind arith;
-    }
+propagates_on a b c x y z r s t first second = record {
+  same = second.same ∙ first.same;
+  units = λ s. second.units s ∙ first.units s;
+  kept = λ doubts done trues p q w. second.kept doubts done trues (λ l h. more l (p l h)) (λ l h. more l (q l h)) (first.kept doubts done trues p q w);
+  sound = λ l h. forced_through (maps.get (each_in_order a)) y.trail.lits x.trail.lits first.sound l (rw (← first.same) (second.sound l h));
+  extends = extends_on x y z first.extends second.extends;
+  noted = λ l h. second.noted l (first.noted l h);
+  as_before = λ l h. second.as_before l (more l h) ∙ first.as_before l h;
+  reasoned = grind arith;
+}
+  where
+    more : IsPart x.trail.lits y.trail.lits
+    more l h = has_begun x.trail.lits y.trail.lits l first.extends.begins h
 
 -- a clause that became false
 pub clash_from : (a b : FinMap nat_cmp Clause) (x y : AssumptionsState) (r s : Literal → Option ℕ) → PropagatesTo a b x y r s → (slot : ℕ) → IsFalseAt (maps.get (each_in_order b)) slot y.trail.lits → Clash (maps.get (each_in_order a)) x.trail.lits
 clash_from a b x y r s carried slot false_at =
-    clash_by_false (maps.get (each_in_order a)) x.trail.lits slot false_at.clause (ap (λ m. maps.get m slot) (sym carried.same) ∙ false_at.at) (λ k h. carried.sound (complement k) (false_at.falses k h))
+    clash_by_false (maps.get (each_in_order a)) x.trail.lits slot false_at.clause (grind arith) (λ k h. carried.sound (complement k) (false_at.falses k h))
 
 -- a clause
 module _ (live : FinMap nat_cmp Clause) (held : AssumptionsState) (slot : ℕ) (c : Clause) (here : maps.get live slot ≡ Some c) where
@@ -47,8 +47,7 @@ module _ (live : FinMap nat_cmp Clause) (held : AssumptionsState) (slot : ℕ) (
   module _ (m : Literal) (member : has c m ≡ true) (others : (k : Literal) → has c k ≡ true → k ≢ m → has held.trail.lits (complement k) ≡ true) where
     m_forced : Forced (maps.get (each_in_order live)) held.trail.lits m
     m_forced =
-        forced_unit (maps.get (each_in_order live)) held.trail.lits slot (in_order c) (seen_there live slot c here) m (has-in_order c m ∙ member)
-        (λ k h ne. forced_assumed (maps.get (each_in_order live)) held.trail.lits (complement k) (others k (sym (has-in_order c k) ∙ h) ne))
+        forced_unit (maps.get (each_in_order live)) held.trail.lits slot (in_order c) (seen_there live slot c here) m (has-in_order c m ∙ member) (grind (arith, forced_assumed, has-in_order))
 
     pub propagates_unit : (after : AssumptionsState) (is_open : Bool) → is_open ≡ not (has held.trail.lits m) → after.trail.lits ≡ cond is_open (held.trail.lits ++ m ∷ []) held.trail.lits →
         SameSet after.trail.reserved held.trail.reserved → after.assumptions ≡ held.assumptions → after.starts ≡ held.starts → (reason_of reason_now : Literal → Option ℕ) →
@@ -59,27 +58,24 @@ module _ (live : FinMap nat_cmp Clause) (held : AssumptionsState) (slot : ℕ) (
       kept = λ doubts done trues p q w. w;
       sound = λ l h. by_open is_open is l h;
       extends = extends_made held after m is_open was is reserved assumptions starts;
-      noted = λ l h. ap is_some (reasons l) ∙ noted_set (is_open && eqb l m) (reason_of l) h;
-      as_before = λ l h. reasons l ∙ kept_set is_open was l h (eqb l m) refl;
-      reasoned = λ are. subst (AreReasoned (maps.get (each_in_order live)) reason_now) (sym is) (reasoned_set is_open was reasons are);
+      noted = λ l h. grind (arith, reasons l);
+      as_before = as_before;
+      reasoned = λ are. rw is (reasoned_set is_open was reasons are);
     }
       where
         by_open : (b : Bool) → after.trail.lits ≡ cond b (held.trail.lits ++ m ∷ []) held.trail.lits → (l : Literal) → has after.trail.lits l ≡ true → Forced (maps.get (each_in_order live)) held.trail.lits l
-        by_open true e l h = pushed_each (Forced (maps.get (each_in_order live)) held.trail.lits) held.trail.lits m (λ k g. forced_assumed (maps.get (each_in_order live)) held.trail.lits k g) m_forced l (ap (λ ls. has ls l) (sym e) ∙ h)
-        by_open false e l h = forced_assumed (maps.get (each_in_order live)) held.trail.lits l (ap (λ ls. has ls l) (sym e) ∙ h)
+        by_open true e l h = pushed_each (Forced (maps.get (each_in_order live)) held.trail.lits) held.trail.lits m (forced_assumed (maps.get (each_in_order live)) held.trail.lits) m_forced l (rw e at h)
+        by_open false e l h = forced_assumed (maps.get (each_in_order live)) held.trail.lits l (rw e at h)
 
-        noted_set : (b : Bool) (o : Option ℕ) → is_some o ≡ true → is_some (cond b (Some slot) o) ≡ true
-        noted_set b o h = grind arith
-
-        kept_set : (b : Bool) → b ≡ not (has held.trail.lits m) → (l : Literal) → has held.trail.lits l ≡ true → (t : Bool) → eqb l m ≡ t → cond (b && t) (Some slot) (reason_of l) ≡ reason_of l
-        kept_set b h l h2 t h3 = grind (arith, true≢false, eqb-true)
+        as_before : (l : Literal) → has held.trail.lits l ≡ true → reason_now l ≡ reason_of l
+        as_before l h = grind (arith, reasons l, eqb-true l m)
 
         reasoned_set : (b : Bool) → b ≡ not (has held.trail.lits m) → ((k : Literal) → reason_now k ≡ cond (b && eqb k m) (Some slot) (reason_of k)) →
             AreReasoned (maps.get (each_in_order live)) reason_of held.trail.lits → AreReasoned (maps.get (each_in_order live)) reason_now (cond b (held.trail.lits ++ m ∷ []) held.trail.lits)
-        reasoned_set false was set are = reasoned_same (maps.get (each_in_order live)) reason_of held.trail.lits are reason_now (λ l h. set l)
+        reasoned_set false was set are = reasoned_same (maps.get (each_in_order live)) reason_of held.trail.lits are reason_now as_before
         reasoned_set true was set are =
-            reasoned_more (maps.get (each_in_order live)) reason_of held.trail.lits are reason_now m slot (in_order c) (seen_there live slot c here) (has-in_order c m ∙ member)
-            (set m ∙ ap (λ b. cond b (Some slot) (reason_of m)) (eq-eqb m m refl)) (λ k h. others k (sym (has-in_order c k) ∙ h)) (λ l h. set l ∙ kept_set true was l h (eqb l m) refl)
+            reasoned_more (maps.get (each_in_order live)) reason_of held.trail.lits are reason_now m slot (in_order c) (seen_there live slot c here) (has-in_order c m ∙ member) (grind (arith, set m)) (grind (arith, has-in_order)) as_before
 
   pub clashes : ((k : Literal) → has c k ≡ true → has held.trail.lits (complement k) ≡ true) → IsFalseAt (maps.get (each_in_order live)) slot held.trail.lits
-  clashes falses = record { clause = in_order c; at = seen_there live slot c here; falses = λ k h. falses k (sym (has-in_order c k) ∙ h) }
+  clashes falses =
+      record { clause = in_order c; at = seen_there live slot c here; falses = grind (arith, has-in_order) }

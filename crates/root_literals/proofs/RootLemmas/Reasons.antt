@@ -3,7 +3,7 @@ use Rattle.std.proofs.Common.{◌≡◌, ◌≢◌, ℕ, Bool, true, Option, Som
 use Rattle.std.proofs.Common.{length, take, sym, ap, ◌∙◌, subst, arith, inl, inr, ◌≤◌}
 use Rattle.std.proofs.lemmas.{Bool.cases_eq, Bool.cases_lt, List.length-append, List.length-take}
 use Rattle.std.proofs.lemmas.{List.take-append-le, List.take-take, List.take_all, Option.same_Some}
-use Rattle.cnf_base.specs.Literals.{Literal, complement, Clause, has, variable}
+use Rattle.cnf_base.specs.Literals.{Literal, complement, Clause, has}
 use Rattle.cnf_base.proofs.SetLemmas.{has_append_left, has_append_right, has_head}
 use Rattle.cnf_base.proofs.MemberLemmas.{place_in_front}
 use Rattle.theory.specs.Propagation.{Live, Forced}
@@ -20,15 +20,11 @@ AllPass live reason_of passes lits = FollowsReasons live reason_of lits passes �
 module _ (live : Live) (reason_of : Literal → Option ℕ) (lits : List Literal) (are : AreReasoned live reason_of lits) where
   in_all : (passes : Literal → Bool) → FollowsReasons live reason_of lits passes → (l : Literal) → has lits l ≡ true → passes l ≡ true
   in_all passes follows l member =
-      are.in_each (length lits) passes (λ k s c there. follows k s c (front_part (length lits) lits k there)) l (ap (λ ls. has ls l) (take_all (length lits) lits (omega arith)) ∙ member)
+      grind (arith, are.in_each (length lits) passes, front_part, take_all)
 
   pub reasoned_forced : (l : Literal) → has lits l ≡ true → Forced live [] l
-  reasoned_forced l member = record {
-    in_each = λ passes closed start. in_all passes (λ k s c there is at others. closed.unit s c at k (in_reason k s c there is at) others) l member;
-  }
-    where
-      in_reason : (k : Literal) (s : ℕ) (c : Clause) → has lits k ≡ true → reason_of k ≡ Some s → live s ≡ Some c → has c k ≡ true
-      in_reason k s c there is at = let w = are.has_it k s there is in ap (λ d. has d k) (same_Some c w.clause (sym at ∙ w.at)) ∙ w.member
+  reasoned_forced l member =
+      record { in_each = λ passes closed start. in_all passes (λ k s c there is at others. closed.unit s c at k (grind (arith, are.has_it k s there is)) others) l member }
 
   -- each has one
   pub reasoned_some : (l : Literal) → has lits l ≡ true → is_some (reason_of l) ≡ true
@@ -37,8 +33,8 @@ module _ (live : Live) (reason_of : Literal → Option ℕ) (lits : List Literal
   -- the same reasons
   pub reasoned_same : (reason_now : Literal → Option ℕ) → ((l : Literal) → has lits l ≡ true → reason_now l ≡ reason_of l) → AreReasoned live reason_now lits
   reasoned_same reason_now same = record {
-    has_it = λ l s member is. are.has_it l s member (sym (same l member) ∙ is);
-    in_each = λ n passes follows. are.in_each n passes (λ l s c member is. follows l s c member (same l (front_part n lits l member) ∙ is));
+    has_it = grind (arith, are.has_it);
+    in_each = λ n passes follows. are.in_each n passes (grind (arith, follows, front_part));
   }
 
   -- other clauses, among which all reasons are
@@ -53,8 +49,8 @@ module _ (live : Live) (reason_of : Literal → Option ℕ) (lits : List Literal
   reasoned_cut place = record {
     has_it = λ l s member. are.has_it l s (front_part place lits l member);
     in_each = λ n passes. elim (cases_lt n place) [
-      | inl low ↦ subst (AllPass live reason_of passes) (sym (take-take n place lits (omega (arith, low)))) (are.in_each n passes)
-      | inr past ↦ subst (AllPass live reason_of passes) (sym (take_all n (take place lits) (let long = length-take place lits in omega (arith, long, past)))) (are.in_each place passes)
+      | inl low ↦ rw (take-take n place lits (omega (arith, low))) (are.in_each n passes)
+      | inr past ↦ rw (take_all n (take place lits) (grind (arith, length-take))) (are.in_each place passes)
     ];
   }
 
@@ -85,24 +81,17 @@ module _ (live : Live) (reason_of : Literal → Option ℕ) (lits : List Literal
   module _ (reason_now : Literal → Option ℕ) (m : Literal) (slot : ℕ) (apart : HasNoVariableTwice lits) (by : IsReasonAt live slot lits m) (set : reason_now m ≡ Some slot) (same : (l : Literal) → l ≢ m → reason_now l ≡ reason_of l) where
     not_before : (n : ℕ) → n ≤ by.place → has (take n lits) m ≡ true → ⊥
     not_before n low member =
-        let w = place_in_front lits n m member in let inside = w.1 in
-        places_apart lits apart w.0 by.place (omega (arith, low, inside)) by.inside (ap variable (w.3 ∙ sym by.stands))
+        let w = place_in_front lits n m member in
+        places_apart lits apart w.0 by.place (grind arith) by.inside (grind arith)
 
     from_front : (n : ℕ) (passes : Literal → Bool) → FollowsReasons live reason_now (take n lits) passes → has (take n lits) m ≡ true → passes m ≡ true
     from_front n passes follows member = elim (cases_lt by.place n) [
-      | inl low ↦ follows m slot by.clause member set by.at (λ k h ne.
-          are.in_each by.place passes (λ l s c there is at others.
-          follows l s c (front_part by.place (take n lits) l (ap (λ ls. has ls l) (take-take by.place n lits (omega (arith, low))) ∙ there)) (same l (λ e. not_before by.place (omega arith) (ap (has (take by.place lits)) (sym e) ∙ there)) ∙ is) at others)
-          (complement k) (by.others k h ne))
+      | inl low ↦ follows m slot by.clause member set by.at (λ k h ne. are.in_each by.place passes (λ l s c there is at others. grind (arith, follows l s c, take-take by.place n lits, front_part by.place (take n lits) l, same l, not_before by.place)) (complement k) (by.others k h ne))
       | inr past ↦ absurd (not_before n past member)
     ]
 
     pub reasoned_instead : AreReasoned live reason_now lits
     reasoned_instead = record {
       has_it = grind (arith, cases_eq, same_Some);
-      in_each = λ n passes follows.
-          are.in_each n passes (λ l s d member is at others. elim (cases_eq l m) [
-            | inl e ↦ subst (λ x. passes x ≡ true) (sym e) (from_front n passes follows (ap (has (take n lits)) (sym e) ∙ member))
-            | inr ne ↦ follows l s d member (same l ne ∙ is) at others
-          ]);
+      in_each = λ n passes follows. are.in_each n passes (λ l s d member is at others. grind (arith, cases_eq l m, from_front n passes follows, follows l s d, same l));
     }

@@ -1,11 +1,11 @@
 -- The clauses of one literal and of none.
-use Rattle.std.proofs.Common.{◌≡◌, ℕ, ◌+◌, ◌<◌, ◌≤◌, Bool, true, false, not, cond, eq-eqb}
-use Rattle.std.proofs.Common.{Option, Some, None, List, [], ◌∷◌, ◌++◌, length, get_or, take, refl}
-use Rattle.std.proofs.Common.{sym, ap, ◌∙◌, subst, arith, inl, inr}
-use Rattle.std.proofs.lemmas.{Bool.true≢false, Bool.false≢true, Bool.not-false, List.take_all}
-use Rattle.std.proofs.lemmas.{List.take_more, List.Sums.get_or-le-sum_by, Option.same_Some}
+use Rattle.std.proofs.Common.{◌≡◌, ℕ, ◌+◌, ◌<◌, ◌≤◌, Bool, true, false, not, cond, eq-eqb, Option}
+use Rattle.std.proofs.Common.{Some, None, List, [], ◌∷◌, ◌++◌, length, get_or, take, refl, sym, ap}
+use Rattle.std.proofs.Common.{◌∙◌, subst, arith}
+use Rattle.std.proofs.lemmas.{Bool.true≢false, Bool.not-false, List.take_all, List.take_more}
+use Rattle.std.proofs.lemmas.{List.Sums.get_or-le-sum_by, Option.same_Some}
 use Rattle.cnf_base.specs.Literals.{Literal, Clause, has}
-use Rattle.cnf_base.proofs.SetLemmas.{has_append_right, has_cases, has_head}
+use Rattle.cnf_base.proofs.SetLemmas.{has_append_right, has_head}
 use Rattle.theory.specs.Propagation.{Live}
 use Rattle.root_literals.specs.Watched.{IsPart, HasUnit}
 use Rattle.root_literals.proofs.RootLemmas.Watched.{unit_more}
@@ -16,10 +16,7 @@ use Rattle.trail.proofs.TrailLemmas.Longer.{pushed_each}
 -- ---- One clause
 
 pub only_literal : (c : Clause) (l : Literal) → c ≡ l ∷ [] → (k : Literal) → has c k ≡ true → l ≡ k
-only_literal c l is k h = elim (has_cases l [] k (ap (λ d. has d k) (sym is) ∙ h)) [ inl e ↦ e | inr none ↦ absurd (false≢true none) ]
-
-pub no_literal : (c : Clause) → c ≡ [] → (k : Literal) → has c k ≡ true → ⊥
-no_literal c is k h = false≢true (ap (λ d. has d k) (sym is) ∙ h)
+only_literal c l is k h = grind arith
 
 unit_long : (c : Clause) (trues : List Literal) → is_unit_or_empty c ≡ false → HasUnit c trues
 unit_long c trues h = grind (arith, true≢false)

@@ -1,16 +1,17 @@
 -- What is kept where a literal is taken back of which no clause knows but its unit clause.
 use Rattle.std.proofs.Common.{◌≡◌, ◌≢◌, ℕ, ◌+◌, ◌<◌, ◌≤◌, Bool, true, false, ◌||◌, eqb, eqb-true}
-use Rattle.std.proofs.Common.{cond, eq-eqb, Option, Some, List, [], ◌∷◌, length, get_or, take, refl}
-use Rattle.std.proofs.Common.{sym, ap, ◌∙◌, subst, arith, inl, inr, ◌⊎◌, rules}
+use Rattle.std.proofs.Common.{cond, eq-eqb, Option, Some, List, [], ◌∷◌, length, get_or, take, sym}
+use Rattle.std.proofs.Common.{ap, ◌∙◌, subst, arith, inl, inr, ◌⊎◌, rules, true≢false}
 use Rattle.std.proofs.lemmas.Bool.{cases_eq, cases_lt, false≢true, false_from_ne_true, or_cases}
-use Rattle.std.proofs.lemmas.Bool.{or_left, or_right, true≢false}
-use Rattle.std.proofs.lemmas.{List.Edits.get_or-remove_above, List.Edits.get_or-remove_below}
+use Rattle.std.proofs.lemmas.Bool.{or_left, or_right}
+use Rattle.std.proofs.lemmas.List.Edits.{get_or-remove_above, get_or-remove_below}
 use Rattle.std.proofs.lemmas.{List.Edits.length-remove, Grind.get_or_default_zero, Option.same_Some}
 use Rattle.std.specs.{List.remove, Ordering.nat_cmp, FinMap.FinMap}
-use Rattle.cnf_base.specs.Literals.{Literal, complement, Clause, has, variable}
+use Rattle.std.specs.FinMap as maps
+use Rattle.cnf_base.specs.Literals.{Literal, complement, Clause, has}
 use Rattle.cnf_base.proofs.{LiteralLemmas.complement-complement, MemberLemmas.has_front}
 use Rattle.cnf_base.proofs.{MemberLemmas.place_in_front, SetLemmas.has_cases, SetLemmas.has_head}
-use Rattle.cnf_base.proofs.{SizeLemmas.has_at}
+use Rattle.cnf_base.proofs.SizeLemmas.{has_at}
 use Rattle.clause_db.specs.Store.{copies_with}
 use Rattle.tables.specs.Filled.{at}
 use Rattle.propagation.specs.Assumptions.{HasAt}
@@ -18,19 +19,17 @@ use Rattle.propagation.proofs.PropagationLemmas.Counts.{copies_without, none_wit
 use Rattle.trail.proofs.TrailLemmas.Without.{IsFront, front_before, front_still, front_was}
 use Rattle.trail.proofs.TrailLemmas.Without.{none_left, still_there, was_there as was_true}
 use Rattle.trail.{specs.Trail.HasNoVariableTwice, proofs.TrailLemmas.Truth.places_apart}
-use Rattle.root_literals.specs.Roots.{AreNoted, AreReasoned, FollowsReasons, HaveUnits, IsAbsent}
-use Rattle.root_literals.specs.Roots.{IsKept, IsKnown, IsUnneeded, has_clash, lacks_units}
-use Rattle.root_literals.specs.declared.kept.Kept.TheVariants.{All}
-use Rattle.root_literals.specs.{History.IsHistory, History.sure_of, History.trues_at}
-use Rattle.root_literals.specs.{History.visits, Order.each_in_order, Uses.AreCounted}
-use Rattle.root_literals.specs.{Uses.clause_in, Uses.is_in, Uses.times, Watched.HasUnit}
-use Rattle.root_literals.specs.{Watched.IsPart, Watched.IsWatched, declared.roots.Roots.Roots}
-use Rattle.root_literals.specs.{declared.history.History.History, declared.kept.Kept.Kept}
-use Rattle.root_literals.proofs.RootLemmas.{Watched.front_part, Watched.sure_by, Watched.sure_is}
+use Rattle.root_literals.specs.Roots.{AreReasoned, FollowsReasons, HaveUnits, IsAbsent, IsKept}
+use Rattle.root_literals.specs.Roots.{IsKnown, IsUnneeded, has_clash, lacks_units}
+use Rattle.root_literals.specs.declared.kept.Kept.{TheVariants.All, Kept}
+use Rattle.root_literals.specs.History.{IsHistory, sure_of, trues_at}
+use Rattle.root_literals.specs.{History.visits, Order.each_in_order, Uses.clause_in, Uses.is_in}
+use Rattle.root_literals.specs.{Uses.times, Watched.HasUnit, Watched.IsPart, Watched.IsWatched}
+use Rattle.root_literals.specs.declared.{roots.Roots.Roots, history.History.History}
+use Rattle.root_literals.proofs.RootLemmas.Watched.{front_part, sure_by, sure_is}
 use Rattle.root_literals.proofs.RootLemmas.{History.front_in_front, Kept.noted_left}
 use Rattle.root_literals.proofs.RootLemmas.{Kept.still_seen, Kept.was_there, Order.seen_has_at}
 use Rattle.root_literals.proofs.RootLemmas.{Order.there_seen, Uses.counted_out, Uses.in_rest}
-use Rattle.std.specs.FinMap as maps
 
 -- one clause has the literal
 pub absent_else : (live : FinMap nat_cmp Clause) (slot : ℕ) (l : Literal) → maps.get live slot ≡ Some (l ∷ []) → 1 ≡ copies_with live l → IsAbsent (maps.get (maps.remove live slot)) l
@@ -57,14 +56,11 @@ module _ (live : FinMap nat_cmp Clause) (slot place : ℕ) (l : Literal) (lits :
   abbrev rest : FinMap nat_cmp Clause
   rest = maps.remove live slot
 
-  gone_is : has out l ≡ false
-  gone_is = none_left lits place inside l stands different l refl
-
   not_it : (k : Literal) → has out k ≡ true → k ≢ l
-  not_it k h e = true≢false (sym h ∙ ap (has out) e ∙ gone_is)
+  not_it k h e = grind (arith, none_left)
 
   other_literal : (s : ℕ) (c : Clause) → maps.get rest s ≡ Some c → (m : Literal) → has c m ≡ true → m ≢ l
-  other_literal s c is m h e = true≢false (sym h ∙ ap (has c) e ∙ absent s c is)
+  other_literal s c is m h e = grind (arith, absent s c is)
 
   -- ---- Watched clauses
 
@@ -94,35 +90,10 @@ module _ (live : FinMap nat_cmp Clause) (slot place : ℕ) (l : Literal) (lits :
     left : (d : ℕ) → d < visits now → (i : ℕ) × IsLeft d i
     left d low = elim (cases_lt place (visits old)) [
       | inl cut ↦ elim (cases_lt d place) [
-        | inl before ↦ (
-          d,
-          record {
-            within = omega (arith, before, cut);
-            front = inl (refl, omega (arith, before));
-            reach = ap (λ v. get_or v d 0) (gone cut) ∙ get_or-remove_below old.visited.items place 0 d before cut;
-            low = omega arith;
-          },
-        )
-        | inr past ↦ (
-          d + 1,
-          record {
-            within = let n = ap length (gone cut) in let m = length-remove old.visited.items place cut in omega (arith, n, m, low);
-            front = inr (refl, past);
-            reach = ap (λ v. get_or v d 0) (gone cut) ∙ get_or-remove_above old.visited.items place 0 d past cut;
-            low = omega arith;
-          },
-        )
+        | inl before ↦ (d, grind (arith, get_or-remove_below))
+        | inr past ↦ (d + 1, grind (arith, length-remove, get_or-remove_above))
       ]
-      | inr beyond ↦
-          let few = subst (λ v. d < length v) (stays beyond) low in (
-            d,
-            record {
-              within = few;
-              front = inl (refl, omega (arith, few, beyond));
-              reach = ap (λ v. get_or v d 0) (stays beyond);
-              low = omega arith;
-            },
-          )
+      | inr beyond ↦ (d, grind arith)
     ]
 
     fewer : (visits now + 1 ≡ visits old) ⊎ ((visits now ≡ visits old) × (visits old ≤ place))
@@ -134,21 +105,11 @@ module _ (live : FinMap nat_cmp Clause) (slot place : ℕ) (l : Literal) (lits :
     pub history_out : (doubts : List ℕ) → IsHistory (sure_of doubts (maps.get live)) old lits → IsHistory (sure_of doubts (maps.get rest)) now out
     history_out doubts history = record {
       inside = grind (arith, fewer, shorter);
-      began = λ d low.
-          let w = left d low in let is = w.1 in let first = history.began w.0 is.within in
-          let reach = is.reach in let most = is.low in omega (arith, first, reach, most);
+      began = λ d low. let w = left d low in grind (arith, history.began w.0);
       before = λ d p low at_most above within.
-          let w = left d low in let is = w.1 in let up = front_before place p in
-          let wide = widened p up.0 up.1 in let reach = is.reach in let n = shorter in
-          watched_front doubts d w.0 p up.0 is.front up.1
-          (history.before w.0 up.0 is.within (let most = wide.0 in omega (arith, at_most, reach, most)) (let most = wide.0 in omega (arith, above, floor_is, most)) (let most = wide.1 in omega (arith, within, n, most)));
+          let w = left d low in let is = w.1 in let up = front_before place p in let n = shorter in
+          watched_front doubts d w.0 p up.0 is.front up.1 (history.before w.0 up.0 is.within (grind arith) (grind arith) (grind arith));
     }
-      where
-        widened : (p q : ℕ) → IsFront place p q → (p ≤ q) × (q ≤ p + 1)
-        widened p q is = elim is [
-          | inl f ↦ let e = f.0 in (omega (arith, e), omega (arith, e))
-          | inr f ↦ let e = f.0 in (omega (arith, e), omega (arith, e))
-        ]
 
     pub visited_out : (doubts : List ℕ) → IsWatched (sure_of doubts (maps.get live)) (take (visits old) lits) lits → IsWatched (sure_of doubts (maps.get rest)) (take (visits now) out) out
     visited_out doubts = grind (arith, watched_out, front_was, still_there, cases_lt, length-remove)
@@ -204,8 +165,8 @@ module _ (live : FinMap nat_cmp Clause) (slot place : ℕ) (l : Literal) (lits :
 
       low_other : (m : Literal) → has (take low_end lits) m ≡ true → m ≢ l
       low_other m h e =
-          let w = place_in_front lits low_end m h in let low = w.1 in let most = lower.2 in
-          places_apart lits different w.0 place (omega (arith, low, most)) inside (ap variable (w.3 ∙ e ∙ sym stands))
+          let w = place_in_front lits low_end m h in let most = lower.2 in
+          places_apart lits different w.0 place (omega arith) inside (grind arith)
 
       low_wide : (m : Literal) → has (take low_end lits) m ≡ true → has (take wide.0 lits) m ≡ true
       low_wide m h = search (rules, front_in_front)
@@ -231,10 +192,7 @@ module _ (live : FinMap nat_cmp Clause) (slot place : ℕ) (l : Literal) (lits :
 
       all_pass : (k : Literal) → has (take n out) k ≡ true → passes k ≡ true
       all_pass k h =
-          elim (or_cases (eqb k l) (passes k) (are.in_each wide.0 or_it follow_all k (front_was lits place inside n wide.0 wide.1 k h))) [
-            | inl e ↦ absurd (not_it k (front_part n out k h) (eqb-true k l e))
-            | inr passed ↦ passed
-          ]
+          grind (arith, or_cases (eqb k l) (passes k) (are.in_each wide.0 or_it follow_all k (front_was lits place inside n wide.0 wide.1 k h)), not_it k (front_part n out k h), eqb-true k l)
 
     pub reasoned_out : AreReasoned (maps.get (each_in_order rest)) reason_of out
     reasoned_out = record {
@@ -251,15 +209,12 @@ module _ (live : FinMap nat_cmp Clause) (slot place : ℕ) (l : Literal) (lits :
       (place < visits roots.history → after.history.visited.items ≡ remove roots.history.visited.items place) → (visits roots.history ≤ place → after.history.visited.items ≡ roots.history.visited.items) → after.history.floor ≡ roots.history.floor →
       after.history.doubts ≡ roots.history.doubts → IsKept rest after out
   kept_out roots after unneeded kept quiet kept_is reasons_are by_it fewer less same gone stays floor_is doubts_are = record {
-    noted = subst (λ t. AreNoted (maps.get (each_in_order rest)) (at t)) (sym reasons_are) (noted_left live slot (at roots.reasons) kept.noted);
-    reasoned = subst (λ t. AreReasoned (maps.get (each_in_order rest)) (at t) out) (sym reasons_are) (reasoned_out (at roots.reasons) unneeded kept.reasoned);
-    known = subst (λ k. IsKnown rest k out) (sym kept_is) (known_out roots.kept quiet kept.known);
+    noted = rw reasons_are (noted_left live slot (at roots.reasons) kept.noted);
+    reasoned = rw reasons_are (reasoned_out (at roots.reasons) unneeded kept.reasoned);
+    known = rw kept_is (known_out roots.kept quiet kept.known);
     history =
         subst (λ ds. IsHistory (sure_of ds.items (maps.get rest)) after.history out) (sym doubts_are) (history_out roots.history after.history gone stays floor_is roots.history.doubts.items kept.history);
-    visited = λ _.
-        subst (λ ds. IsWatched (sure_of (cond (lacks_units after.kept) ds.items []) (maps.get rest)) (take (visits after.history) out) out) (sym doubts_are)
-        (subst (λ k. IsWatched (sure_of (cond (lacks_units k) roots.history.doubts.items []) (maps.get rest)) (take (visits after.history) out) out) (sym kept_is)
-        (visited_out roots.history after.history gone stays floor_is (cond (lacks_units roots.kept) roots.history.doubts.items []) (kept.visited quiet)));
-    counted = subst (λ t. AreCounted (maps.get rest) (at t) out after.uses) (sym reasons_are)
-        (counted_out lits place l inside stands different (maps.get live) (maps.get rest) (at roots.reasons) roots.uses after.uses (ap (clause_in (maps.get live)) by_it ∙ unit) (λ k m. in_rest live slot k (at roots.reasons m)) fewer less same kept.counted);
+    visited = λ _. simp (doubts_are, kept_is) (visited_out roots.history after.history gone stays floor_is (cond (lacks_units roots.kept) roots.history.doubts.items []) (kept.visited quiet));
+    counted =
+        rw reasons_are (counted_out lits place l inside stands different (maps.get live) (maps.get rest) (at roots.reasons) roots.uses after.uses (grind arith) (λ k m. in_rest live slot k (at roots.reasons m)) fewer less same kept.counted);
   }

@@ -1,14 +1,15 @@
 -- How many of the literals have a reason with a literal.
 use Rattle.std.proofs.Common.{◌≡◌, ◌≢◌, ℕ, zero, suc, ◌+◌, ◌<◌, ◌≤◌, Bool, true, false, cond, eqb}
-use Rattle.std.proofs.Common.{eqb-true, eq-eqb, Option, Some, option_map, List, [], ◌∷◌, ◌++◌}
-use Rattle.std.proofs.Common.{length, get_or, take, refl, sym, ap, ◌∙◌, subst, arith, inl, inr}
+use Rattle.std.proofs.Common.{eqb-true, Option, Some, option_map, List, [], ◌∷◌, ◌++◌, length}
+use Rattle.std.proofs.Common.{get_or, take, refl, sym, ap, ◌∙◌, subst, arith, take-take}
+use Rattle.std.specs.FinMap as maps
 use Rattle.std.proofs.lemmas.Bool.{cases_eq, cases_lt, false≢true, or_right, Decides.nat_tests}
-use Rattle.std.proofs.lemmas.List.{length-take, take-take, take_more, Edits.length-remove}
+use Rattle.std.proofs.lemmas.List.{take_more, Edits.length-remove}
 use Rattle.std.proofs.{lemmas.Grind.common_steps, Common.rules}
 use Rattle.std.specs.{Ordering.nat_cmp, List.remove, FinMap.FinMap}
-use Rattle.cnf_base.specs.Literals.{Literal, Clause, has, variable}
+use Rattle.cnf_base.specs.Literals.{Literal, Clause, has}
 use Rattle.cnf_base.proofs.{MapLemmas.remove_here, MapLemmas.remove_other, SetLemmas.has_head}
-use Rattle.cnf_base.proofs.{MemberLemmas.place_in_front, WalkLemmas.has_more, SetLemmas.has_cases}
+use Rattle.cnf_base.proofs.{MemberLemmas.place_in_front, SetLemmas.has_cases}
 use Rattle.theory.specs.Propagation.{Live}
 use Rattle.trail.specs.Trail.{HasNoVariableTwice}
 use Rattle.trail.proofs.TrailLemmas.{Truth.places_apart, Without.none_left}
@@ -16,7 +17,6 @@ use Rattle.root_literals.proofs.RootLemmas.Order.{get_ordered, has-in_order}
 use Rattle.root_literals.proofs.RootLemmas.Watched.{front_part}
 use Rattle.root_literals.specs.Uses.{AreCounted, clause_in, is_in, times, uses_of}
 use Rattle.root_literals.specs.{declared.uses.Uses.Uses, Order.each_in_order}
-use Rattle.std.specs.FinMap as maps
 
 -- one, if the clause has the literal
 abbrev pub one : Option Clause → Literal → ℕ
@@ -45,13 +45,8 @@ module _ (live : Live) (r : Literal → Option ℕ) (k : Literal) where
   -- none of them
   pub uses_none : (lits : List Literal) → uses_of live r lits k ≡ 0 → (l : Literal) → has lits l ≡ true → is_in (clause_in live (r l)) k ≡ false
   uses_none [] none l h = absurd (false≢true h)
-  uses_none (m ∷ lits) none l h = elim (has_cases m lits l h) [
-    | inl e ↦ by_test (is_in (clause_in live (r l)) k) (subst (λ x. cond (is_in (clause_in live (r x)) k) 1 0 + uses_of live r lits k ≡ 0) e none)
-    | inr g ↦ uses_none lits (omega (arith, none)) l g
-  ]
-    where
-      by_test : (b : Bool) → cond {A = ℕ} b 1 0 + uses_of live r lits k ≡ 0 → b ≡ false
-      by_test b h = grind arith
+  uses_none (m ∷ lits) none l h =
+      grind (arith, has_cases m lits l h, uses_none lits (omega (arith, none)) l)
 
   -- one of them is taken out
   pub uses_out : (lits : List Literal) (n place : ℕ) → place ≤ n → n < length lits → uses_of live r (take n (remove lits place)) k + one (clause_in live (r (get_or lits place 0))) k ≡ uses_of live r (take (suc n) lits) k
@@ -85,17 +80,13 @@ counted_same live r lits uses now counted same are = search rules
 pub counted_longer : (live : Live) (r : Literal → Option ℕ) (lits more : List Literal) (uses : Uses) → take (length lits) more ≡ lits → length lits ≤ length more → AreCounted live r lits uses → AreCounted live r more uses
 counted_longer live r lits more uses begins longer are = search (rules, take-take)
 
--- the first literals alone, where no others are counted
-pub counted_front : (live : Live) (r : Literal → Option ℕ) (lits : List Literal) (uses : Uses) (n : ℕ) → uses.counted ≤ n → AreCounted live r lits uses → AreCounted live r (take n lits) uses
-counted_front live r lits uses n low are = search (rules, length-take, take-take)
-
 -- ---- A place
 
 module _ (lits : List Literal) (place : ℕ) (l : Literal) (inside : place < length lits) (stands : get_or lits place 0 ≡ l) (different : HasNoVariableTwice lits) where
   not_before : (n : ℕ) → n ≤ place → (m : Literal) → has (take n lits) m ≡ true → m ≢ l
   not_before n low m h e =
-      let w = place_in_front lits n m h in let before = w.1 in
-      places_apart lits different w.0 place (omega (arith, low, before)) inside (ap variable (w.3 ∙ e ∙ sym stands))
+      let w = place_in_front lits n m h in
+      places_apart lits different w.0 place (omega arith) inside (grind arith)
 
   not_left : (n : ℕ) (m : Literal) → has (take n (remove lits place)) m ≡ true → m ≢ l
   not_left n m h e = search (rules, false≢true, none_left, front_part)
@@ -107,31 +98,25 @@ module _ (lits : List Literal) (place : ℕ) (l : Literal) (inside : place < len
   counted_instead live r s uses now before after was is same counted exchanged stays are =
       grind (arith, cases_eq, counted_none, cases_lt, behind, unchanged)
     where
-      same_in : (k m : Literal) → m ≢ l → is_in (clause_in live (s m)) k ≡ true → is_in (clause_in live (r m)) k ≡ true
-      same_in k m ne h = ap (λ o. is_in (clause_in live o) k) (sym (same m ne)) ∙ h
-
       unchanged : uses.counted ≤ place → (k : Literal) → uses_of live s (take uses.counted lits) k ≤ times uses k
       unchanged past k =
-          let fewer = uses_at_most live live r s k (take uses.counted lits) (λ m h. same_in k m (not_before uses.counted past m h)) in
+          let fewer = uses_at_most live live r s k (take uses.counted lits) (λ m h. grind (arith, same m, not_before uses.counted past m h)) in
           let enough = are.enough k in omega (arith, fewer, enough)
 
       first_is : (t : Literal → Option ℕ) (c : Clause) → clause_in live (t l) ≡ Some c → (k : Literal) → one (clause_in live (t (get_or lits place 0))) k ≡ cond (has c k) 1 0
-      first_is t c e k = ap (λ x. one (clause_in live (t x)) k) stands ∙ ap (λ o. one o k) e
-
-      by_count : (n : ℕ) → uses.counted ≡ suc n → place ≤ n → now.counted ≢ 0 → place < uses.counted → (k : Literal) → uses_of live s (take (suc n) lits) k ≤ times now k
-      by_count n e low some high k =
-          let within = are.inside in
-          let fewer = uses_at_most live live r s k (take n (remove lits place)) (λ m h. same_in k m (not_left n m h)) in
-          let split = uses_out live r k lits n place low (omega (arith, within, e)) in
-          let split_now = uses_out live s k lits n place low (omega (arith, within, e)) in
-          grind arith
-
-      with_count : (c : ℕ) → uses.counted ≡ c → now.counted ≢ 0 → place < uses.counted → (k : Literal) → uses_of live s (take c lits) k ≤ times now k
-      with_count zero e some low k = omega arith
-      with_count (suc n) e some low k = by_count n e (omega (arith, low, e)) some low k
+      first_is t c e k = simp (stands, e)
 
       behind : now.counted ≢ 0 → place < uses.counted → (k : Literal) → uses_of live s (take now.counted lits) k ≤ times now k
-      behind some low k = subst (λ c. uses_of live s (take c lits) k ≤ times now k) (sym (counted some)) (with_count uses.counted refl some low k)
+      behind some low k = by_count uses.counted refl
+        where
+          by_count : (n : ℕ) → uses.counted ≡ n → uses_of live s (take now.counted lits) k ≤ times now k
+          by_count zero e = absurd (omega arith)
+          by_count (suc n) e =
+              let within = are.inside in
+              let fewer = uses_at_most live live r s k (take n (remove lits place)) (λ m h. grind (arith, same m, not_left n m h)) in
+              let split = uses_out live r k lits n place (omega arith) (omega arith) in
+              let split_now = uses_out live s k lits n place (omega arith) (omega arith) in
+              grind (arith, counted some, exchanged some low k, first_is, are.enough k)
 
   -- the literal is taken back, whose reason has no other
   pub counted_out : (live rest : Live) (r : Literal → Option ℕ) (uses now : Uses) → clause_in live (r l) ≡ Some (l ∷ []) → ((k m : Literal) → is_in (clause_in rest (r m)) k ≡ true → is_in (clause_in live (r m)) k ≡ true) →
@@ -183,16 +168,8 @@ module _ (live : Live) (r : Literal → Option ℕ) (lits : List Literal) (uses 
         subst (λ n. uses_of live r (take n lits) k ≤ times now k) (sym next) (omega (arith, so_far, step, split));
   }
 
-  -- none, but counts may have risen
-  pub counted_higher : now.counted ≡ uses.counted → ((k : Literal) → times uses k ≤ times now k) → AreCounted live r lits now
-  counted_higher same more = search rules
-
   -- the last one no longer
   pub counted_less : now.counted + 1 ≡ uses.counted → ((k : Literal) → times uses k ≤ times now k + one (clause_in live (r (get_or lits now.counted 0))) k) → AreCounted live r lits now
   counted_less next less = grind (arith, common_steps, nat_tests, take_more, uses_more, get_or)
 
 -- ---- One turn of a walk over a clause: x is the literal at i
-
-pub met_at_most : (c : Clause) (i : ℕ) (inside : i < length c) (x : Literal) → x ≡ get_or c i x → (k : Literal) → cond {A = ℕ} (has (take (i + 1) c) k) 1 0 ≤ cond (has (take i c) k) 1 0 + cond (eqb k x) 1 0
-met_at_most c i inside x is k =
-    grind (arith, common_steps, nat_tests, has_more, eq-eqb, eqb-true, false≢true)

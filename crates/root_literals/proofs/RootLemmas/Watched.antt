@@ -42,11 +42,6 @@ sure_is doubts live s c is = search rules
 pub sure_by : (doubts : List ℕ) (live : Live) (s : ℕ) (c : Clause) → live s ≡ Some c → has doubts s ≡ false → sure_of doubts live s ≡ Some c
 sure_by doubts live s c is sure = ap (λ b. cond b None (live s)) sure ∙ is
 
--- where each clause that is sure was so
-pub watched_sure : (live after : Live) (doubts later : List ℕ) (done trues : List Literal) → ((s : ℕ) (c : Clause) → after s ≡ Some c → has later s ≡ false → (live s ≡ Some c) × (has doubts s ≡ false)) →
-    IsWatched (sure_of doubts live) done trues → IsWatched (sure_of later after) done trues
-watched_sure live after doubts later done trues was watched = search rules
-
 pub watched_all : (live : Live) (doubts : List ℕ) (done trues : List Literal) → IsWatched live done trues → IsWatched (sure_of doubts live) done trues
 watched_all live doubts done trues watched = search rules
 

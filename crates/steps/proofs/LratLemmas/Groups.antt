@@ -1,21 +1,19 @@
 -- Groups of hints, one at a time.
-use Rattle.std.proofs.Common.{arith, ◌≡◌, ℕ, ◌+◌, ◌<◌, Bool, true, false, not, ◌||◌, ◌&&◌, Ok, Err}
-use Rattle.std.proofs.Common.{cond, eqb, eqb-true, Option, Some, None, is_some, option_map, subst}
-use Rattle.std.proofs.Common.{List, [], ◌∷◌, ◌++◌, length, get_or, take, drop, refl, sym, ap, ◌∙◌}
-use Rattle.std.proofs.{Common.ℤ, Common.pos, Common.nat_abs, Common.w64, lemmas.Bool.or_cases}
-use Rattle.std.proofs.lemmas.{List.Folds.list_any-append, Bool.false≢true, Bool.true≢false}
+use Rattle.std.proofs.Common.{arith, ◌≡◌, ℕ, ◌+◌, ◌<◌, Bool, true, false, not, ◌||◌, Ok, cond, eqb}
+use Rattle.std.proofs.Common.{Option, Some, None, is_some, option_map, subst, List, [], ◌∷◌, ◌++◌}
+use Rattle.std.proofs.Common.{length, get_or, take, drop, refl, sym, ap, ◌∙◌, ℤ, pos, nat_abs, w64}
+use Rattle.std.proofs.lemmas.List.Folds.{list_any-append}
 use Rattle.std.specs.{Option.option_or, Option.IfNone, Bool.then_some}
 use Rattle.theory.specs.declared.refusal.Refusal.TheVariants.{NotCandidate, NamedTwice}
-use Rattle.theory.specs.declared.refusal.Refusal.TheVariants.{GroupWithoutConflict, Unnamed}
+use Rattle.theory.specs.declared.refusal.Refusal.TheVariants.{GroupWithoutConflict}
 use Rattle.theory.specs.{Propagation.Live, Propagation.open_literals, Sets.SameSet}
+use Rattle.theory.specs.{Lrat.AnswersGroups, Sets.conflicts}
 use Rattle.theory.specs.declared.{accepted.Accepted.TheVariants.Rat, refusal.Refusal.Refusal}
-use Rattle.theory.specs.Lrat.{ChainEnd, conflict, open_with, look_at, chain, Group, with_candidate}
+use Rattle.theory.specs.Lrat.{conflict, open_with, look_at, chain, Group, with_candidate}
 use Rattle.theory.specs.Lrat.{chain_refusal, group_refusal, groups_refusal, units_of, groups_of}
-use Rattle.theory.specs.{Lrat.is_unsettled, Lrat.is_left_out, Lrat.AnswersGroups, Sets.conflicts}
 use Rattle.theory.proofs.LratLemmas.SameSets.{same_set_more}
 use Rattle.steps.specs.{declared.lrat.walk.WalkEnd.WalkEnd, Code.Walk.IsEnd, Code.Walk.refusal_at}
-use Rattle.steps.specs.declared.lrat.walk.WalkEnd.TheVariants.{Conflict}
-use Rattle.steps.specs.Code.Groups.{named_in, IsGroupEnd, is_unnamed, IsFirstLeftOut}
+use Rattle.steps.specs.Code.Groups.{named_in, IsGroupEnd, IsFirstLeftOut}
 use Rattle.steps.proofs.LratLemmas.Hints.{any_named, read, groups_skip, groups_more, named_skip}
 use Rattle.steps.proofs.LratLemmas.{Hints.named_more, Walks.chain_same}
 use Rattle.cnf_base.specs.Literals.{Literal, complement, Clause, has, complements, without}
@@ -23,12 +21,9 @@ use Rattle.live_clauses.specs.LiveClauses.{Holds}
 use lib.Signed.{lt_z}
 use mir.Val.{SFits}
 
-refusal_at_is : (r : Refusal) (trues : List Literal) (walked : WalkEnd) (end : ChainEnd) → IsEnd trues walked end → refusal_at r walked ≡ chain_refusal r end
-refusal_at_is r trues walked end h = grind arith
-
 -- what a test of a clause in code says
 pub tested : (b : Bool) (ls items : List Literal) (n pivot : Literal) → b ≡ has ls n → ls ≡ items → n ≡ complement pivot → has items (complement pivot) ≡ b
-tested b ls items n pivot test items_are n_is = sym (test ∙ ap (λ xs. has xs n) items_are ∙ ap (has items) n_is)
+tested b ls items n pivot test items_are n_is = grind arith
 
 -- ---- One group
 
@@ -47,8 +42,7 @@ module _ (live : Live) (ls : List Literal) (pivot : Literal) (earlier : List ℕ
   pub group_walked : has c (complement pivot) ≡ true → has earlier k ≡ false → (opposite : Literal) → opposite ≡ complement pivot → (walked : WalkEnd) (refusal : Option Refusal) →
       refusal ≡ refusal_at (GroupWithoutConflict k) walked → IsGroupEnd live ls c opposite hints walked →
       refusal ≡ group_refusal live ls pivot earlier (record { candidate = k; hints = hints }) (live k)
-  group_walked e f opposite opposite_is walked refusal is end =
-      grind (arith, refusal_at_is, group_is)
+  group_walked e f opposite opposite_is walked refusal is end = grind arith
 
 -- the walk over a group's hints, from literals that conflict, or that do not
 pub chain_conflict : (live : Live) (ls : List Literal) (hints : List ℕ) → conflicts ls ≡ true → chain live ls hints ≡ conflict
@@ -56,9 +50,6 @@ chain_conflict live ls [] h = ap (λ b. cond b conflict (open_with ls)) h
 chain_conflict live ls (k ∷ hints) h = ap (λ b. cond b conflict (look_at k (option_map (open_literals ls) (live k)) (λ l. chain live (l ∷ ls) hints))) h
 
 module _ (live : Live) (ls : List Literal) (c : Clause) (opposite : Literal) (hints : List ℕ) where
-  pub group_conflicts : conflicts (ls ++ complements (without c opposite)) ≡ true → (end : WalkEnd) → end ≡ Conflict → IsGroupEnd live ls c opposite hints end
-  group_conflicts h end end_is = grind (arith, chain_conflict)
-
   pub group_walks : (start trues : List Literal) → SameSet start (ls ++ complements (without c opposite)) → (walked end : WalkEnd) → IsEnd trues walked (chain live start hints) → end ≡ walked → IsGroupEnd live ls c opposite hints end
   group_walks start trues same walked end h end_is = record {
     trues = trues;
@@ -79,18 +70,15 @@ module _ (live : Live) (ls : List Literal) (pivot : Literal) where
   module _ (hints : List ℤ) (i : ℕ) (inside : i < length hints) (fits : SFits w64 (get_or hints i (pos 0))) (named : List ℕ) (all : Option Refusal)
       (so_far : groups_refusal live ls pivot named (groups_of (drop i hints)) ≡ all) where
     pub groups_pass_over : lt_z (read hints i) (pos 0) ≡ false → groups_refusal live ls pivot named (groups_of (drop (i + 1) hints)) ≡ all
-    groups_pass_over test = ap (groups_refusal live ls pivot named) (sym (groups_skip hints i inside fits test)) ∙ so_far
+    groups_pass_over test = grind (arith, groups_skip)
 
     module _ (k : ℕ) (test : lt_z (read hints i) (pos 0) ≡ true) (k_is : k ≡ nat_abs (read hints i)) (rest : List ℤ) (rest_is : rest ≡ drop (i + 1) hints)
         (refusal : Option Refusal) (is : refusal ≡ group_refusal live ls pivot named (record { candidate = k; hints = units_of rest }) (live k)) where
-      unroll : option_or refusal (groups_refusal live ls pivot (k ∷ named) (groups_of (drop (i + 1) hints))) ≡ all
-      unroll = grind (arith, groups_more)
-
       pub groups_stop : is_some refusal ≡ true → refusal ≡ all
-      groups_stop h = grind (arith, unroll, false≢true)
+      groups_stop h = grind (arith, groups_more)
 
       pub groups_go_on : is_some refusal ≡ false → (after : List ℕ) → ((j : ℕ) → has after j ≡ has named j || eqb k j) → groups_refusal live ls pivot after (groups_of (drop (i + 1) hints)) ≡ all
-      groups_go_on h after more = grind (arith, groups_earlier, unroll, true≢false)
+      groups_go_on h after more = grind (arith, groups_earlier, groups_more)
 
 -- ---- The candidates that were named
 
@@ -106,26 +94,13 @@ module _ (hints : List ℤ) (i : ℕ) (inside : i < length hints) (fits : SFits 
       last a b = grind arith
 
 pub when_none : {X : Type 0} (o : Option X) (P : Type 0) → is_some o ≡ false → IfNone o P → P
-when_none o P h h2 = grind (arith, true≢false)
+when_none o P h h2 = grind arith
 
 pub held_grow : (live : Live) (l : Literal) (named after : List ℕ) (k : ℕ) → ((j : ℕ) → has after j ≡ has named j || eqb k j) → ((j : ℕ) → has named j ≡ true → Holds live l j) → Holds live l k → (j : ℕ) → has after j ≡ true → Holds live l j
-held_grow live l named after k more hold new j member = grind (arith, or_cases, eqb-true)
-
--- a candidate that no group names, by the list of those that are named
-pub unnamed_is : (live : Live) (ls : List Literal) (pivot : Literal) (named : List ℕ) (hints : List ℤ) → SameSet named (named_in hints) → (k : ℕ) → is_unnamed live ls pivot named k ≡ is_left_out live ls pivot (groups_of hints) k
-unnamed_is live ls pivot named hints same k = ap (λ b. not b && is_unsettled ls pivot (live k)) (same k ∙ any_named k (groups_of hints))
+held_grow live l named after k more hold new j member = grind arith
 
 -- the answer after the groups, where the true literals are as they were
 module _ (live : Live) (ls : List Literal) (pivot : Literal) (named : List ℕ) (hints : List ℤ) (same : SameSet named (named_in hints)) (refusal : Option Refusal) (none : None ≡ refusal)
     (now : List Literal) (stay : now ≡ ls) (found : Option ℕ) (first : IsFirstLeftOut live now pivot named found) where
-  left_out : (o : Option ℕ) → found ≡ o → IsFirstLeftOut live ls pivot named o
-  left_out o is = subst (IsFirstLeftOut live ls pivot named) is (subst (λ ls. IsFirstLeftOut live ls pivot named found) stay first)
-
-  pub answers_unnamed : (id : ℕ) → found ≡ Some id → AnswersGroups live ls pivot (groups_of hints) refusal (Err (Unnamed id))
-  answers_unnamed id is = grind (arith, left_out, unnamed_is)
-
   pub answers_rat : found ≡ None → AnswersGroups live ls pivot (groups_of hints) refusal (Ok Rat)
-  answers_rat is = subst (λ r. AnswersGroups live ls pivot (groups_of hints) r (Ok Rat)) none (λ k. sym (unnamed_is live ls pivot named hints same k) ∙ left_out None is k)
-
-pub if_none : {X : Type 0} (o : Option X) (P : Type 0) → o ≡ None → IfNone o P → P
-if_none {X} o P e h = subst (λ (o : Option X). IfNone o P) e h
+  answers_rat is = grind (arith, any_named)

@@ -1,18 +1,14 @@
 -- Signed hints as they are read in code.
 use Rattle.std.proofs.Common.{◌≡◌, ℕ, suc, ◌+◌, ◌<◌, true, false, ◌||◌, eqb, List, [], ◌∷◌, ◌++◌}
 use Rattle.std.proofs.Common.{length, get_or, take, drop, refl, sym, ap, ◌∙◌, ℤ, pos, negsuc}
-use Rattle.std.proofs.Common.{nat_abs, to_z, of_z, w64, map, arith, ltb-true, append-nil, rules}
-use Rattle.std.proofs.lemmas.{Int.to_z-of_z, List.drop_more, List.take_more, Grind.common_steps}
-use Rattle.std.proofs.lemmas.Bool.Decides.{nat_tests}
+use Rattle.std.proofs.Common.{nat_abs, to_z, of_z, w64, map, arith, append-nil, rules}
+use Rattle.std.proofs.lemmas.{Int.to_z-of_z, List.drop_more, Grind.common_steps, Grind.common_steps}
 use Rattle.std.specs.List.{list_any}
 use Rattle.cnf_base.specs.Literals.{has}
 use Rattle.theory.specs.Lrat.{Group, units_of, groups_of}
 use Rattle.steps.specs.Code.Groups.{named_in}
 use lib.Signed.{lt_z}
 use mir.Val.{SFits}
-
-not_below : (n : ℕ) → lt_z (pos n) (pos 0) ≡ true → ⊥
-not_below n h = let e : n < 0 = ltb-true n 0 h in let bad : ⊥ = omega arith in bad
 
 named_append : (xs ys : List ℤ) → named_in (xs ++ ys) ≡ named_in xs ++ named_in ys
 named_append [] ys = refl
@@ -27,9 +23,6 @@ any_named k (group ∷ groups) = ap (λ b. eqb group.candidate k || b) (any_name
 abbrev pub read : List ℤ → ℕ → ℤ
 read hints i = to_z w64 (of_z w64 (get_or hints i (pos 0)))
 
-not_negative : (x : ℤ) → lt_z x (pos 0) ≡ false → x ≡ pos (nat_abs x)
-not_negative x h = search rules
-
 module _ (hints : List ℤ) (i : ℕ) (inside : i < length hints) (fits : SFits w64 (get_or hints i (pos 0))) where
   pub read_is : read hints i ≡ get_or hints i (pos 0)
   read_is = to_z-of_z w64 (get_or hints i (pos 0)) fits
@@ -38,23 +31,20 @@ module _ (hints : List ℤ) (i : ℕ) (inside : i < length hints) (fits : SFits 
   drop_read = drop_more hints i (pos 0) inside ∙ ap (λ x. x ∷ drop (i + 1) hints) (sym read_is)
 
   pub units_more : (k : ℕ) → lt_z (read hints i) (pos 0) ≡ false → k ≡ nat_abs (read hints i) → units_of (drop i hints) ≡ k ∷ units_of (drop (i + 1) hints)
-  units_more k test e = search (rules, arith, drop_read, not_negative)
+  units_more k test e = search (rules, arith, drop_read)
 
   pub groups_skip : lt_z (read hints i) (pos 0) ≡ false → groups_of (drop i hints) ≡ groups_of (drop (i + 1) hints)
-  groups_skip test = ap groups_of (drop_read ∙ ap (λ x. x ∷ drop (i + 1) hints) (not_negative (read hints i) test))
+  groups_skip test = grind (arith, drop_read)
 
   pub groups_more : (k : ℕ) → lt_z (read hints i) (pos 0) ≡ true → k ≡ nat_abs (read hints i) →
       groups_of (drop i hints) ≡ record { candidate = k; hints = units_of (drop (i + 1) hints) } ∷ groups_of (drop (i + 1) hints)
-  groups_more k test e = grind (arith, drop_read, nat_abs, not_below, negsuc)
+  groups_more k test e = grind (arith, drop_read)
 
   pub abs_more : (k : ℕ) → k ≡ nat_abs (read hints i) → map nat_abs (drop i hints) ≡ k ∷ map nat_abs (drop (i + 1) hints)
   abs_more k e = ap (map nat_abs) drop_read ∙ ap (λ j. j ∷ map nat_abs (drop (i + 1) hints)) (sym e)
 
-  named_last : named_in (take (i + 1) hints) ≡ named_in (take i hints) ++ named_in (read hints i ∷ [])
-  named_last = grind (arith, common_steps, nat_tests, take_more, read_is, named_append)
-
   pub named_skip : lt_z (read hints i) (pos 0) ≡ false → named_in (take (i + 1) hints) ≡ named_in (take i hints)
-  named_skip test = named_last ∙ ap (λ x. named_in (take i hints) ++ named_in (x ∷ [])) (not_negative (read hints i) test) ∙ append-nil _
+  named_skip test = grind (arith, append-nil, common_steps, named_append)
 
   pub named_more : (k : ℕ) → lt_z (read hints i) (pos 0) ≡ true → k ≡ nat_abs (read hints i) → named_in (take (i + 1) hints) ≡ named_in (take i hints) ++ k ∷ []
-  named_more k test e = search (rules, arith, named_last, nat_abs, not_below)
+  named_more k test e = grind (arith, common_steps, named_append)

@@ -1,9 +1,9 @@
 -- Candidates without a group: whether there are any, and those that are passed over.
-use Rattle.std.proofs.Common.{◌≡◌, ℕ, ◌+◌, ◌<◌, ◌≤◌, Bool, true, false, not, ◌&&◌, eqb}
-use Rattle.std.proofs.Common.{Some, None, List, ◌∷◌, length, take, get_or, ap, sym, ◌∙◌}
-use Rattle.std.proofs.Common.{subst, slice_index, arith, nat_eq, eqb-true, inl, inr, rules}
-use Rattle.std.proofs.lemmas.Bool.{false≢true, true≢false, false_from_ne_true, and_parts, not-true}
-use Rattle.std.proofs.lemmas.Bool.{cases_lt, cases_eq, or_cases, Decides.nat_tests}
+use Rattle.std.proofs.Common.{◌≡◌, ℕ, ◌+◌, ◌<◌, ◌≤◌, Bool, true, false, not, ◌&&◌, eqb, Some, None}
+use Rattle.std.proofs.Common.{List, ◌∷◌, length, take, get_or, ap, sym, ◌∙◌, slice_index, arith}
+use Rattle.std.proofs.Common.{nat_eq, eqb-true, inl, inr, rules}
+use Rattle.std.proofs.lemmas.Bool.{true≢false, false_from_ne_true, and_parts, not-true, cases_lt}
+use Rattle.std.proofs.lemmas.Bool.{cases_eq, or_cases, Decides.nat_tests}
 use Rattle.std.proofs.lemmas.{Grind.get_or_default_zero, List.take_all}
 use Rattle.std.proofs.lemmas.Map.Keys.{Less-from_sorted, sorted_from_strictly_increasing}
 use Rattle.std.specs.List.{IsDistinct, Sorted.IsStrictlyIncreasing}
@@ -40,7 +40,7 @@ in_front ids rising i x j inside is below member =
 
 module _ (live : Live) (ls : List Literal) (pivot : Literal) (named : List ℕ) where
   unnamed_holds : (k : ℕ) → is_unnamed live ls pivot named k ≡ true → Holds live (complement pivot) k
-  unnamed_holds k h = grind (arith, and_parts, false≢true)
+  unnamed_holds k h = grind arith
 
   -- where no more clauses have the complement than are named, none is left out
   pub none_left : ((k : ℕ) → has named k ≡ true → Holds live (complement pivot) k) → IsDistinct nat_eq named →
@@ -51,8 +51,7 @@ module _ (live : Live) (ls : List Literal) (pivot : Literal) (named : List ℕ) 
         different = distinct_more k named (not-true (has named k) (and_parts _ _ h).0) different;
         each = grind (arith, has_cases, unnamed_holds);
       }) in
-      let wrong : ⊥ = omega (arith, one_more, few) in
-      wrong)
+      grind arith)
 
   -- ---- Whether one of them is left out
 
@@ -67,7 +66,7 @@ module _ (live : Live) (ls : List Literal) (pivot : Literal) (named : List ℕ) 
 
   -- it was asked while other literals were written down as true, which are the same
   pub asked : (now : List Literal) → now ≡ ls → (k : ℕ) (answer b : Bool) → answer ≡ is_unnamed live now pivot named k → answer ≡ b → is_unnamed live ls pivot named k ≡ b
-  asked now same k answer b is value = ap (λ ls. is_unnamed live ls pivot named k) (sym same) ∙ sym is ∙ value
+  asked now same k answer b is value = grind arith
 
   -- ---- The walk over all that have the complement
 
@@ -83,12 +82,11 @@ module _ (live : Live) (ls : List Literal) (pivot : Literal) (named : List ℕ) 
       pub passed_more : is_unnamed live ls pivot named (slice_index ids i) ≡ false → Passed (i + 1)
       passed_more here k member = elim (or_cases (has (take i ids) k) (eqb (slice_index ids i) k) (sym (has_more ids i inside (slice_index ids i) item k) ∙ member)) [
         | inl before ↦ passed k before
-        | inr same ↦ subst (λ n. is_unnamed live ls pivot named n ≡ false) (eqb-true (slice_index ids i) k same) here
+        | inr same ↦ grind (arith, eqb-true, slice_index)
       ]
 
       pub first_found : IsStrictlyIncreasing ids → ((k : ℕ) → Holds live (complement pivot) k → has ids k ≡ true) → is_unnamed live ls pivot named (slice_index ids i) ≡ true → IsFirstLeftOut live ls pivot named (Some (slice_index ids i))
-      first_found rising all here =
-          search (rules, false_from_ne_true, true≢false, in_front, slice_index, item, unnamed_holds)
+      first_found rising all here = search (rules, in_front)
 
     pub none_found : ((k : ℕ) → Holds live (complement pivot) k → has ids k ≡ true) → (i : ℕ) → length ids ≤ i → Passed i → IsFirstLeftOut live ls pivot named None
     none_found all i past passed k = false_from_ne_true (is_unnamed live ls pivot named k) (λ h. true≢false (sym h ∙ passed k (ap (λ l. has l k) (take_all i ids past) ∙ all k (unnamed_holds k h))))

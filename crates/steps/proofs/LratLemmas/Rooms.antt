@@ -1,25 +1,21 @@
 -- Room for the literals of all live clauses, as clauses come and go.
-use Rattle.std.proofs.Common.{◌≡◌, ℕ, true, Some, List, [], ◌∷◌, map, nat_abs, ℤ, sym, ap, ◌∙◌}
-use Rattle.std.proofs.{lemmas.Option.none-some, Common.arith, Common.rules}
+use Rattle.std.proofs.Common.{◌≡◌, ℕ, Some, List, [], ◌∷◌, map, nat_abs, ℤ, sym, ap, ◌∙◌, arith}
+use Rattle.std.proofs.{Common.rules, lemmas.Option.none-some, Common.arith, Common.rules}
 use Rattle.std.specs.{Ordering.nat_cmp, Result.OnOk, FinMap.FinMap, FinMap.get-empty}
 use Rattle.std.specs.declared.result.Result.{Result}
-use Rattle.cnf_base.specs.Literals.{Clause, has}
-use Rattle.cnf_base.proofs.SetLemmas.{same_there}
-use Rattle.trail.specs.Trail.{TrailState, HasRoom, HasRoomForAll}
+use Rattle.std.specs.FinMap as maps
+use Rattle.cnf_base.{specs.Literals.Clause, proofs.SetLemmas.same_there}
+use Rattle.trail.specs.Trail.{TrailState, HasRoom}
 use Rattle.proofs.specs.{declared.step_buf.StepKind.TheVariants.Delete, Steps.Step}
 use Rattle.theory.specs.Lrat.{with_clause, without_id, without_ids, lrat_step, LratState}
 use Rattle.theory.specs.{Lrat.after_lrat, Lrat.SameClauses, Propagation.Live}
 use Rattle.theory.proofs.LratLemmas.LiveSets.{SameClauses-eq}
 use Rattle.steps.specs.Code.Ready.{IsReady}
-use Rattle.std.specs.FinMap as maps
 
 -- ---- A clause that is added
 
-pub room_with : (reserved : List ℕ) (live after : Live) (id : ℕ) (c : Clause) → SameClauses after (with_clause live id c) → HasRoomForAll reserved live → HasRoom reserved c → HasRoomForAll reserved after
-room_with reserved live after id c same all room = search (rules, arith, same_there)
-
 pub ready_with : (trues : TrailState) (live after : Live) (id : ℕ) (c : Clause) → SameClauses after (with_clause live id c) → IsReady live trues → HasRoom trues.reserved c → IsReady after trues
-ready_with trues live after id c same ready room = search (rules, arith, room_with)
+ready_with trues live after id c same ready room = grind (arith, same_there)
 
 -- ---- Clauses that are taken off
 
@@ -33,11 +29,7 @@ ready_without trues live after ids is ready = search (rules, arith, without_stay
 
 pub deleted_same : (state : LratState) (step : Step) (hints : List ℤ) (after : Live) (top : ℕ) → step.kind ≡ Delete → hints ≡ step.hints → ((k : ℕ) → after k ≡ without_ids state.live (map nat_abs hints) k) → top ≡ state.top →
     SameClauses after (after_lrat state (lrat_step step)).live × (top ≡ (after_lrat state (lrat_step step)).top)
-deleted_same state step hints after top kind_is hints_are is top_is =
-    grind (arith, SameClauses-eq, nat_abs)
-
-pub ready_roomed : (before after : TrailState) (live : Live) → after.lits ≡ before.lits → ((v : ℕ) → has before.reserved v ≡ true → has after.reserved v ≡ true) → IsReady live before → IsReady live after
-ready_roomed before after live same within ready = search rules
+deleted_same state step hints after top kind_is hints_are is top_is = grind (arith, SameClauses-eq)
 
 pub on_ok : {X Y : Type 0} (r : Result X Y) (P Q : Type 0) → (P → Q) → OnOk r P → OnOk r Q
 on_ok r P Q h h2 = search rules

@@ -1,25 +1,22 @@
 -- A walk depends on the set of true literals alone, and goes on hint by hint.
-use Rattle.std.proofs.Common.{arith, ◌≡◌, ℕ, true, false, not, cond, Option, Some, None, option_map}
-use Rattle.std.proofs.Common.{List, [], ◌∷◌, ◌++◌, refl, sym, ap, subst}
-use Rattle.std.proofs.lemmas.{List.Elements.filter_agree, Bool.false≢true}
-use Rattle.trail.specs.{declared.left.Left.Left, Left.how_many}
+use Rattle.std.proofs.Common.{arith, ◌≡◌, ℕ, true, false, cond, Option, Some, None, option_map}
+use Rattle.std.proofs.Common.{List, [], ◌∷◌, ◌++◌, ap, subst}
+use Rattle.trail.specs.{Left.how_many}
 use Rattle.trail.specs.declared.left.Left.TheVariants.{Nothing, One, More}
-use Rattle.cnf_base.specs.Literals.{Literal, complement, Clause, has}
-use Rattle.cnf_base.proofs.SetLemmas.{both_pass, has_head, has_tail, has_cases, has_append_left}
-use Rattle.cnf_base.proofs.SetLemmas.{has_append_right, has_append_cases}
+use Rattle.cnf_base.specs.Literals.{Literal, Clause}
+use Rattle.cnf_base.proofs.SetLemmas.{has_append_left, has_append_right, has_append_cases}
 use Rattle.theory.specs.{Propagation.Live, Propagation.open_literals, Sets.conflicts, Sets.SameSet}
-use Rattle.theory.specs.Lrat.{ChainEnd, conflict, open_with, not_unit, look_at, chain}
+use Rattle.theory.specs.Lrat.{ChainEnd, conflict, open_with, look_at, chain}
 use Rattle.theory.proofs.LratLemmas.SameSets.{same_set_more}
 use Rattle.theory.proofs.PropagationLemmas.Conflicts.{conflicts_same}
 use Rattle.steps.specs.{declared.lrat.walk.WalkEnd.WalkEnd, Code.Walk.IsEnd}
 use Rattle.steps.specs.declared.lrat.walk.WalkEnd.TheVariants.{Conflict, UnknownId, NotUnit}
 
 pub same_set_push : (ls : List Literal) (m : Literal) → SameSet (ls ++ m ∷ []) (m ∷ ls)
-same_set_push ls m l =
-    grind (arith, both_pass, has_append_cases, has_tail, has_cases, has_head, false≢true, has_append_right, has_append_left)
+same_set_push ls m l = grind (arith, has_append_cases, has_append_right, has_append_left)
 
 open_same : (first second : List Literal) (c : Clause) → SameSet first second → open_literals first c ≡ open_literals second c
-open_same first second c same = filter_agree (λ l. not (has first (complement l))) (λ l. not (has second (complement l))) (λ l. ap not (same (complement l))) c
+open_same first second c same = grind arith
 
 -- who ends as the first walk ends as the second
 abbrev pub Gives : ChainEnd → ChainEnd → Type 0
@@ -49,33 +46,18 @@ chain_same live (k ∷ hints) first second same =
 
 -- ---- One hint
 
--- how the walk in code goes on, by how many literals are left
-abbrev look_left : ℕ → Left → (Literal → ChainEnd) → ChainEnd
-look_left k Nothing go_on = conflict
-look_left k (One l) go_on = go_on l
-look_left k More go_on = not_unit k
-
--- it goes on as the rule does
-looks_left : (k : ℕ) (ls : List Literal) (go_on : Literal → ChainEnd) → look_at k (Some ls) go_on ≡ look_left k (how_many ls) go_on
-looks_left k ls go_on = grind arith
-
 -- the next hint names nothing
 pub walk_unknown : (live : Live) (ls : List Literal) (left more : List ℕ) (k : ℕ) → left ≡ k ∷ more → (end : ChainEnd) → Gives (chain live ls left) end → conflicts ls ≡ false →
     live k ≡ None → (trues : List Literal) → IsEnd trues (UnknownId k) end
-walk_unknown live ls left more k left_is end so_far quiet none trues =
-    let next : chain live ls left ≡ look_at k None (λ l. chain live (l ∷ ls) more) = grind arith in
-    so_far trues (UnknownId k) (subst (IsEnd trues (UnknownId k)) (sym next) refl)
+walk_unknown live ls left more k left_is end so_far quiet none trues = grind arith
 
 -- a walk whose next hint is k
 module _ (live : Live) (ls : List Literal) (left more : List ℕ) (k : ℕ) (left_is : left ≡ k ∷ more) (end : ChainEnd) (so_far : Gives (chain live ls left) end) (quiet : conflicts ls ≡ false) (c : Clause) (at : live k ≡ Some c) where
-  next : (left_of : Left) → how_many (open_literals ls c) ≡ left_of → chain live ls left ≡ look_left k left_of (λ l. chain live (l ∷ ls) more)
-  next left_of e = grind (arith, looks_left)
-
   pub walk_nothing : (trues : List Literal) → Nothing ≡ how_many (open_literals ls c) → IsEnd trues Conflict end
-  walk_nothing trues e = so_far trues Conflict (subst (IsEnd trues Conflict) (sym (next Nothing (sym e))) tt)
+  walk_nothing trues e = grind arith
 
   pub walk_more : (trues : List Literal) → More ≡ how_many (open_literals ls c) → IsEnd trues (NotUnit k) end
-  walk_more trues e = so_far trues (NotUnit k) (subst (IsEnd trues (NotUnit k)) (sym (next More (sym e))) refl)
+  walk_more trues e = grind arith
 
   pub walk_one : (m : Literal) → One m ≡ how_many (open_literals ls c) → (after : List Literal) → SameSet after (m ∷ ls) → Gives (chain live after more) end
-  walk_one m e after same trues w g = so_far trues w (subst (IsEnd trues w) (sym (next (One m) (sym e))) (chain_same live more after (m ∷ ls) same trues w g))
+  walk_one m e after same trues w g = grind (arith, chain_same)

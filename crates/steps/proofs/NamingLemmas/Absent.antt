@@ -1,7 +1,7 @@
 -- Deletions of clauses that are not alive.
-use Rattle.std.proofs.Common.{◌≡◌, ℕ, false, cond, eqb, Option, None, option_map, is_none, Ok, List}
-use Rattle.std.proofs.Common.{[], ◌∷◌, map, refl, sym, ap, ◌∙◌, subst, Bool, arith, rules}
-use Rattle.std.proofs.lemmas.Bool.{false≢true}
+use Rattle.std.proofs.Common.{◌≡◌, ℕ, false, cond, eqb, None, is_none, Ok, List, [], ◌∷◌, map, refl}
+use Rattle.std.proofs.Common.{sym, ap, ◌∙◌, subst, Bool, arith, rules}
+use Rattle.proofs.specs.declared.step_buf.StepKind.TheVariants as kinds
 use Rattle.std.specs.{Bool.then_some, List.list_any, Prelude.nat_abs, Option.option_or}
 use Rattle.cnf_base.specs.Literals.{Literal, Clause, same_clause}
 use Rattle.proofs.specs.Steps.{Step}
@@ -14,14 +14,10 @@ use Rattle.theory.specs.Rules.{State, by_ids, by_copies, Answers, after}
 use Rattle.theory.proofs.RenamingLemmas.{Lrat.without_all_mapped, Verdicts.renames}
 use Rattle.steps.specs.Code.Naming.{with_lits, IsAbsent}
 use Rattle.steps.proofs.NamingLemmas.{Among.without_among, States.IsTold}
-use Rattle.proofs.specs.declared.step_buf.StepKind.TheVariants as kinds
 
 -- ---- By identifiers: literals aren't looked at
 
 module _ (f : Literal → Literal) where
-  alike : (o : Option Clause) → is_none (option_map (map f) o) ≡ is_none o
-  alike o = grind arith
-
   -- the identifiers of a deletion are refused alike
   refused_alike : (ids : List ℕ) (live other : Live) → ((k : ℕ) → is_none (other k) ≡ is_none (live k)) → deletion_refusal live ids ≡ deletion_refusal other ids
   refused_alike [] live other same = refl
@@ -36,19 +32,15 @@ module _ (f : Literal → Literal) where
 
 -- a deletion of what isn't alive is ignored or refused
 module _ (rules : DratRules) (live : List Clause) (lits : List Literal) (absent : list_any (same_clause lits) live ≡ false) where
-  absent_answer : (others : List Clause) (own : List Literal) → list_any (same_clause own) others ≡ false → (answer : StepAnswer) → AnswersDelete rules live lits answer → AnswersDelete rules others own answer
-  absent_answer others own h answer h2 = grind (arith, false≢true)
-
   absent_word : (word : Accepted) → AnswersDelete rules live lits (Ok word) → word ≡ Ignored
-  absent_word word h = search (rules, arith, false≢true)
+  absent_word word h = search (rules, arith)
 
 -- ---- Both
 
 module _ (name back : ℕ → ℕ) where
   pub absent_step : (s other : State) (step : Step) (lits : List Literal) (answer : StepAnswer) → IsRenamed name back s other → step.kind ≡ kinds.Delete →
       IsAbsent s lits → IsAbsent other step.lits → Answers s (with_lits lits step) answer → Answers other step answer
-  absent_step s other step lits answer h h2 h3 h4 h5 =
-      grind (arith, refused_alike, alike, absent_answer)
+  absent_step s other step lits answer h h2 h3 h4 h5 = grind (arith, refused_alike)
 
   pub absent_after : (s other : State) (step : Step) (lits : List Literal) (word : Accepted) → IsRenamed name back s other → step.kind ≡ kinds.Delete →
       IsAbsent s lits → IsAbsent other step.lits → Answers s (with_lits lits step) (Ok word) → IsRenamed name back (after s (with_lits lits step) word) (after other step word)
@@ -65,4 +57,4 @@ module _ (name back : ℕ → ℕ) where
 
   pub absent_loses : (s other : State) (step : Step) (lits : List Literal) (word : Accepted) → IsRenamed name back s other → step.kind ≡ kinds.Delete →
       IsAbsent s lits → IsAbsent other step.lits → Answers s (with_lits lits step) (Ok word) → (StepLoses s (with_lits lits step) word → ⊥) × (StepLoses other step word → ⊥)
-  absent_loses s other step lits word h h2 h3 h4 h5 = grind (arith, absent_word)
+  absent_loses s other step lits word h h2 h3 h4 h5 = grind arith

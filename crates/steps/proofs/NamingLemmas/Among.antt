@@ -1,39 +1,32 @@
 -- What is said of each literal of the live clauses.
-use Rattle.std.proofs.Common.{arith, rules, ◌≡◌, ℕ, zero, suc, Bool, true, false, cond, eqb, Option}
-use Rattle.std.proofs.Common.{Some, None, List, [], ◌∷◌, map, slice_get, sym, subst}
-use Rattle.std.proofs.lemmas.Bool.{true≢false, false_from_ne_true}
-use Rattle.std.proofs.lemmas.Option.{none-some, same_Some}
+use Rattle.std.proofs.Common.{arith, rules, ◌≡◌, ℕ, zero, suc, Bool, true, false, cond, eqb, Some}
+use Rattle.std.proofs.Common.{None, List, [], ◌∷◌, map, slice_get, sym, subst}
+use Rattle.proofs.specs.declared.step_buf.StepKind.TheVariants as kinds
+use Rattle.theory.specs.Drat as d
+use Rattle.std.proofs.lemmas.Option.{none-some}
 use Rattle.std.specs.{Prelude.nat_abs, Prelude.⊤, List.list_any}
 use Rattle.cnf_base.specs.Literals.{Literal, Clause, has, same_clause}
 use Rattle.cnf_base.proofs.SetLemmas.{same_there}
-use Rattle.proofs.specs.{declared.step_buf.StepKind.StepKind, Steps.Step, Steps.clause_part}
+use Rattle.proofs.specs.{declared.step_buf.StepKind.StepKind, Steps.Step}
 use Rattle.theory.specs.{declared.accepted.Accepted.Accepted, Propagation.Live}
 use Rattle.theory.specs.Drat.{DratStep, drat_step_of, take_off, after_drat}
 use Rattle.theory.specs.declared.drat_rules.DratRules.{DratRules}
-use Rattle.theory.specs.Lrat.{SameAt, step_of, with_clause, without_id, without_ids, after_lrat}
+use Rattle.theory.specs.Lrat.{step_of, with_clause, without_id, without_ids, after_lrat}
 use Rattle.theory.specs.Rules.{State, by_ids, by_copies, Same, after, with_input}
 use Rattle.theory.proofs.RenamingLemmas.Clauses.{take_has}
 use Rattle.theory.proofs.DratLemmas.Copies.{covers_of, alive_at}
 use Rattle.steps.specs.Code.Naming.{with_lits, AreAmong, LiveAmong, AreAllAmong}
-use Rattle.proofs.specs.declared.step_buf.StepKind.TheVariants as kinds
-use Rattle.theory.specs.Drat as d
 
 module _ (among : Literal → Type 0) where
   -- ---- The same sets
 
-  same_set_among : (c e : Clause) → same_clause c e ≡ true → AreAmong among e → AreAmong among c
-  same_set_among c e same w l member = w l (same_there c e same l member)
-
-  same_at_among : (o p : Option Clause) → SameAt o p → ((e : Clause) → p ≡ Some e → AreAmong among e) → (c : Clause) → o ≡ Some c → AreAmong among c
-  same_at_among o p h h2 c h3 = grind (arith, none-some, same_Some, same_set_among)
-
   pub same_among : (s t : State) → Same s t → AreAllAmong among t → AreAllAmong among s
-  same_among s t h h2 = grind (arith, same_at_among, covers_of, same_set_among)
+  same_among s t h h2 = grind (arith, covers_of, same_there)
 
   -- ---- One more clause, and fewer
 
   pub with_among : (live : Live) (id : ℕ) (c : Clause) → AreAmong among c → LiveAmong among live → LiveAmong among (with_clause live id c)
-  with_among live id c a w k x = grind (arith, same_Some)
+  with_among live id c a w k x = grind arith
 
   pub without_among : (ids : List ℕ) (live : Live) → LiveAmong among live → LiveAmong among (without_ids live ids)
   without_among [] live w = w
@@ -41,9 +34,6 @@ module _ (among : Literal → Type 0) where
     where
       by : (k : ℕ) (x : Clause) (b : Bool) → cond b None (live k) ≡ Some x → AreAmong among x
       by k x b h = grind (arith, none-some)
-
-  pub added_among : (c : Clause) (live : List Clause) → AreAmong among c → LiveAmong among (slice_get live) → LiveAmong among (slice_get (c ∷ live))
-  added_among c live h h2 h3 h4 h5 = grind (arith, same_Some)
 
   pub taken_among : (c : Clause) (live : List Clause) → LiveAmong among (slice_get live) → LiveAmong among (slice_get (take_off c live))
   taken_among c [] w = w
@@ -65,10 +55,10 @@ module _ (among : Literal → Type 0) where
   AddsAmong (d.delete c) = ⊤
 
   adds_among : (rules : DratRules) (kind : StepKind) (lits : List Literal) → AreAmong among lits → AddsAmong (drat_step_of rules kind lits)
-  adds_among rules kind lits h = grind (arith, clause_part, take_has)
+  adds_among rules kind lits h = grind (arith, take_has)
 
   drat_among : (live : List Clause) (step : DratStep) (word : Accepted) → AddsAmong step → LiveAmong among (slice_get live) → LiveAmong among (slice_get (after_drat live step word))
-  drat_among live step word h h2 = grind (arith, added_among, taken_among)
+  drat_among live step word h h2 = grind (arith, taken_among)
 
   pub after_among : (s : State) (lits : List Literal) (step : Step) (word : Accepted) → AreAllAmong among s → AreAmong among lits → AreAllAmong among (after s (with_lits lits step) word)
   after_among (by_ids s) lits step word w a = by step.kind
@@ -85,8 +75,8 @@ module _ (among : Literal → Type 0) where
   deleted_among (by_copies rules live) lits step word is w = grind (arith, drat_among)
 
   pub input_among : (s : State) (c : Clause) → AreAllAmong among s → AreAmong among c → AreAllAmong among (with_input s c)
-  input_among s c h h2 = grind (arith, with_among, added_among)
+  input_among s c h h2 = grind arith
 
 -- a list with a literal that no live clause holds is no live clause
 pub lacks : (lits : List Literal) (l : Literal) (live : List Clause) → has lits l ≡ true → ((k : ℕ) (c : Clause) → slice_get live k ≡ Some c → has c l ≡ false) → list_any (same_clause lits) live ≡ false
-lacks lits l live member none = grind (arith, false_from_ne_true, alive_at, true≢false, same_there)
+lacks lits l live member none = grind (arith, alive_at, same_there)

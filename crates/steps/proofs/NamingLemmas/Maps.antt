@@ -1,9 +1,8 @@
 -- Maps whose values are changed.
 use Rattle.std.proofs.Common.{◌≡◌, ℕ, T, option_map, List, [], ◌∷◌, map, rules, length, refl, ap}
 use Rattle.std.proofs.Common.{◌∙◌, subst, nat_cmp, sym, ◌&&◌, arith}
-use Rattle.std.proofs.lemmas.List.{length-map}
+use Rattle.std.{proofs.lemmas.List.length-map, specs.Ordering.is_lt}
 use Rattle.std.specs.FinMap.{FinMap, find, is_sorted, Entries.below_all}
-use Rattle.std.specs.Ordering.{is_lt}
 use Rattle.std.specs.FinMap as maps
 use Rattle.cnf_base.specs.Literals.{Clause}
 use Rattle.steps.specs.Code.Naming.{mapped_values}

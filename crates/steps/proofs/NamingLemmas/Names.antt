@@ -1,8 +1,7 @@
 -- Literals under the numbers of a numbering.
 use Rattle.std.proofs.Common.{◌≡◌, List, ℕ}
 use Rattle.cnf_base.specs.Literals.{Literal, variable}
-use Rattle.numbering.specs.Names.{number_in, name_in}
-use Rattle.numbering.proofs.NameLemmas.{told}
+use Rattle.numbering.{specs.Names.number_in, specs.Names.name_in, proofs.NameLemmas.told}
 use Rattle.steps.specs.Code.Naming.{IsGiven}
 
 pub given_undone : (names : List ℕ) (l : Literal) → IsGiven names l → number_in names (name_in names (variable l)) ≡ variable l

@@ -1,17 +1,14 @@
 -- The pivot that a refusal names is the first literal of its step.
 use Rattle.std.proofs.Common.{arith, ◌≡◌, ℕ, Bool, Option, Some, None, Ok, Err, List, [], ◌∷◌, map}
-use Rattle.std.proofs.Common.{slice_get}
+use Rattle.proofs.specs.declared.step_buf.StepKind.TheVariants as kinds
 use Rattle.std.specs.{Option.option_or, Bool.then_some, Prelude.is_none, Prelude.⊤}
 use Rattle.cnf_base.specs.Literals.{Literal, Clause}
-use Rattle.proofs.specs.Steps.{Step, clause_part, witness_part}
-use Rattle.theory.specs.{Answers.StepAnswer, Lrat.LratState, Propagation.Live, Rules.State}
-use Rattle.theory.specs.{Drat.AnswersAdd, Drat.AnswersListed, Rules.Answers}
-use Rattle.theory.specs.Lrat.{ChainEnd, Group, AnswersChain, AnswersGroups, chain_refusal}
-use Rattle.theory.specs.Lrat.{group_refusal, groups_refusal, deletion_refusal, without_id}
-use Rattle.theory.specs.{declared.refusal.Refusal.Refusal, Renaming.answer_renamed, Rules.by_ids}
+use Rattle.proofs.specs.Steps.{Step}
+use Rattle.theory.specs.{Answers.StepAnswer, Propagation.Live, Rules.State, Rules.Answers}
+use Rattle.theory.specs.{declared.refusal.Refusal.Refusal, Renaming.answer_renamed}
+use Rattle.theory.specs.Lrat.{Group, group_refusal, groups_refusal, deletion_refusal, without_id}
 use Rattle.theory.specs.declared.refusal.Refusal.TheVariants.{NeitherRupNorRat, UnknownId}
 use Rattle.steps.specs.Code.Naming.{answer_with, with_lits}
-use Rattle.proofs.specs.declared.step_buf.StepKind.TheVariants as kinds
 
 -- no pivot is named
 abbrev pub IsPlain : StepAnswer → Type 0
@@ -29,11 +26,8 @@ either_plain a b h h2 = grind arith
 then_plain : (b : Bool) (r : Refusal) → IsPlain (Err r) → AllPlain (then_some b r)
 then_plain b r h = grind arith
 
-chain_plain : (r : Refusal) (end : ChainEnd) → IsPlain (Err r) → AllPlain (chain_refusal r end)
-chain_plain r end h = grind arith
-
 group_plain : (live : Live) (ls : List Literal) (pivot : Literal) (earlier : List ℕ) (group : Group) (o : Option Clause) → AllPlain (group_refusal live ls pivot earlier group o)
-group_plain live ls pivot earlier group o = grind (arith, either_plain, then_plain, chain_plain)
+group_plain live ls pivot earlier group o = grind arith
 
 groups_plain : (live : Live) (ls : List Literal) (pivot : Literal) (earlier : List ℕ) (groups : List Group) → AllPlain (groups_refusal live ls pivot earlier groups)
 groups_plain live ls pivot earlier [] = tt
@@ -47,33 +41,13 @@ deletion_plain live (id ∷ ids) =
     either_plain (then_some (is_none (live id)) (UnknownId id)) _ (then_plain (is_none (live id)) (UnknownId id) tt)
     (deletion_plain (without_id live id) ids)
 
-after_groups_plain : (live : Live) (ls : List Literal) (pivot : Literal) (groups : List Group) (o : Option Refusal) (answer : StepAnswer) → AllPlain o → AnswersGroups live ls pivot groups o answer → IsPlain answer
-after_groups_plain live ls pivot groups o answer h h2 = grind arith
-
-after_chain_plain : (live : Live) (c : List Literal) (groups : List Group) (end : ChainEnd) (answer : StepAnswer) → AnswersChain live c groups end answer → IsPlain answer
-after_chain_plain live c groups end answer h = grind (arith, after_groups_plain, groups_plain)
-
--- LRAT names no pivot
-lrat_plain : (s : LratState) (step : Step) (answer : StepAnswer) → Answers (by_ids s) step answer → IsPlain answer
-lrat_plain s step answer = grind (arith, after_chain_plain, deletion_plain)
-
--- the pivot of DRAT is the first literal
-listed_pivot : (live : List Clause) (lits : List Literal) (witness : List Literal) (pivot : Literal) → AnswersListed (slice_get live) (clause_part lits) witness (Err (NeitherRupNorRat pivot)) → (rest : List Literal) × (lits ≡ pivot ∷ rest)
-listed_pivot live lits witness pivot h = grind arith
-
-added_pivot : (live : List Clause) (lits : List Literal) (pivot : Literal) → AnswersAdd (slice_get live) lits (Err (NeitherRupNorRat pivot)) → (rest : List Literal) × (lits ≡ pivot ∷ rest)
-added_pivot live lits pivot h = grind arith
-
-pub pivot_first : (s : State) (step : Step) (pivot : Literal) → Answers s step (Err (NeitherRupNorRat pivot)) → (rest : List Literal) × (step.lits ≡ pivot ∷ rest)
-pivot_first s step pivot h = grind (arith, lrat_plain, listed_pivot, witness_part, added_pivot)
-
 -- So an answer under numbers, renamed, is the one that names the step's own first literal.
 pub answer_named : (f g : Literal → Literal) (s : State) (lits : List Literal) (step : Step) (answer : StepAnswer) → map f (map g lits) ≡ lits → Answers s (with_lits (map g lits) step) answer → answer_renamed f answer ≡ answer_with lits answer
-answer_named f g s lits step answer h h2 = grind (arith, pivot_first)
+answer_named f g s lits step answer h h2 = grind (arith, deletion_plain, groups_plain)
 
 -- a deletion names none
 pub deletion_names_none : (s : State) (step : Step) (answer : StepAnswer) → step.kind ≡ kinds.Delete → Answers s step answer → IsPlain answer
-deletion_names_none s step answer h h2 = grind (arith, lrat_plain)
+deletion_names_none s step answer h h2 = grind (arith, deletion_plain, groups_plain)
 
 pub plain_stays : (lits : List Literal) (answer : StepAnswer) → IsPlain answer → answer_with lits answer ≡ answer
 plain_stays lits answer h = grind arith

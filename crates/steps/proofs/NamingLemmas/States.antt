@@ -1,10 +1,10 @@
 -- States under other names.
-use Rattle.std.proofs.Common.{◌≡◌, ℕ, zero, suc, ◌+◌, ◌-◌, ◌<◌, Bool, true, cond, eqb}
-use Rattle.std.proofs.Common.{Option, Some, None, option_map, List, [], ◌∷◌, map, slice_get, refl}
-use Rattle.std.proofs.Common.{sym, ap, ◌∙◌, subst, arith, inl, inr, eqb-true, eq-eqb, rules}
+use Rattle.std.proofs.Common.{◌≡◌, ℕ, zero, suc, ◌+◌, ◌-◌, ◌<◌, Bool, true, cond, eqb, Option, Some}
+use Rattle.std.proofs.Common.{None, option_map, List, [], ◌∷◌, map, slice_get, refl, sym, ap, ◌∙◌}
+use Rattle.std.proofs.Common.{subst, arith, inl, inr, eqb-true, eq-eqb, rules}
 use Rattle.std.proofs.lemmas.{Bool.or_right, Bool.false≢true, List.Sums.sum_by-cons}
-use Rattle.std.proofs.lemmas.Option.{none-some, same_Some, slice_get-map}
-use Rattle.std.specs.{Prelude.sum_by, List.list_any}
+use Rattle.std.{proofs.lemmas.Option.slice_get-map, specs.Prelude.sum_by, specs.List.list_any}
+use Rattle.theory.specs.Drat as d
 use Rattle.cnf_base.specs.Literals.{Literal, Clause, variable, has, same_clause, size, complement}
 use Rattle.cnf_base.proofs.SetLemmas.{has_head, has_tail, same_itself, same_trans}
 use Rattle.theory.specs.declared.accepted.Accepted.TheVariants.{Deleted, Rup, Rat, Pr, Empty}
@@ -23,7 +23,6 @@ use Rattle.theory.proofs.RenamingLemmas.Forced.{Carries, carries_back, forced_im
 use Rattle.theory.proofs.RenamingLemmas.{Forced.reason_image, Drat.after_mapped}
 use Rattle.steps.proofs.NamingLemmas.Among.{taken_among}
 use Rattle.proofs.specs.Steps.{Step}
-use Rattle.theory.specs.Drat as d
 
 -- literals whose names can be told
 abbrev pub IsTold : (name back : ℕ → ℕ) → Literal → Type 0
@@ -57,7 +56,7 @@ module _ (name back : ℕ → ℕ) where
   alive_renamed c live told undone alive e same =
       let w = alive_at c live alive in
       any_at e (map (renamed name) w.1) (map (map (renamed name)) live) w.0
-      (slice_get-map (map (renamed name)) live w.0 ∙ ap (option_map (map (renamed name))) w.2)
+      (grind (arith, slice_get-map, map, option_map))
       (same_trans e (map (renamed name) c) (map (renamed name) w.1) same
       (same_mapped (renamed name) (renamed back) (IsTold name back) (renames name back) c w.1 told (undone w.0 w.1 w.2) ∙ w.3))
 
@@ -157,12 +156,12 @@ module _ (there back : Literal → Literal) (among : Literal → Type 0) where
 
 module _ (there back : Literal → Literal) (among : Literal → Type 0) (r : Renames there back among) where
   image_back : (o : Option Clause) → ((c : Clause) → o ≡ Some c → AreAmong among c) → (e : Clause) → option_map (map there) o ≡ Some e → o ≡ Some (map back e)
-  image_back o h e h2 = grind (arith, none-some, back_there, same_Some)
+  image_back o h e h2 = grind (arith, back_there)
 
   listed : (live : List Clause) → ((k : ℕ) (c : Clause) → slice_get live k ≡ Some c → AreAmong among c) → Carries there back among (slice_get live) (slice_get (map (map there) live))
   listed live within = record {
     renames = r;
-    images = λ k c at. slice_get-map (map there) live k ∙ ap (option_map (map there)) at;
+    images = grind (arith, slice_get-map, map, option_map);
     images_back = λ k e at. image_back (slice_get live k) (within k) e (sym (slice_get-map (map there) live k) ∙ at);
     within = within;
   }
@@ -170,7 +169,7 @@ module _ (there back : Literal → Literal) (among : Literal → Type 0) (r : Re
 module _ (name back : ℕ → ℕ) where
   module _ (live : List Clause) (c : Clause) (undone : AreUndone name back (slice_get live)) (told : IsUndone name back c) where
     before_carried : Carries (renamed name) (renamed back) (IsTold name back) (slice_get live) (slice_get (map (map (renamed name)) live))
-    before_carried = listed (renamed name) (renamed back) (IsTold name back) (renames name back) live undone
+    before_carried = search (rules, listed, renames)
 
     after_carried : Carries (renamed name) (renamed back) (IsTold name back) (slice_get (take_off c live)) (slice_get (take_off (map (renamed name) c) (map (map (renamed name)) live)))
     after_carried =

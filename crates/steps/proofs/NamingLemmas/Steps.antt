@@ -2,8 +2,10 @@
 use Rattle.std.proofs.Common.{rules, ◌≡◌, ℕ, suc, ◌+◌, ◌*◌, ◌%◌, Bool, true, false, Option, Some}
 use Rattle.std.proofs.Common.{None, Ok, Err, List, [], ◌∷◌, map, option_map, slice_get, length, inr}
 use Rattle.std.proofs.Common.{refl, sym, ap, ◌∙◌, subst, arith, Result, OnOk, IfOk, ◌↔◌, ◌⊎◌, inl}
+use Rattle.std.specs.FinMap as maps
+use Rattle.proofs.specs.declared.step_buf.StepKind.TheVariants as kinds
 use Rattle.std.specs.{List.list_all, List.list_any, Ordering.nat_cmp}
-use Rattle.std.proofs.lemmas.Bool.{false≢true, false_from_ne_true, and_parts}
+use Rattle.std.proofs.lemmas.Bool.{false≢true, and_parts}
 use Rattle.std.proofs.lemmas.Option.{same_Some, none-some, slice_get-map}
 use Rattle.cnf_base.specs.Literals.{Literal, Clause, variable, has, same_clause}
 use Rattle.cnf_base.proofs.SetLemmas.{has_head, has_tail, has_cases}
@@ -27,8 +29,6 @@ use Rattle.steps.proofs.NamingLemmas.{Among.deleted_among, Names.given_undone, S
 use Rattle.steps.proofs.NamingLemmas.States.{renamed_loses, renamed_same, renamed_input}
 use Rattle.steps.proofs.NamingLemmas.Maps.{mapped_get, mapped_list, mapped_empty}
 use Rattle.steps.proofs.NamingLemmas.Pivots.{answer_named, deletion_names_none, plain_stays}
-use Rattle.std.specs.FinMap as maps
-use Rattle.proofs.specs.declared.step_buf.StepKind.TheVariants as kinds
 
 -- each variable that was met keeps its number
 abbrev pub Extends : (names more : List ℕ) → Type 0
@@ -39,9 +39,6 @@ extends_itself names v h = (h, refl)
 
 pub extends_new : (names : List ℕ) (lits : List Literal) → Extends names (with_names names lits)
 extends_new names lits v h = (kept_has_all names v lits h, kept_number_all names v lits h)
-
-variable_under : (n l : ℕ) → variable (2 * n + l % 2) ≡ n
-variable_under n l = grind arith
 
 -- the literals of this list have variables that were met
 abbrev pub AreMet : List ℕ → List Literal → Type 0
@@ -58,13 +55,13 @@ module _ (names : List ℕ) where
       ∷ named_back lits (λ k h. met k (has_tail l lits k h)) i
 
   numbered_given : (lits : List Literal) → AreMet names lits → AreAmong (IsGiven names) (numbered lits)
-  numbered_given lits met m h = grind (arith, mapped_has, variable_under)
+  numbered_given lits met m h = grind (arith, mapped_has)
 
 -- ---- What is held, under names
 
 module _ (names more : List ℕ) (extends : Extends names more) where
   extended_given : (l : Literal) → IsGiven names l → IsGiven more l
-  extended_given l given = (given.0, (extends given.0 given.1).0, (extends given.0 given.1).1 ∙ given.2)
+  extended_given l given = grind arith
 
   name_kept : (l : Literal) → IsGiven names l → name_in names (variable l) ≡ name_in more (variable l)
   name_kept l given = grind (arith, told)
@@ -130,7 +127,7 @@ module _ (names : List ℕ) (lits : List Literal) (old new : Held) (given : AreA
       let told_all = λ (l : Literal) (h : has (numbered later lits) l ≡ true). given_undone later l (numbered_given later lits met_now l h) in
       subst (λ c. Same (state_of (under_names later more_beside new)) (with_input own c)) (named_back later lits met_now)
       (renamed_same (name_in later) (number_in later) (state_of new) (with_input (state_of old) (numbered later lits)) (state_of (under_names later more_beside new)) (with_input own (map (renamed (name_in later)) (numbered later lits))) after
-      (renamed_input (name_in later) (number_in later) (state_of old) own (numbered later lits) before told_all) same)
+      (grind (arith, renamed_input, before)) same)
 
 -- ---- A step
 
@@ -176,11 +173,10 @@ module _ (names more : List ℕ) (extends : Extends names more) (old : Held) (be
 -- a deletion with a variable that wasn't met is of no live clause
 module _ (names : List ℕ) (old : Held) (beside : ℕ) (lits : List Literal) (step : Step) (given : AreAllAmong (IsGiven names) (state_of old)) (unmet : Literal) (member : has lits unmet ≡ true) (new : has names (variable unmet) ≡ false) (deletes : step.kind ≡ kinds.Delete) where
   none_numbered : (c : Clause) → AreAmong (IsGiven names) c → has c (renamed (number_in names) unmet) ≡ false
-  none_numbered c c_given = grind (arith, false_from_ne_true, next_is_not_given, variable_under)
+  none_numbered c c_given = grind (arith, next_is_not_given)
 
   none_named : (c : Clause) → AreAmong (IsGiven names) c → has (map (renamed (name_in names)) c) unmet ≡ false
-  none_named c c_given =
-      grind (arith, false_from_ne_true, mapped_has, told, variable_under, false≢true)
+  none_named c c_given = grind (arith, mapped_has, told)
 
   absent_numbered : IsAbsent (state_of old) (numbered names lits)
   absent_numbered = by old.rule given
@@ -232,7 +228,7 @@ inputs names more lits numbered old new beside given more_is numbered_is same =
     let same_too = subst (λ ns. Same (state_of new) (with_input (state_of old) (map (renamed (number_in ns)) lits))) more_is
     (subst (λ ls. Same (state_of new) (with_input (state_of old) ls)) numbered_is same) in
     subst (λ ns. AreAllAmong (IsGiven ns) (state_of new) × Same (state_of (under_names ns 0 new)) (with_input (state_of (under_names names beside old)) lits)) (sym more_is)
-    (input_given names lits old new given beside 0 same_too, input_named names lits old new given beside 0 same_too)
+    (grind (arith, input_given), input_named names lits old new given beside 0 same_too)
 
 all_met : (names : List ℕ) (c : List Literal) → list_all (λ l. has names (variable l)) c ≡ true → AreMet names c
 all_met names [] all l h = absurd (false≢true h)
@@ -319,16 +315,12 @@ steps names more old new beside lits numbered step answer given more_is numbered
 
 -- whether a literal was lost
 pub lost_named : (lits : List Literal) (answer : StepAnswer) (A B : Type 0) (P Q : Accepted → Type 0) → IfOk answer (λ word. A ↔ (B ⊎ P word)) → IfOk (answer_with lits answer) (λ word. P word ↔ Q word) → IfOk (answer_with lits answer) (λ word. A ↔ (B ⊎ Q word))
-lost_named lits answer A B P Q h h2 = grind (arith, named_err)
-
--- what is said where a step is accepted
-pub ok_named : (lits : List Literal) (answer : StepAnswer) (P : Type 0) → OnOk answer P → OnOk (answer_with lits answer) P
-ok_named lits answer P h = grind arith
+lost_named lits answer A B P Q h h2 = grind arith
 
 -- ---- At first
 
 pub empty_named : (names : List ℕ) (held : Held) → held.live ≡ maps.empty → mapped_values (map (renamed (name_in names))) held.live ≡ maps.empty
-empty_named names held empty = ap (mapped_values (map (renamed (name_in names)))) empty ∙ mapped_empty (map (renamed (name_in names)))
+empty_named names held empty = grind (arith, mapped_empty)
 
 nothing : (es : List (ℕ × Clause)) → length es ≡ 0 → es ≡ []
 nothing [] e = refl
@@ -338,14 +330,4 @@ no_values : maps.values (maps.empty {X = Clause} {R = nat_cmp}) ≡ []
 no_values = ap (map (λ e. e.1)) (nothing (maps.entries maps.empty) (sym (maps.len-entries maps.empty) ∙ maps.len-empty nat_cmp Clause))
 
 pub none_given : (names : List ℕ) (held : Held) → held.live ≡ maps.empty → AreAllAmong (IsGiven names) (state_of held)
-none_given names held empty = by held.rule
-  where
-    no_value : (k : ℕ) (c : Clause) → maps.get held.live k ≡ Some c → ⊥
-    no_value k c at = none-some c (sym (maps.get-empty nat_cmp k) ∙ ap (λ m. maps.get m k) (sym empty) ∙ at)
-
-    no_place : (live : List Clause) → live ≡ [] → (k : ℕ) (c : Clause) → slice_get live k ≡ Some c → ⊥
-    no_place live is k c at = none-some c (sym (ap (λ ls. slice_get ls k) is) ∙ at)
-
-    by : (rule : Rule) → AreAllAmong (IsGiven names) (state_under rule held)
-    by lrat = λ k c at. absurd (no_value k c at)
-    by (drat rules) = λ k c at. absurd (no_place (maps.values held.live) (ap maps.values empty ∙ no_values) k c at)
+none_given names held empty = grind (arith, maps.get-empty, no_values)

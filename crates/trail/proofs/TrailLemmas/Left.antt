@@ -77,7 +77,7 @@ left_push : (ls : List Literal) (l : Literal) → how_many (ls ++ l ∷ []) ≡ 
 left_push ls l = grind (arith, list_all-append)
 
 more_stays : (xs ys : List Literal) → how_many xs ≡ More → how_many (xs ++ ys) ≡ More
-more_stays xs ys h = grind (arith, nothing_more, list_all-append)
+more_stays xs ys h = grind (arith, list_all-append)
 
 none_in : (ls : List Literal) → length ls ≡ 0 → ls ≡ []
 none_in [] e = refl

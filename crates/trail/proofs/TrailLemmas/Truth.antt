@@ -1,12 +1,12 @@
 -- What the literals of a trail say of others, and what they leave of a clause.
-use Rattle.std.proofs.Common.{◌≡◌, ℕ, ◌+◌, ◌<◌, Bool, true, false, cond, eqb, eqb-true, List, map}
-use Rattle.std.proofs.Common.{nat_eq, length, get_or, take, arith, sym, ◌∙◌, inl, inr, ◌⊎◌}
+use Rattle.std.proofs.Common.{◌≡◌, ℕ, ◌+◌, ◌<◌, true, false, eqb, eqb-true, List, map, nat_eq}
+use Rattle.std.proofs.Common.{length, get_or, take, arith, sym, ◌∙◌, inl, inr, ◌⊎◌}
 use Rattle.std.proofs.lemmas.Bool.{true≢false, false_from_ne_true, or_cases}
 use Rattle.std.proofs.lemmas.List.{get_or-map, length-map}
 use Rattle.std.proofs.lemmas.Map.Keys.{apart_from_distinct, IsDistinct-from_apart}
 use Rattle.cnf_base.specs.Literals.{Literal, complement, Clause, has, variable}
 use Rattle.cnf_base.proofs.{LiteralLemmas.complement-other, WalkLemmas.has_more}
-use Rattle.trail.specs.{Trail.value_under, Trail.HasNoVariableTwice, declared.value.Value.Value}
+use Rattle.trail.specs.{Trail.value_under, Trail.HasNoVariableTwice}
 use Rattle.trail.specs.declared.value.Value.TheVariants.{True, False, Open}
 use Rattle.cnf_base.proofs.MemberLemmas.{place_of, has_place, place_of_variable, same_variable}
 use Rattle.cnf_base.proofs.MemberLemmas.{variable-complement}
@@ -30,10 +30,6 @@ module _ (ls : List ℕ) (apart : HasNoVariableTwice ls) where
 -- ---- Values
 
 module _ (ls : List ℕ) (l : ℕ) where
-  by_tests : (v : Value) → v ≡ value_under ls l → (a b : Bool) → has ls l ≡ a
-      → has ls (complement l) ≡ b → v ≡ cond a True (cond b False Open)
-  by_tests v is a b e f = cc
-
   pub true_from_value : True ≡ value_under ls l → has ls l ≡ true
   true_from_value is = grind arith
 

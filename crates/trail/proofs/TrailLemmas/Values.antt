@@ -4,13 +4,12 @@ use Rattle.std.proofs.Common.{eqb-true, eq-eqb, Option, Some, None, is_some, Lis
 use Rattle.std.proofs.Common.{map, take, drop, get_or, length, nat_eq, length-append, arith, ap}
 use Rattle.std.proofs.Common.{sym, ◌∙◌, inl, inr, ◌⊎◌, refl, subst}
 use Rattle.std.specs.{List.AllByRecursion, List.IsDistinct, Cmp.nat_eq_equiv}
-use Rattle.std.proofs.lemmas.Bool.{false≢true, false_from_ne_true, or_cases, or_left, or_right}
-use Rattle.std.proofs.lemmas.Bool.{Decides.nat_tests, cases_eq, ne_eqb}
+use Rattle.std.proofs.lemmas.Bool.{false≢true, false_from_ne_true, or_cases}
 use Rattle.std.proofs.lemmas.List.{map-append, length-map, length-drop, get_or_append_left}
 use Rattle.std.proofs.lemmas.List.{get_or-append_right, take_all, take-append-drop}
 use Rattle.std.proofs.lemmas.Map.{Made.length-le_from_is_member, Keys.IsDistinct-push}
 use Rattle.cnf_base.specs.Literals.{complement, has, variable, size}
-use Rattle.cnf_base.proofs.SetLemmas.{both_pass, has_cases, has_append_left, has_append_right}
+use Rattle.cnf_base.proofs.SetLemmas.{has_cases, has_append_left, has_append_right}
 use Rattle.cnf_base.proofs.{SetLemmas.has_append_cases, WalkLemmas.has_push}
 use Rattle.cnf_base.proofs.LiteralLemmas.{complement-complement, complement-other}
 use Rattle.cnf_base.proofs.SizeLemmas.{size_covered}
@@ -25,9 +24,6 @@ use Rattle.trail.proofs.TrailLemmas.Truth.{open_from_value, variable_open}
 abbrev Values : Type 0
 Values = ℕ → Option Value
 
-or_nothing : (b : Bool) → (b || false) ≡ b
-or_nothing b = grind arith
-
 pub value_by_tests : (lits : List ℕ) (l : ℕ) (a b : Bool) → has lits l ≡ a
     → has lits (complement l) ≡ b → value_under lits l ≡ cond a True (cond b False Open)
 value_by_tests lits l a b p q = rw (p, q) refl
@@ -40,8 +36,7 @@ module _ (lits : List ℕ) (l : ℕ) (is_open : value_under lits l ≡ Open) whe
 
   pub value_pushed : (k : ℕ) → value_under (lits ++ l ∷ []) k
       ≡ cond (eqb k (complement l)) False (cond (eqb k l) True (value_under lits k))
-  value_pushed k =
-      grind (arith, cases_eq, value_by_tests, has_push, ne_eqb, complement-other, or_right, eq-eqb, complement-complement, or_nothing)
+  value_pushed k = grind (arith, has_push, complement-other, complement-complement)
 
   pub different_pushed : HasNoVariableTwice lits → HasNoVariableTwice (lits ++ l ∷ [])
   different_pushed different =
@@ -73,8 +68,7 @@ module _ (front rest : List ℕ) (different : HasNoVariableTwice (front ++ rest)
 
   pub value_front : (k : ℕ) → value_under front k
       ≡ cond (has rest k || has rest (complement k)) Open (value_under (front ++ rest) k)
-  value_front k =
-      grind (arith, both_pass, has_append_cases, false≢true, has_append_left, value_by_tests, lacks, variable-complement)
+  value_front k = grind (arith, has_append_cases, has_append_left, lacks, variable-complement)
 
 -- ---- The invariant
 
@@ -104,26 +98,18 @@ pub fits_within : (lits reserved : List ℕ) → HasNoVariableTwice lits
 fits_within lits reserved different within =
     let most = length-le_from_is_member nat_eq_equiv (map variable lits) reserved different
     (λ v h. sym (has_any reserved v) ∙ within v (has_any (map variable lits) v ∙ h)) in
-    let long = length-map lits variable in omega (arith, most, long)
+    grind (arith, length-map)
 
 pub trail_empty : {T : Type 0} (lits reserved : List ℕ) (capacity : ℕ) (seen : ℕ → Option T)
     (value_of : Values) → lits ≡ [] → reserved ≡ [] → ((v : ℕ) → seen v ≡ None)
     → ((k : ℕ) → value_of k ≡ None) → IsTrail lits reserved capacity seen value_of
 unfolding IsDistinct
-trail_empty lits reserved capacity seen value_of no_lits none_met none_seen none =
-    rw (no_lits, none_met) (record {
-      different = tt;
-      within = λ v h. h;
-      fits = omega arith;
-      noted = λ v. ap is_some (none_seen v);
-      known = λ l h. absurd (false≢true h);
-      values = λ l. ap known_value (none l);
-    })
+trail_empty lits reserved capacity seen value_of no_lits none_met none_seen none = grind arith
 
 -- the positive literal's complement
 pub negative_key : (v l : ℕ) → l ≡ 2 * v → complement l ≡ 2 * v + 1
 unfolding complement
-negative_key v l e = grind (arith, nat_tests, e)
+negative_key v l e = grind arith
 
 -- two writes, of both literals of a variable that has values
 module _ (l : ℕ) (a b : Value) (value_of first after : Values)
@@ -139,11 +125,10 @@ module _ (l : ℕ) (a b : Value) (value_of first after : Values)
 
   pub written_some : is_some (value_of l) ≡ true → is_some (value_of (complement l)) ≡ true
       → (k : ℕ) → is_some (after k) ≡ is_some (value_of k)
-  written_some one other k = grind (arith, cases_eq, written, eq-eqb, ne_eqb)
+  written_some one other k = grind arith
 
 within_pushed : (lits reserved : List ℕ) (l : ℕ) → ((v : ℕ) → has (map variable lits) v ≡ true → has reserved v ≡ true) → has reserved (variable l) ≡ true → (v : ℕ) → has (map variable (lits ++ l ∷ [])) v ≡ true → has reserved v ≡ true
-within_pushed lits reserved l within here v h =
-    grind (arith, or_cases, has_push, map-append, eqb-true)
+within_pushed lits reserved l within here v h = grind (arith, has_push, map-append)
 
 module _ {T : Type 0} (lits reserved : List ℕ) (capacity : ℕ) (seen : ℕ → Option T) (value_of : Values) (trail : IsTrail lits reserved capacity seen value_of) where
   -- there is more room, for literals and for values
@@ -152,21 +137,14 @@ module _ {T : Type 0} (lits reserved : List ℕ) (capacity : ℕ) (seen : ℕ �
       → ((k : ℕ) → known_value (after k) ≡ known_value (value_of k))
       → ((k : ℕ) → is_some (value_of k) ≡ true → is_some (after k) ≡ true)
       → IsTrail lits reserved more seen_too after
-  trail_wider more seen_too after wide same_seen same kept = record {
-    different = trail.different;
-    within = trail.within;
-    fits = let fits = trail.fits in omega arith;
-    noted = λ v. same_seen v ∙ trail.noted v;
-    known = λ l h. kept l (trail.known l h);
-    values = λ l. same l ∙ trail.values l;
-  }
+  trail_wider more seen_too after wide same_seen same kept = grind arith
 
   -- one more variable is reserved
   module _ (v : ℕ) (value : T) (reserved_too : List ℕ) (seen_too : ℕ → Option T) (adds : (w : ℕ) → has reserved_too w ≡ (has reserved w || eqb v w))
       (noted : (w : ℕ) → is_some (seen_too w) ≡ has reserved_too w) (room : length reserved_too ≤ capacity)
       (positive : is_some (value_of (2 * v)) ≡ true) (negative : is_some (value_of (2 * v + 1)) ≡ true) where
     of_v : (l : ℕ) → variable l ≡ v → (l ≡ 2 * v) ⊎ (l ≡ 2 * v + 1)
-    of_v l e = grind (arith, nat_tests, e)
+    of_v l e = grind arith
 
     known_both : (l : ℕ) → has reserved_too (variable l) ≡ true → is_some (value_of l) ≡ true
     known_both l h = elim (or_cases (has reserved (variable l)) (eqb v (variable l)) (sym (adds (variable l)) ∙ h)) [
@@ -178,14 +156,7 @@ module _ {T : Type 0} (lits reserved : List ℕ) (capacity : ℕ) (seen : ℕ �
     ]
 
     pub trail_reserved : IsTrail lits reserved_too capacity seen_too value_of
-    trail_reserved = record {
-      different = trail.different;
-      within = λ w h. adds w ∙ or_left (has reserved w) (eqb v w) (trail.within w h);
-      fits = room;
-      noted = noted;
-      known = known_both;
-      values = trail.values;
-    }
+    trail_reserved = grind (arith, known_both)
 
   -- each literal's variable was reserved, and no variable is there twice, so that there is room for one more where it is open
   pub room_for : (l : ℕ) → value_under lits l ≡ Open → has reserved (variable l) ≡ true
@@ -202,8 +173,7 @@ module _ {T : Type 0} (lits reserved : List ℕ) (capacity : ℕ) (seen : ℕ �
       (makes_true : (k : ℕ) → first k ≡ cond (eqb k l) (Some True) (value_of k))
       (makes_false : (k : ℕ) → after k ≡ cond (eqb k (complement l)) (Some False) (first k)) where
     pub trail_set : IsTrail (lits ++ l ∷ []) reserved capacity seen after
-    trail_set =
-        grind (arith, both_known, written_some, different_pushed, within_pushed, written_value, value_pushed)
+    trail_set = grind (arith, different_pushed, within_pushed, value_pushed)
 
 module _ {T : Type 0} (front rest reserved : List ℕ) (capacity : ℕ) (seen : ℕ → Option T) (value_of : Values) (trail : IsTrail (front ++ rest) reserved capacity seen value_of) where
   -- both literals of each variable that was set have a value
@@ -215,18 +185,17 @@ module _ {T : Type 0} (front rest reserved : List ℕ) (capacity : ℕ) (seen : 
   module _ (after : Values) (known : (k : ℕ) → is_some (after k) ≡ is_some (value_of k))
       (opened : (k : ℕ) → known_value (after k) ≡ cond (has rest k || has rest (complement k)) Open (known_value (value_of k))) where
     pub trail_taken : IsTrail front reserved capacity seen after
-    trail_taken =
-        grind (arith, different_front, map-append, has_append_left, known, opened, value_front)
+    trail_taken = grind (arith, different_front, map-append, has_append_left, value_front)
 
 -- the trail as what stays and what is taken back
 pub trail_cut : {T : Type 0} (lits shown reserved : List ℕ) (capacity : ℕ) (seen : ℕ → Option T)
     (value_of : Values) → shown ≡ lits → IsTrail lits reserved capacity seen value_of → (n : ℕ)
     → IsTrail (take n shown ++ take (length shown - n) (drop n shown))
     reserved capacity seen value_of
-trail_cut lits shown reserved capacity seen value_of same trail n = subst (λ ls. IsTrail ls reserved capacity seen value_of) (sym same ∙ front_and_rest shown n) trail
+trail_cut lits shown reserved capacity seen value_of same trail n = grind (arith, front_and_rest)
 
 -- ---- Literals made open
 
 pub opens : (lits : List ℕ) (before after : Values) → HaveRoom before lits
     → ((k : ℕ) → after k ≡ cond (is_of lits k) (Some Open) (before k)) → Opens before after lits
-opens lits before after room written = grind (arith, written, or_cases, complement-complement)
+opens lits before after room written = grind (arith, complement-complement)

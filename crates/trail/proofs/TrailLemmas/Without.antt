@@ -6,7 +6,7 @@ use Rattle.std.specs.List.{remove}
 use Rattle.std.proofs.lemmas.Bool.{cases_eq, cases_lt, false_from_ne_true, ne_eqb}
 use Rattle.std.proofs.lemmas.List.Edits.{get_or-remove_above, get_or-remove_below, length-remove}
 use Rattle.cnf_base.specs.Literals.{complement, has, variable}
-use Rattle.cnf_base.proofs.{LiteralLemmas.complement-complement, SetLemmas.both_pass}
+use Rattle.cnf_base.proofs.{LiteralLemmas.complement-complement}
 use Rattle.cnf_base.proofs.MemberLemmas.{has_front, has_mapped, has_place, place_in_front, place_of}
 use Rattle.cnf_base.proofs.MemberLemmas.{has_variable, place_of_variable, variable-complement}
 use Rattle.trail.specs.{declared.value.Value.Value, Code.Values.IsTrail, Trail.value_under}
@@ -75,12 +75,12 @@ module _ (lits : List ℕ) (place : ℕ) (inside : place < length lits) where
     moved_down : (i : ℕ) → i < length lits → get_or lits i 0 ≢ l → (j : ℕ)
         × (get_or out j 0 ≡ get_or lits i 0) × IsMoved place j i × (j < length out)
     moved_down i low other = let n = length-remove lits place inside in elim (cases_lt i place) [
-      | inl before ↦ (i, get_or-remove_below lits place 0 i before inside, inl (refl, before), omega (arith, n, before, inside))
+      | inl before ↦ grind (arith, get_or-remove_below)
       | inr past ↦ elim (cases_eq i place) [
         | inl same ↦ absurd (other (ap (λ x. get_or lits x 0) same ∙ stands))
         | inr ne ↦
             let back : i - 1 + 1 ≡ i = omega (arith, past, ne) in
-            (i - 1, get_or-remove_above lits place 0 (i - 1) (omega (arith, past, ne)) inside ∙ ap (λ x. get_or lits x 0) back, inr (sym back, omega (arith, past, ne)), omega (arith, n, low, past, ne))
+            grind (arith, get_or-remove_above)
       ]
     ]
 
@@ -98,32 +98,28 @@ module _ (lits : List ℕ) (place : ℕ) (inside : place < length lits) where
           let w = place_of out k h in let m = moved w.0 in
           let alike = ap variable (sym m.1 ∙ w.2) ∙ same ∙ ap variable (sym stands) in
           elim m.2 [
-            | inl s ↦ let e = s.0 in let low = s.1 in places_apart lits different m.0 place (omega (arith, e, low)) inside alike
+            | inl s ↦ grind (arith, places_apart)
             | inr s ↦ let e = s.0 in let past = s.1 in places_apart lits different place m.0 (omega (arith, e, past)) (within_before w.0 m.0 m.2 w.1) (sym alike)
           ])
 
       same_else : (k : ℕ) → k ≢ l → has out k ≡ has lits k
-      same_else k ne = grind (arith, both_pass, was_there, still_there)
+      same_else k ne = grind (arith, was_there, still_there)
 
       value_out : (k : ℕ) → value_under out k
           ≡ cond (eqb k (complement l)) Open (cond (eqb k l) Open (value_under lits k))
       value_out k = elim (cases_eq k (complement l)) [
-        | inl same ↦
-            value_is_open out k (none_left k (ap variable same ∙ variable-complement l)) (none_left (complement k) (variable-complement k ∙ ap variable same ∙ variable-complement l))
-            ∙ sym (ap (λ b. cond b Open (cond (eqb k l) Open (value_under lits k))) (eq-eqb k (complement l) same))
+        | inl same ↦ grind (arith, value_is_open, none_left, variable-complement, eq-eqb)
         | inr other ↦ elim (cases_eq k l) [
-          | inl here ↦
-              value_is_open out k (none_left k (ap variable here)) (none_left (complement k) (variable-complement k ∙ ap variable here))
-              ∙ sym (ap (λ b. cond b Open (cond (eqb k l) Open (value_under lits k))) (ne_eqb k (complement l) other) ∙ ap (λ b. cond b Open (value_under lits k)) (eq-eqb k l here))
+          | inl here ↦ grind (arith, value_is_open, none_left, variable-complement, ne_eqb, eq-eqb)
           | inr apart ↦
               value_by_tests out k (has lits k) (has lits (complement k)) (same_else k apart) (same_else (complement k) (λ e. other (sym (complement-complement k) ∙ ap complement e)))
-              ∙ sym (ap (λ b. cond b Open (cond (eqb k l) Open (value_under lits k))) (ne_eqb k (complement l) other) ∙ ap (λ b. cond b Open (value_under lits k)) (ne_eqb k l apart))
+              ∙ sym (grind (arith, ne_eqb))
         ]
       ]
 
     module _ {T : Type 0} (reserved : List ℕ) (capacity : ℕ) (seen : ℕ → Option T) (value_of : ℕ → Option Value) (trail : IsTrail lits reserved capacity seen value_of) where
       pub out_known : (is_some (value_of l) ≡ true) × (is_some (value_of (complement l)) ≡ true)
-      out_known = both_known lits reserved capacity seen value_of trail l (trail.within (variable l) (has_mapped lits l (subst (λ x. has lits x ≡ true) stands (has_place lits place inside))))
+      out_known = both_known lits reserved capacity seen value_of trail l (grind (arith, has_mapped, has_place))
 
       module _ (first after : ℕ → Option Value) (opens_one : (k : ℕ) → first k ≡ cond (eqb k l) (Some Open) (value_of k)) (opens_other : (k : ℕ) → after k ≡ cond (eqb k (complement l)) (Some Open) (first k)) where
         pub trail_out : IsTrail out reserved capacity seen after
@@ -135,9 +131,6 @@ module _ (lits : List ℕ) (place : ℕ) (inside : place < length lits) where
               (has_variable lits m.0 (within_before w.0 m.0 m.2 w.1)));
           fits = trail.fits;
           noted = trail.noted;
-          known = λ k h. written_some l Open Open value_of first after opens_one opens_other
-              out_known.0 out_known.1 k ∙ trail.known k h;
-          values = λ k. written_value l Open Open value_of first after opens_one opens_other k
-              ∙ ap (λ u. cond (eqb k (complement l)) Open (cond (eqb k l) Open u)) (trail.values k)
-              ∙ sym (value_out trail.different k);
+          known = grind (arith, written_some);
+          values = grind (arith, written_value, value_out);
         }

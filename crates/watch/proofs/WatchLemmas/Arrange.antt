@@ -1,17 +1,14 @@
 -- Clauses whose literals that are not false are brought to the front.
 use Rattle.std.proofs.Common.{◌≡◌, ℕ, ◌<◌, ◌≤◌, true, false, Some, List, length, get_or, swap, refl}
-use Rattle.std.proofs.Common.{sym, ap, ◌∙◌, subst, arith, inl, inr}
-use Rattle.std.specs.Ordering.{nat_cmp}
-use Rattle.std.specs.FinMap as maps
-use Rattle.std.specs.FinMap.{FinMap}
-use Rattle.std.proofs.lemmas.Bool.{cases_eq, true≢false, false≢true}
+use Rattle.std.proofs.Common.{sym, ◌∙◌, arith}
+use Rattle.std.specs.{Ordering.nat_cmp, FinMap.FinMap}
+use Rattle.std.proofs.lemmas.{Bool.cases_eq, Bool.true≢false, Bool.false≢true, Option.same_Some}
 use Rattle.std.proofs.lemmas.List.Edits.{length-swap, swapped_from_swap}
-use Rattle.std.proofs.lemmas.Option.{same_Some}
+use Rattle.std.specs.FinMap as maps
 use Rattle.cnf_base.specs.Literals.{Literal, complement, Clause, has}
+use Rattle.cnf_base.proofs.{MemberLemmas.has_place, MemberLemmas.place_of, MapLemmas.insert_here}
 use Rattle.root_literals.specs.Roots.{IsArranged, IsBrought}
 use Rattle.trail.specs.declared.left.Left.TheVariants.{Nothing, One, More}
-use Rattle.cnf_base.proofs.MemberLemmas.{has_place, place_of}
-use Rattle.cnf_base.proofs.MapLemmas.{insert_here}
 use Rattle.clause_db.proofs.StoreLemmas.Swap.{has_swapped}
 
 module _ (live : FinMap nat_cmp Clause) (slot : ℕ) (trues : List Literal) (place : ℕ) (c : Clause) (here : maps.get live slot ≡ Some c) where
@@ -19,49 +16,29 @@ module _ (live : FinMap nat_cmp Clause) (slot : ℕ) (trues : List Literal) (pla
       (d : Clause) → maps.get live slot ≡ Some d → (e : Clause) × (maps.get after slot ≡ Some e) × IsBrought trues d e place true
   brought after found low inside is_open is d there =
       let same = same_Some c d (sym here ∙ there) in
-      let w = swapped_from_swap c (swap c place found) place found 0 (omega (arith, low, inside)) inside refl in (
-        swap c place found,
-        ap (λ m. maps.get m slot) is ∙ insert_here live slot slot (swap c place found) refl,
-        subst (λ x. IsBrought trues x (swap c place found) place true) same
-            (record {
-              alike = has_swapped c (swap c place found) place found (omega (arith, low, inside)) inside refl;
-              before = λ k front. w.2 k (λ e. omega (arith, front, e)) (λ e. omega (arith, front, low, e));
-              found = λ _. (let n = length-swap c place found in omega (arith, n, low, inside), ap (λ x. has trues (complement x)) w.0 ∙ is_open);
-              none = λ e. absurd (true≢false e);
-            }),
-      )
+      let w = swapped_from_swap c (swap c place found) place found 0 (omega (arith, low, inside)) inside refl in grind (arith, swap, insert_here, has_swapped, length-swap, true≢false)
 
   pub not_brought : ((k : ℕ) → place ≤ k → k < length c → has trues (complement (get_or c k 0)) ≡ true) →
       (d : Clause) → maps.get live slot ≡ Some d → (e : Clause) × (maps.get live slot ≡ Some e) × IsBrought trues d e place false
   not_brought falses d there = (
     d,
     there,
-    subst (λ x. IsBrought trues x x place false) (same_Some c d (sym here ∙ there)) (record { alike = λ l. refl; before = λ k front. refl; found = λ e. absurd (false≢true e); none = λ _. falses }),
+    grind (arith, same_Some, false≢true),
   )
 
 pub arranged_nothing : (trues : List Literal) (c d : Clause) → IsBrought trues c d 0 false → IsArranged trues d Nothing
-arranged_nothing trues c d first k h = let w = place_of d k h in ap (λ x. has trues (complement x)) (sym w.2) ∙ first.none refl w.0 (omega arith) w.1
+arranged_nothing trues c d first k h = let w = place_of d k h in grind arith
 
 module _ (trues : List Literal) (c d e : Clause) (first : IsBrought trues c d 0 true) where
   pub first_there : has d (get_or d 0 0) ≡ true
   first_there = has_place d 0 (first.found refl).0
 
   pub arranged_more : IsBrought trues d e 1 true → IsArranged trues e More
-  arranged_more second = (let n = (second.found refl).0 in omega (arith, n), ap (λ x. has trues (complement x)) (second.before 0 (omega arith)) ∙ (first.found refl).1, (second.found refl).1)
+  arranged_more second = (grind arith, grind arith, (second.found refl).1)
 
   pub arranged_one : IsBrought trues d e 1 false → (l : Literal) → get_or e 0 0 ≡ l → IsArranged trues e (One l)
   arranged_one second l is =
-      let same = sym is ∙ second.before 0 (omega arith) in (
-        second.alike l ∙ ap (has d) same ∙ first_there,
-        is,
-        ap (λ x. has trues (complement x)) same ∙ (first.found refl).1,
-        λ k h ne.
-            let w = place_of e k h in
-            elim (cases_eq w.0 0) [
-              | inl z ↦ absurd (ne (sym w.2 ∙ ap (λ i. get_or e i 0) z ∙ is))
-              | inr past ↦ ap (λ x. has trues (complement x)) (sym w.2) ∙ second.none refl w.0 (omega (arith, past)) w.1
-            ],
-      )
+      let same = sym is ∙ second.before 0 (omega arith) in grind (arith, first_there, place_of, cases_eq)
 
   pub one_inside : IsBrought trues d e 1 false → 0 < length e
   one_inside second = let w = place_of e (get_or d 0 0) (second.alike (get_or d 0 0) ∙ first_there) in let n = w.1 in omega (arith, n)

@@ -1,25 +1,19 @@
 -- Assumptions of a part of a clause.
 use Rattle.std.proofs.Common.{◌≡◌, ℕ, Bool, true, false, filter, is_some, unwrap_or, List, [], refl}
-use Rattle.std.proofs.Common.{sym, ap, ◌∙◌}
-use Rattle.std.specs.Ordering.{nat_cmp}
+use Rattle.std.proofs.{Common.sym, Common.ap, Common.◌∙◌, lemmas.Bool.false≢true}
+use Rattle.std.specs.{Ordering.nat_cmp, FinMap.FinMap, Result.is_err}
+use Rattle.std.specs.declared.result.Result.{Result, TheVariants.Ok, TheVariants.Err}
 use Rattle.std.specs.FinMap as maps
-use Rattle.std.specs.FinMap.{FinMap}
-use Rattle.std.specs.Result.{is_err}
-use Rattle.std.specs.declared.result.Result.{Result}
-use Rattle.std.specs.declared.result.Result.TheVariants.{Ok, Err}
-use Rattle.std.proofs.lemmas.Bool.{false≢true}
 use Rattle.cnf_base.specs.Literals.{Clause, Literal, complements, has}
 use Rattle.clause_db.specs.Store.{literals_in}
 use Rattle.trail.specs.Trail.{HasRoom, HasRoomForAll}
 use Rattle.propagation.specs.Assumptions.{Assuming, AssumingFrom, AssumptionsState, IsThere}
-use Rattle.propagation.specs.Assumptions.{Propagation}
-use Rattle.propagation.specs.Code.Scan.{AssumesOn}
-use Rattle.propagation.specs.declared.answer.Answer.{Answer}
+use Rattle.propagation.specs.{Assumptions.Propagation, declared.answer.Answer.Answer}
+use Rattle.propagation.specs.{Code.Scan.AssumesOn, declared.clause_source.ClauseSource.ClauseSource}
 use Rattle.propagation.proofs.PropagationLemmas.Scan.{assuming_alike, assuming_from}
+use Rattle.propagation.specs.declared.clause_source.ClauseSource.TheVariants.{Given, Stored}
 use Rattle.watch.specs.Code.ClauseSource.{HasRoomGiven, clause_of}
 use Rattle.root_literals.specs.Order.{each_in_order, in_order}
-use Rattle.propagation.specs.declared.clause_source.ClauseSource.TheVariants.{Given, Stored}
-use Rattle.propagation.specs.declared.clause_source.ClauseSource.{ClauseSource}
 use Rattle.root_literals.proofs.RootLemmas.Order.{alive_alike, alive_clause, has-in_order}
 use Rattle.root_literals.proofs.RootLemmas.Order.{part_alike, seen_there, there_seen}
 

@@ -1,25 +1,21 @@
 -- Visits of the clauses in a list, one after the other.
 use Rattle.std.proofs.Common.{◌≡◌, ◌≢◌, ℕ, ◌+◌, ◌<◌, ◌≤◌, Bool, true, false, cond, eqb, eq-eqb}
-use Rattle.std.proofs.Common.{ne_eqb, Option, Some, None, List, [], length, get_or, set, take, drop}
-use Rattle.std.proofs.Common.{refl, suc, sym, ap, ◌∙◌, arith, inl, inr}
-use Rattle.std.specs.List.{remove}
-use Rattle.std.specs.Ordering.{nat_cmp}
-use Rattle.std.specs.FinMap as maps
-use Rattle.std.specs.FinMap.{FinMap}
+use Rattle.std.proofs.Common.{ne_eqb, Option, Some, None, List, [], length, get_or, set, take, refl}
+use Rattle.std.proofs.Common.{sym, ap, ◌∙◌, arith, inl, inr}
+use Rattle.std.specs.{List.remove, Ordering.nat_cmp, FinMap.FinMap}
 use Rattle.std.proofs.lemmas.Bool.{cases_eq}
 use Rattle.std.proofs.lemmas.List.{get_or-set_same, length-set, length-take-le, set-get_or}
 use Rattle.std.proofs.lemmas.List.{take_all, take-append-le, take-set, take-take}
-use Rattle.std.proofs.lemmas.List.Edits.{length-remove}
-use Rattle.std.proofs.lemmas.List.Sums.{sum_by_more, sum_by_more_le}
+use Rattle.std.proofs.lemmas.List.{Edits.length-remove, Sums.sum_by_more, Sums.sum_by_more_le}
+use Rattle.std.specs.FinMap as maps
 use Rattle.cnf_base.specs.Literals.{Literal, Clause}
 use Rattle.theory.specs.Propagation.{Live}
-use Rattle.watch_lists.specs.Cursor.{CursorState}
-use Rattle.watch_lists.specs.Lists.{entries_of, unfit_entries}
-use Rattle.root_literals.specs.Watched.{IsPart, IsMet}
+use Rattle.watch_lists.specs.{Cursor.CursorState, declared.watcher.Watcher.Watcher}
+use Rattle.watch_lists.specs.Lists.{entries_of}
 use Rattle.watch_lists.specs.Watched.{watches, entries_for, IsListed}
-use Rattle.watch_lists.specs.declared.watcher.Watcher.{Watcher}
-use Rattle.watch.specs.Code.Visits.{AreMet, entries_left}
+use Rattle.root_literals.specs.Watched.{IsPart, IsMet}
 use Rattle.root_literals.proofs.RootLemmas.Watched.{met_more, met_unwatched}
+use Rattle.watch.specs.Code.Visits.{AreMet, entries_left}
 
 entries_one : (o : Option Clause) (l : Literal) → entries_for o l ≤ 1
 entries_one None l = omega arith
@@ -39,11 +35,9 @@ module _ (live : Live) (lists : Literal → List Watcher) (l : Literal) (list : 
   pub front_apart : (place s : ℕ) (d : Watcher) → place < length list → 0 < entries_of s (take place list) → s ≢ (get_or list place d).slot
   front_apart place s d inside some same =
       let more = sum_by_more_le (λ w. cond (eqb w.slot s) 1 0) list place d inside in
-      let one : cond {A = ℕ} (eqb (get_or list place d).slot s) 1 0 ≡ 1 = ap (λ b. cond {A = ℕ} b 1 0) (eq-eqb (get_or list place d).slot s (sym same)) in
+      let one : cond {A = ℕ} (eqb (get_or list place d).slot s) 1 0 ≡ 1 = grind (arith, eq-eqb) in
       let most = in_list s in
-      let least = entries_one (live s) l in
-      let wrong : ⊥ = omega (arith, more, one, some, most, least) in
-      wrong
+      grind (arith, entries_one)
 
 -- where all clauses of its list have a true literal, all that watch the literal have
 pub all_met : (live : Live) (l : Literal) (list : List Watcher) → ((s : ℕ) → entries_of s list ≡ entries_for (live s) l) → (trues : List Literal) (place : ℕ) → length list ≤ place →
@@ -66,16 +60,16 @@ none_before list place s is some = let none = ap (λ k. entries_of s (take k lis
 -- ---- Lists that are the same
 
 pub listed_alike : (live : Live) (first second : Literal → List Watcher) → ((k : Literal) → second k ≡ first k) → IsListed live first → IsListed live second
-listed_alike live first second alike listed = record { watched = λ l s. ap (entries_of s) (alike l) ∙ listed.watched l s; low = listed.low; fitting = λ l s c is. ap (unfit_entries s c l) (alike l) ∙ listed.fitting l s c is }
+listed_alike live first second alike listed = record { watched = λ l s. grind arith; low = listed.low; fitting = grind arith }
 
 -- a literal without a list
 pub none_met : (live : Live) (lists : Literal → List Watcher) (l : Literal) → lists l ≡ [] → IsListed live lists → (trues : List Literal) (s : ℕ) (c : Clause) → live s ≡ Some c → IsMet c l trues
-none_met live lists l none listed trues = all_met live l [] (λ s. ap (entries_of s) (sym none) ∙ listed.watched l s) trues 0 (omega arith) (λ s some. absurd (omega (arith, some)))
+none_met live lists l none listed trues = all_met live l [] (λ s. grind arith) trues 0 (omega arith) (λ s some. absurd (omega (arith, some)))
 
 -- the list that is taken out is in hand
 pub hand_taken : (lists after : Literal → List Watcher) (l : Literal) (list : List Watcher) → list ≡ lists l → ((k : Literal) → after k ≡ cond (eqb k l) [] (lists k)) → (k : Literal) → cond (eqb k l) list (after k) ≡ lists k
 hand_taken lists after l list is others k = elim (cases_eq k l) [
-  | inl e ↦ ap (λ b. cond b list (after k)) (eq-eqb k l e) ∙ is ∙ ap lists (sym e)
+  | inl e ↦ grind (arith, eq-eqb)
   | inr ne ↦ simp (ne_eqb k l ne, others k)
 ]
 
@@ -91,7 +85,7 @@ put_same list place w is = ap (set list place) is ∙ set-get_or list place w
 front_removed : (list : List Watcher) (place : ℕ) → place < length list → take place (remove list place) ≡ take place list
 front_removed list place inside =
     let front = length-take-le place list (omega (arith, inside)) in
-    take-append-le place (take place list) (drop (suc place) list) (omega (arith, front)) ∙ take-take place place list (omega arith)
+    grind (arith, take-append-le, take-take)
 
 module _ (live after : FinMap nat_cmp Clause) (l : Literal) (trues more : List Literal) (part : IsPart trues more) (cursor now : CursorState) (slot : ℕ) (inside : cursor.visited < length cursor.entries)
     (met : AreMet live cursor l trues) (others : (s : ℕ) → s ≢ slot → maps.get after s ≡ maps.get live s) where
@@ -106,10 +100,9 @@ module _ (live after : FinMap nat_cmp Clause) (l : Literal) (trues more : List L
         let list = set cursor.entries cursor.visited w in
         let len = length-set cursor.entries cursor.visited w in
         let split = sum_by_more (λ x. cond (eqb x.slot s) 1 0) list cursor.visited w (omega (arith, inside, len)) in
-        let none : cond {A = ℕ} (eqb (get_or list cursor.visited w).slot s) 1 0 ≡ 0 = ap (λ b. cond {A = ℕ} b 1 0) (ne_eqb (get_or list cursor.visited w).slot s (λ e. ne (sym e ∙ ap (λ x. x.slot) (get_or-set_same cursor.entries cursor.visited w w inside) ∙ of_slot))) in
+        let none : cond {A = ℕ} (eqb (get_or list cursor.visited w).slot s) 1 0 ≡ 0 = grind (arith, ne_eqb, get_or-set_same) in
         let same = ap (entries_of s) (take-set cursor.entries cursor.visited w) in
-        let some = simp (entries, visited) at there in
-        still_met s (omega (arith, split, none, same, some)) ne
+        grind (arith, still_met)
   ]
 
   -- it is taken out
@@ -125,5 +118,4 @@ module _ (cursor now : CursorState) (inside : cursor.visited < length cursor.ent
   pub taken_fewer : now ≡ record { entries = remove cursor.entries cursor.visited; visited = cursor.visited } → entries_left now + 1 ≡ entries_left cursor
   taken_fewer is =
       let left = ap entries_left is in
-      let len = length-remove cursor.entries cursor.visited inside in
-      omega (arith, inside, len, left)
+      grind (arith, length-remove)

@@ -1,43 +1,33 @@
 -- A clause that watches another literal.
 use Rattle.std.proofs.Common.{◌≡◌, ◌≢◌, ℕ, ◌+◌, ◌<◌, ◌≤◌, Bool, true, false, cond, eqb, eq-eqb}
-use Rattle.std.proofs.Common.{ne_eqb, ◌||◌, ◌&&◌, Option, Some, None, is_some, List, [], ◌∷◌, ◌++◌}
-use Rattle.std.proofs.Common.{length, get_or, set, swap, take, not, refl, sym, ap, ◌∙◌, subst}
-use Rattle.std.proofs.Common.{arith, inl, inr, rules, nat_le}
-use Rattle.std.specs.Ordering.{nat_cmp}
-use Rattle.std.specs.FinMap as maps
-use Rattle.std.specs.FinMap.{FinMap}
-use Rattle.std.proofs.lemmas.Bool.{cases_eq, true≢false}
-use Rattle.std.proofs.lemmas.Bool.Decides.{nat_tests}
-use Rattle.std.proofs.lemmas.Grind.{get_or_default_zero, same_number_lists}
+use Rattle.std.proofs.Common.{ne_eqb, ◌||◌, ◌&&◌, Option, Some, None, List, [], ◌∷◌, ◌++◌, length}
+use Rattle.std.proofs.Common.{get_or, set, swap, not, refl, sym, ap, ◌∙◌, subst, arith, inl, inr}
+use Rattle.std.proofs.{Common.rules, Common.nat_le, lemmas.Bool.cases_eq, lemmas.Bool.true≢false}
+use Rattle.std.specs.{Ordering.nat_cmp, FinMap.FinMap}
+use Rattle.std.proofs.lemmas.{Grind.get_or_default_zero, Grind.same_number_lists, Option.same_Some}
 use Rattle.std.proofs.lemmas.List.Edits.{length-swap, swapped_from_swap}
 use Rattle.std.proofs.lemmas.List.Sums.{sum_by_push, sum_by-set, get_or-le-sum_by}
-use Rattle.std.proofs.lemmas.Option.{same_Some}
+use Rattle.std.specs.FinMap as maps
 use Rattle.cnf_base.specs.Literals.{Literal, complement, Clause, has, size}
-use Rattle.root_literals.specs.Code.Propagated.{PropagatesTo}
-use Rattle.root_literals.specs.Order.{each_in_order}
-use Rattle.root_literals.proofs.RootLemmas.Order.{ordered_same}
+use Rattle.cnf_base.proofs.{MemberLemmas.has_front, SizeLemmas.distinct_before}
+use Rattle.cnf_base.proofs.MapLemmas.{insert_here, insert_other, insert_same, insert_twice}
+use Rattle.root_literals.specs.{Code.Propagated.PropagatesTo, Watched.IsMet}
+use Rattle.root_literals.proofs.RootLemmas.{Order.ordered_same, Watched.sure_by, Watched.sure_is}
 use Rattle.root_literals.proofs.RootLemmas.Propagated.{extends_none}
-use Rattle.theory.proofs.PropagationLemmas.Forced.{forced_assumed}
+use Rattle.theory.{proofs.PropagationLemmas.Forced.forced_assumed, specs.Propagation.Live}
 use Rattle.propagation.specs.Assumptions.{AssumptionsState}
-use Rattle.theory.specs.Propagation.{Live}
 use Rattle.watch_lists.specs.Lists.{entries_of, fits, unfit_entries}
-use Rattle.clause_db.specs.Store.{is_tautology}
-use Rattle.clause_db.proofs.StoreLemmas.Swap.{has_swapped}
 use Rattle.watch_lists.specs.Watched.{watches, is_first, is_unit_or_empty, entries_for, IsListed}
-use Rattle.root_literals.specs.Watched.{IsMet}
 use Rattle.watch_lists.proofs.WatchListsLemmas.Made.{and_false, and_true}
 use Rattle.watch_lists.proofs.WatchListsLemmas.Watched.{tautology_alike, watches_first}
-use Rattle.root_literals.proofs.RootLemmas.Watched.{sure_by, sure_is}
-use Rattle.cnf_base.proofs.MemberLemmas.{has_front}
 use Rattle.watch_lists.proofs.WatchListsLemmas.Lists.{entry_fits, eqb_turned, unfit_alike}
 use Rattle.watch_lists.proofs.WatchListsLemmas.Lists.{unfit_none, unfit_pushed}
 use Rattle.watch_lists.specs.declared.watcher.Watcher.{Watcher}
-use Rattle.cnf_base.proofs.SizeLemmas.{distinct_before}
-use Rattle.cnf_base.proofs.MapLemmas.{insert_here, insert_other, insert_same, insert_twice}
+use Rattle.clause_db.{specs.Store.is_tautology, proofs.StoreLemmas.Swap.has_swapped}
 
 -- three literals, two of which differ from the third
 one_moved : (a b m x : Literal) → a ≢ b → a ≢ m → cond (eqb a x || eqb m x) 1 0 + cond {A = ℕ} (eqb x b) 1 0 ≡ cond (eqb a x || eqb b x) 1 0 + cond {A = ℕ} (eqb x m) 1 0
-one_moved a b m x other apart = grind (arith, nat_tests)
+one_moved a b m x other apart = grind arith
 
 -- the first two
 pub first_is : (c : Clause) (x : Literal) → 2 ≤ length c → is_first c x ≡ (eqb (get_or c 0 0) x || eqb (get_or c 1 0) x)
@@ -49,7 +39,7 @@ first_is (a ∷ b ∷ c) x long = refl
 pub places_apart : (c : Clause) (i j : ℕ) (l m : Literal) → size c ≡ length c → i < j → j < length c → get_or c i 0 ≡ l → get_or c j 0 ≡ m → l ≢ m
 places_apart c i j l m different low inside l_is m_is same =
     let here = has_front c j i low (omega (arith, low, inside)) in
-    true≢false (sym here ∙ ap (has (take j c)) (l_is ∙ same ∙ sym m_is) ∙ distinct_before c j (get_or c j 0) different inside (sym (get_or_default_zero c j (get_or c j 0) inside)))
+    grind (arith, true≢false, distinct_before, get_or_default_zero)
 
 -- the second literal, l, is exchanged with a later one, m
 pub entries_moved : (l m : Literal) (c : Clause) (to : ℕ) → is_tautology c ≡ false → size c ≡ length c → get_or c 1 0 ≡ l → 2 ≤ to → to < length c → get_or c to 0 ≡ m → (x : Literal) →
@@ -60,7 +50,7 @@ entries_moved l m c to apart different there past inside to_is x =
     let second : 1 < length c = omega (arith, past, inside) in
     let w = swapped_from_swap c d 1 to 0 second inside refl in
     let len = length-swap c 1 to in
-    let was : watches c x ≡ (eqb a x || eqb l x) = watches_first c x apart ∙ first_is c x second ∙ ap (λ k. eqb a x || eqb k x) there in
+    let was : watches c x ≡ (eqb a x || eqb l x) = grind (arith, watches_first, first_is) in
     let now : watches d x ≡ (eqb a x || eqb m x) =
     watches_first d x (tautology_alike c d (has_swapped c d 1 to second inside refl) ∙ apart) ∙ first_is d x (omega (arith, len, second))
     ∙ simp (w.2 0 (λ e. omega (arith, e)) (λ e. omega (arith, past, e)), w.0, to_is) in
@@ -86,18 +76,15 @@ module _ (lists after : Literal → List Watcher) (l m : ℕ) (w : Watcher) (oth
 
   pub times_moved : (x s : ℕ) → entries_of s (is x) + cond (eqb x l && eqb s w.slot) 1 0 ≡ entries_of s (was x) + cond (eqb x m && eqb s w.slot) 1 0
   times_moved x s = elim (cases_eq x l) [
-    | inl e ↦ let step = taken s in simp (eq-eqb x l e, ne_eqb x m (λ f. other (sym e ∙ f))) (omega arith)
-    | inr ne ↦ let step = put_times x s in simp (ne_eqb x l ne) (omega arith)
+    | inl e ↦ grind (arith, eq-eqb, ne_eqb)
+    | inr ne ↦ grind (arith, put_times, ne_eqb)
   ]
 
   -- where the entry fits the clause
   pub unfit_moved : (c : Clause) → fits c m w.blocking w.is_binary ≡ true → ((s x : ℕ) (e : Clause) → unfit_entries s e x left ≤ unfit_entries s e x list) → (x s : ℕ) (e : Clause) → (s ≡ w.slot → e ≡ c) → unfit_entries s e x (is x) ≤ unfit_entries s e x (was x)
   unfit_moved c fitting fewer x s e same = elim (cases_eq x l) [
     | inl y ↦ simp (eq-eqb x l y) (fewer s x e)
-    | inr ne ↦ simp (ne_eqb x l ne) (elim (cases_eq x m) [
-      | inl y ↦ simp (pushed x, eq-eqb x m y) (unfit_pushed (lists x) w s x e (λ z. ap (λ d. fits d x w.blocking w.is_binary) (same z) ∙ ap (λ k. fits c k w.blocking w.is_binary) y ∙ fitting))
-      | inr apart ↦ simp (pushed x, ne_eqb x m apart) (omega arith)
-    ])
+    | inr ne ↦ grind (arith, ne_eqb, cases_eq, eq-eqb, unfit_pushed)
   ]
 
 -- two literals that were exchanged twice
@@ -107,20 +94,14 @@ swap_back c a b low inside =
     let len = length-swap c a b in
     let first = swapped_from_swap c d a b 0 low inside refl in
     let second = swapped_from_swap d (swap d b a) b a 0 (omega (arith, len, inside)) (omega (arith, len, low)) refl in
-    same_number_lists (swap d b a) c (length-swap d b a ∙ len) (λ k h. elim (cases_eq k a) [
-      | inl e ↦ ap (λ i. get_or (swap d b a) i 0) e ∙ second.1 ∙ first.1 ∙ sym (ap (λ i. get_or c i 0) e)
-      | inr not_a ↦ elim (cases_eq k b) [
-        | inl e ↦ ap (λ i. get_or (swap d b a) i 0) e ∙ second.0 ∙ first.0 ∙ sym (ap (λ i. get_or c i 0) e)
-        | inr not_b ↦ second.2 k not_b not_a ∙ first.2 k not_a not_b
-      ]
-    ])
+    grind (arith, same_number_lists, swap, length-swap, cases_eq)
 
 -- literals of a clause that are exchanged, and back
 pub exchanged_back : (live after back : FinMap nat_cmp Clause) (slot from to : ℕ) (c : Clause) → maps.get live slot ≡ Some c → from < length c → to < length c →
     after ≡ maps.insert live slot (swap c from to) → ((d : Clause) → maps.get after slot ≡ Some d → back ≡ maps.insert after slot (swap d to from)) → back ≡ live
 exchanged_back live after back slot from to c here low inside moved again =
     let d = swap c from to in
-    again d (ap (λ m. maps.get m slot) moved ∙ insert_here live slot slot d refl) ∙ ap (λ m. maps.insert m slot (swap d to from)) moved
+    again d (grind (arith, insert_here)) ∙ ap (λ m. maps.insert m slot (swap d to from)) moved
     ∙ ap (maps.insert (maps.insert live slot d) slot) (swap_back c from to low inside) ∙ insert_twice live slot d c ∙ insert_same live slot c here
 
 -- a clause is as long as another one
@@ -146,30 +127,16 @@ module _ (live : FinMap nat_cmp Clause) (slot : ℕ) (c d : Clause) (here : maps
       ((x s : ℕ) (e : Clause) → (s ≡ slot → e ≡ c) → unfit_entries s e x (after x) ≤ unfit_entries s e x (lists x)) → IsListed (maps.get (maps.insert live slot d)) after
   listed_moved lists after listed times fewer = record {
     watched = λ x s. elim (cases_eq s slot) [
-      | inl e ↦
-          let step = simp (e, eq-eqb slot slot refl, and_true) at (times x s) in
-          let was = simp (e, here) at (listed.watched x s) in
-          let more = entries x in
-          simp (e, at_slot) (omega arith)
-      | inr ne ↦
-          let step = simp (ne_eqb s slot ne, and_false) at (times x s) in
-          let was = listed.watched x s in
-          simp (at_others s ne) (omega arith)
+      | inl e ↦ grind (arith, eq-eqb, and_true, at_slot)
+      | inr ne ↦ grind (arith, ne_eqb, and_false, at_others)
     ];
-    low = λ s is. elim (cases_eq s slot) [
-      | inl e ↦ listed.low s (ap (λ k. is_some (maps.get live k)) e ∙ ap is_some here)
-      | inr ne ↦ listed.low s (ap is_some (sym (at_others s ne)) ∙ is)
-    ];
+    low = grind (arith, cases_eq, at_others);
     fitting = λ x s e is. elim (cases_eq s slot) [
       | inl same ↦
           let is_d = same_Some d e (sym at_slot ∙ ap (maps.get (maps.insert live slot d)) (sym same) ∙ is) in
           let none = listed.fitting x s c (ap (maps.get live) same ∙ here) in
-          let left = fewer x s c (λ _. refl) in
-          ap (λ y. unfit_entries s y x (after x)) (sym is_d) ∙ unfit_alike (after x) s x c d alike as_long ∙ omega (arith, none, left)
-      | inr ne ↦
-          let none = listed.fitting x s e (sym (at_others s ne) ∙ is) in
-          let left = fewer x s e (λ same. absurd (ne same)) in
-          omega (arith, none, left)
+          grind (arith, unfit_alike)
+      | inr ne ↦ grind (arith, at_others)
     ];
   }
 
@@ -178,10 +145,7 @@ module _ (live : FinMap nat_cmp Clause) (slot : ℕ) (c d : Clause) (here : maps
       PropagatesTo live (maps.insert live slot d) held held reason_of reason_of
   propagates_exchanged held reason_of still = record {
     same = ordered_same live slot c d here alike;
-    units = λ s. elim (cases_eq s slot) [
-      | inl e ↦ simp (e, at_slot, here, units_as_long c d as_long)
-      | inr ne ↦ simp (at_others s ne)
-    ];
+    units = grind (arith, cases_eq, at_slot, units_as_long, at_others);
     kept = λ doubts done trues p q watched. record {
       each = λ s e is x h.
           let now = sure_is doubts (maps.get (maps.insert live slot d)) s e is in
@@ -190,10 +154,10 @@ module _ (live : FinMap nat_cmp Clause) (slot : ℕ) (c d : Clause) (here : maps
                 subst (λ y. IsMet y x trues) (same_Some d e (sym at_slot ∙ ap (maps.get (maps.insert live slot d)) (sym same) ∙ now.0)) (λ there.
                 let met = watched.each slot c (sure_by doubts (maps.get live) slot c here (ap (has doubts) (sym same) ∙ now.1)) x h (still x (p (complement x) h) there) in
                 (met.0, alike met.0 ∙ met.1, met.2))
-            | inr ne ↦ watched.each s e (sure_by doubts (maps.get live) s e (sym (at_others s ne) ∙ now.0) now.1) x h
+            | inr ne ↦ grind (arith, sure_by, at_others)
           ];
     };
-    sound = λ l h. forced_assumed (maps.get (each_in_order live)) held.trail.lits l h;
+    sound = grind (arith, forced_assumed);
     extends = extends_none held;
     noted = λ l h. h;
     as_before = λ l h. refl;
@@ -208,8 +172,8 @@ slot_alive live lists l list listed place d inside =
     let s = (get_or list place d).slot in
     let one = get_or-le-sum_by (λ w. cond (eqb w.slot s) 1 0) list place d inside in
     let here : cond {A = ℕ} (eqb s s) 1 0 ≡ 1 = ap (λ b. cond {A = ℕ} b 1 0) (eq-eqb s s refl) in
-    let count : entries_of s list ≡ entries_for (live s) l = ap (λ b. entries_of s (cond b list (lists l))) (sym (eq-eqb l l refl)) ∙ listed.watched l s in
-    by_clause (live s) refl (omega (arith, one, here, count))
+    let count : entries_of s list ≡ entries_for (live s) l = grind (arith, eq-eqb) in
+    grind arith
   where
     by_watch : (c : Clause) (b : Bool) → watches c l ≡ b → 0 < cond {A = ℕ} b 1 0 → watches c l ≡ true
     by_watch c true e h = e
@@ -226,7 +190,7 @@ pub entry_alive : (live : Live) (lists : Literal → List Watcher) (l : Literal)
     (c : Clause) × (live e.slot ≡ Some c) × (watches c l ≡ true) × (fits c l e.blocking e.is_binary ≡ true)
 entry_alive live lists l list listed place e inside is =
     let w = slot_alive live lists l list listed place e inside in
-    (w.0, ap (λ x. live x.slot) is ∙ w.1, w.2, entry_fits list place e l w.0 inside is (ap (λ x. unfit_entries x.slot w.0 l list) is ∙ w.3))
+    grind (arith, entry_fits)
 
 -- an entry with another literal of its clause
 pub listed_written : (live : Live) (lists : Literal → List Watcher) (l : Literal) (list : List Watcher) → IsListed live (λ k. cond (eqb k l) list (lists k)) → (place : ℕ) (e entry : Watcher) → place < length list → e ≡ get_or list place e → entry.slot ≡ e.slot →
@@ -234,7 +198,7 @@ pub listed_written : (live : Live) (lists : Literal → List Watcher) (l : Liter
 listed_written live lists l list listed place e entry inside is same fitting = record {
   watched = λ k s. elim (cases_eq k l) [
     | inl y ↦ simp (eq-eqb k l y) (as_many s ∙ (simp (eq-eqb k l y) at (listed.watched k s)))
-    | inr ne ↦ simp (ne_eqb k l ne) (simp (ne_eqb k l ne) at (listed.watched k s))
+    | inr ne ↦ grind (arith, ne_eqb)
   ];
   low = listed.low;
   fitting = λ k s c there. elim (cases_eq k l) [

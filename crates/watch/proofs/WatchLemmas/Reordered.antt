@@ -1,21 +1,16 @@
 -- A clause whose first two literals stay, perhaps in the other order, and one whose second is
 -- exchanged.
-use Rattle.std.proofs.Common.{◌&&◌, not, ◌≡◌, ◌≢◌, ℕ, zero, suc, ◌+◌, ◌-◌, ◌<◌, ◌≤◌, cond, eqb}
-use Rattle.std.proofs.Common.{Option, Some, List, [], ◌∷◌, length, swap, refl, sym, ap, ◌∙◌}
-use Rattle.std.proofs.Common.{arith, true, false, get_or}
-use Rattle.std.specs.Ordering.{nat_cmp}
-use Rattle.std.specs.FinMap as maps
-use Rattle.std.specs.FinMap.{FinMap}
-use Rattle.std.proofs.Math.Bool.{or_comm}
-use Rattle.std.proofs.lemmas.Bool.{false≢true}
-use Rattle.std.proofs.lemmas.Bool.Decides.{nat_tests}
+use Rattle.std.proofs.Common.{◌&&◌, not, ◌≡◌, ℕ, zero, suc, ◌+◌, ◌-◌, ◌<◌, ◌≤◌, cond, eqb, Option}
+use Rattle.std.proofs.Common.{Some, List, [], ◌∷◌, length, swap, refl, sym, ap, ◌∙◌, arith, true}
+use Rattle.std.proofs.Common.{false, get_or}
+use Rattle.std.specs.{Ordering.nat_cmp, FinMap.FinMap}
+use Rattle.std.proofs.{Math.Bool.or_comm, lemmas.Bool.false≢true, lemmas.Bool.Decides.nat_tests}
 use Rattle.std.proofs.lemmas.List.Edits.{length-swap, swapped_from_swap}
+use Rattle.std.specs.FinMap as maps
 use Rattle.cnf_base.specs.Literals.{Literal, Clause, complement, has, size}
-use Rattle.cnf_base.proofs.MemberLemmas.{has_place}
+use Rattle.cnf_base.proofs.{MemberLemmas.has_place, MapLemmas.insert_here, MapLemmas.insert_twice}
 use Rattle.cnf_base.proofs.SizeLemmas.{size_same}
-use Rattle.cnf_base.proofs.MapLemmas.{insert_here, insert_twice}
-use Rattle.clause_db.specs.Store.{is_tautology}
-use Rattle.clause_db.proofs.StoreLemmas.Swap.{has_swapped}
+use Rattle.clause_db.{specs.Store.is_tautology, proofs.StoreLemmas.Swap.has_swapped}
 use Rattle.propagation.specs.Assumptions.{AssumptionsState}
 use Rattle.watch_lists.specs.Watched.{IsListed, is_first, watches}
 use Rattle.watch_lists.specs.declared.watcher.Watcher.{Watcher}
@@ -23,8 +18,7 @@ use Rattle.watch_lists.proofs.WatchListsLemmas.Watched.{tautology_alike}
 use Rattle.root_literals.specs.Code.Propagated.{PropagatesTo}
 use Rattle.watch.specs.declared.visit.Exchange.{Exchange}
 use Rattle.watch.specs.Code.Visits.{IsExchange, IsExchangeAt}
-use Rattle.watch.proofs.WatchLemmas.Moves.{entries_moved, listed_moved}
-use Rattle.watch.proofs.WatchLemmas.Moves.{propagates_exchanged}
+use Rattle.watch.proofs.WatchLemmas.Moves.{entries_moved, listed_moved, propagates_exchanged}
 
 module _ (live : FinMap nat_cmp Clause) (slot : ℕ) (c d : Clause) (here : maps.get live slot ≡ Some c) (alike : (l : Literal) → has d l ≡ has c l) (as_long : length d ≡ length c) (first : (l : Literal) → is_first d l ≡ is_first c l) where
   same_watches : (x : Literal) → watches d x ≡ watches c x
@@ -48,10 +42,7 @@ pub propagates_moved : (live : FinMap nat_cmp Clause) (held : AssumptionsState) 
 propagates_moved live held slot c here to l m apart different there past inside to_is m_open reason_of =
     let d = swap c 1 to in
     let moved = entries_moved l m c to apart different there past inside to_is in
-    propagates_exchanged live slot c d here (has_swapped c d 1 to (omega (arith, past, inside)) inside refl) (length-swap c 1 to) l m moved held reason_of (λ x h now.
-    let other : x ≢ m = λ e. false≢true (sym m_open ∙ ap (λ k. has held.trail.lits (complement k)) (sym e) ∙ h) in
-    let count = moved x in
-    grind (arith, nat_tests))
+    propagates_exchanged live slot c d here (grind (arith, has_swapped)) (length-swap c 1 to) l m moved held reason_of (grind (arith, false≢true, moved, nat_tests))
 
 -- ---- The first two are put in the order in which a given one is the second
 
@@ -71,10 +62,10 @@ module _ {c : Clause} {l : Literal} {x : Exchange} (w : IsExchange c l x) where
   exchange_long = let past = w.to_high in let inside = w.to_inside in omega (arith, past, inside)
 
   pub exchange_member : has c x.other ≡ true
-  exchange_member = let long = exchange_long in ap (has c) (sym w.other_is) ∙ has_place c (1 - w.from) (omega (arith, long))
+  exchange_member = let long = exchange_long in grind (arith, has_place)
 
   pub turned_has : (k : Literal) → has (turned c w.from) k ≡ has c k
-  turned_has = let long = exchange_long in has_swapped c (turned c w.from) 0 (1 - w.from) (omega (arith, long)) (omega (arith, long)) refl
+  turned_has = let long = exchange_long in grind (arith, has_swapped)
 
   pub turned_as_long : length (turned c w.from) ≡ length c
   turned_as_long = length-swap c 0 (1 - w.from)
@@ -145,4 +136,4 @@ module _ {live : FinMap nat_cmp Clause} {slot : ℕ} {l : Literal} {x : Exchange
       omega (arith, len, inside)
 
   pub second_inside : 1 < length exchanged
-  second_inside = let past = turned_at.exchange.to_high in let inside = to_inside in omega (arith, past, inside)
+  second_inside = let past = turned_at.exchange.to_high in grind (arith, to_inside)

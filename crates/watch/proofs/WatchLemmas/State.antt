@@ -1,52 +1,41 @@
 -- What holds of watched literals, as assumptions come and go.
-use Rattle.std.proofs.Common.{◌≡◌, ℕ, ◌+◌, ◌*◌, ◌/◌, ◌<◌, ◌≤◌, Bool, true, false, ◌&&◌, ◌||◌, not}
-use Rattle.std.proofs.Common.{cond, eqb, Option, Some, None, is_some, nat_le, option_map, drop}
-use Rattle.std.proofs.Common.{slice_index, List, [], ◌∷◌, length, take, refl, sym, ap, ◌∙◌, subst}
-use Rattle.std.proofs.Common.{arith, IsSome}
-use Rattle.std.specs.Ordering.{nat_cmp}
+use Rattle.std.proofs.Common.{◌≡◌, ℕ, ◌+◌, ◌<◌, ◌≤◌, Bool, true, false, ◌&&◌, ◌||◌, not, cond, eqb}
+use Rattle.std.proofs.Common.{Option, Some, None, is_some, nat_le, option_map, drop, slice_index}
+use Rattle.std.proofs.Common.{List, [], ◌∷◌, length, take, refl, sym, ap, ◌∙◌, subst, arith, IsSome}
+use Rattle.std.specs.{Ordering.nat_cmp, FinMap.FinMap}
+use Rattle.std.proofs.lemmas.{Bool.false≢true, Option.none-some}
 use Rattle.std.specs.FinMap as maps
-use Rattle.std.specs.FinMap.{FinMap}
-use Rattle.std.proofs.lemmas.Bool.{false≢true}
-use Rattle.std.proofs.lemmas.Option.{none-some}
 use Rattle.cnf_base.specs.Literals.{Literal, Clause, has, size, variable}
+use Rattle.cnf_base.proofs.MapLemmas.{sum_empty, sum_insert, sum_remove}
 use Rattle.propagation.specs.Assumptions.{Assumption, AssumptionsState, Propagation, roots_in}
-use Rattle.propagation.specs.Code.Scan.{IsHeld}
+use Rattle.propagation.specs.{Code.Scan.IsHeld, Code.Closure.AreForced, Slots.unit_or_empty_clauses}
+use Rattle.propagation.specs.declared.answer.Answer.{Answer, TheVariants.Quiet}
+use Rattle.propagation.proofs.PropagationLemmas.Exact.{begins_on, longer_from}
+use Rattle.propagation.proofs.PropagationLemmas.Scan.{held_reserved}
 use Rattle.theory.specs.Sets.{SameSet}
-use Rattle.trail.specs.Trail.{HasRoomForAll}
+use Rattle.trail.{specs.Trail.HasRoomForAll, proofs.TrailLemmas.Longer.has_begun}
 use Rattle.watch_lists.specs.Lists.{entries_in, entries_of, list_at, unfit_entries, times_in}
-use Rattle.root_literals.specs.Order.{each_in_order, in_order}
-use Rattle.root_literals.specs.Roots.{IsKept, IsStanding, is_up_to_date}
-use Rattle.propagation.specs.Code.Closure.{AreForced}
-use Rattle.watch.specs.Code.State.{AddsRoom, AreLists, HaveReasons, IsWatch}
 use Rattle.watch_lists.specs.Watched.{HasAll, AreUnchanged, HasEntry, IsListed, AddsFitting}
 use Rattle.watch_lists.specs.Watched.{IsUnitList, IsTautologyList, is_unit_or_empty, is_unwatched}
 use Rattle.watch_lists.specs.Watched.{tautology_for, unit_for, watched_clauses}
-use Rattle.root_literals.specs.Code.Propagated.{PropagatesTo}
-use Rattle.root_literals.specs.Watched.{IsPart, AreWatched, IsWatched}
-use Rattle.clause_db.specs.Store.{is_tautology}
-use Rattle.propagation.specs.Slots.{unit_or_empty_clauses}
-use Rattle.propagation.specs.declared.answer.Answer.{Answer}
-use Rattle.propagation.specs.declared.answer.Answer.TheVariants.{Quiet}
 use Rattle.watch_lists.specs.declared.lists.WatchLists.{WatchLists}
-use Rattle.root_literals.specs.declared.kept.Kept.TheVariants.{WithoutUnits}
-use Rattle.root_literals.specs.declared.roots.Roots.{Roots}
-use Rattle.tables.specs.Filled.{at}
-use Rattle.propagation.proofs.PropagationLemmas.Exact.{begins_on, longer_from}
-use Rattle.trail.proofs.TrailLemmas.Longer.{has_begun}
-use Rattle.propagation.proofs.PropagationLemmas.Scan.{held_reserved}
-use Rattle.root_literals.proofs.RootLemmas.Watched.{front_part}
 use Rattle.watch_lists.proofs.WatchListsLemmas.Made.{added, is_counted, removed, all_added}
 use Rattle.watch_lists.proofs.WatchListsLemmas.Made.{all_removed, long_is, low_added, low_left}
+use Rattle.watch_lists.proofs.WatchListsLemmas.Watched.{tautology_alike}
+use Rattle.root_literals.specs.{Order.each_in_order, Order.in_order, Code.Propagated.PropagatesTo}
+use Rattle.root_literals.specs.Roots.{IsKept, IsStanding, is_up_to_date}
+use Rattle.root_literals.specs.{Watched.IsPart, Watched.AreWatched, Watched.IsWatched, Uses.times}
+use Rattle.root_literals.specs.declared.{kept.Kept.TheVariants.WithoutUnits, roots.Roots.Roots}
+use Rattle.root_literals.proofs.RootLemmas.{Watched.front_part, Kept.kept_nothing, Kept.seen_same}
 use Rattle.root_literals.proofs.RootLemmas.Carried.{kept_carried, kept_forced, roots_alone}
 use Rattle.root_literals.proofs.RootLemmas.Carried.{roots_part}
-use Rattle.root_literals.proofs.RootLemmas.Kept.{kept_nothing, seen_same}
 use Rattle.root_literals.proofs.RootLemmas.Order.{get_ordered, has-in_order, ordered_empty}
 use Rattle.root_literals.proofs.RootLemmas.Order.{size-in_order, sum_ordered}
-use Rattle.watch_lists.proofs.WatchListsLemmas.Watched.{tautology_alike}
 use Rattle.root_literals.proofs.RootLemmas.Reasons.{reasoned_same, reasoned_some}
 use Rattle.root_literals.proofs.RootLemmas.Uses.{counted_in_order, counted_same}
-use Rattle.root_literals.specs.Uses.{times}
-use Rattle.cnf_base.proofs.MapLemmas.{sum_empty, sum_insert, sum_remove}
+use Rattle.watch.specs.Code.State.{AddsRoom, AreLists, HaveReasons, IsWatch}
+use Rattle.clause_db.specs.Store.{is_tautology}
+use Rattle.tables.specs.Filled.{at}
 
 -- ---- Numbers
 
@@ -126,24 +115,24 @@ module _ (live live2 : FinMap nat_cmp Clause) (lists lists2 : WatchLists) (units
   as_known = ap (λ r. r.kept) as_before
 
   begins_found : take (length before.trail.lits) found.trail.lits ≡ before.trail.lits
-  begins_found = begins_on before.trail.lits after.trail.lits found.trail.lits begins (longer_from before.trail.lits after.trail.lits begins) carried.extends.begins
+  begins_found = begins_on before.trail.lits after.trail.lits found.trail.lits begins (grind (arith, longer_from)) carried.extends.begins
 
   below : AreWatched (maps.get live2) before.trail.lits before.assumptions before.starts
-  below = are_kept live live2 after found (at roots.reasons) (at roots2.reasons) carried before.trail.lits (λ l h. has_begun before.trail.lits after.trail.lits l begins h) before.assumptions before.starts watch.watched
+  below = are_kept live live2 after found (at roots.reasons) (at roots2.reasons) carried before.trail.lits (λ l h. grind (arith, has_begun)) before.assumptions before.starts watch.watched
 
   roots_below : IsKept live2 roots2 (roots_in before.trail.lits before.assumptions before.starts)
   roots_below =
       kept_carried live live2 after found (at roots.reasons) (at roots2.reasons) carried roots roots2 (roots_in before.trail.lits before.assumptions before.starts) as_known (ap (λ r. r.history) as_before) (ap (λ r. r.uses) as_before) (λ l. refl) (λ l. refl)
-      (λ l h. has_begun before.trail.lits after.trail.lits l begins (roots_part before.trail.lits before.assumptions before.starts l h)) watch.kept
+      (grind (arith, has_begun, roots_part)) watch.kept
 
   watch_with : (last : AssumptionsState) → SameSet last.trail.reserved before.trail.reserved → IsHeld (each_in_order live) (AreForced (maps.get (each_in_order live))) last → AreWatched (maps.get live2) last.trail.lits last.assumptions last.starts →
       IsKept live2 roots2 (roots_in last.trail.lits last.assumptions last.starts) → IsStanding roots2.kept last.assumptions → IsWatch false live2 lists2 units roots2 last
   watch_with last reserved scan watched kept standing = record {
-    scan = subst (λ m. IsHeld m (AreForced (maps.get m)) last) (sym carried.same) scan;
-    listed = record { each = listed; two_each = entries ∙ watch.listed.two_each ∙ ap (λ n. 2 * n) (sym (watched_alike live live2 carried.same)) };
+    scan = grind arith;
+    listed = record { each = listed; two_each = grind (arith, watched_alike) };
     rest = record { listed = λ s. watch.rest.listed s ∙ sym (carried.units s) };
     watched = watched;
-    one_each = watch.one_each ∙ sym (units_alike live live2 carried.same);
+    one_each = grind (arith, units_alike);
     kept = kept;
     standing = standing;
     noted = λ l h. carried.noted l (watch.noted l (sym (reserved (variable l)) ∙ h));
@@ -155,7 +144,7 @@ module _ (live live2 : FinMap nat_cmp Clause) (lists lists2 : WatchLists) (units
       IsWatch false live2 lists2 units roots2 last
   watch_answered up last answer all trail stand starts quiet reserved scan =
       watch_with last reserved scan
-      (simp (trail, stand, starts, begins_found) (quiet, below))
+      (grind (arith, begins_found, below))
       (simp (trail, stand, starts, begins_found) roots_below)
       (simp (stand, as_known) up)
 
@@ -167,10 +156,10 @@ module _ (live live2 : FinMap nat_cmp Clause) (lists lists2 : WatchLists) (units
       let same_starts = starts_are ∙ ap (drop 1) starts in
       let same_lits = lits_are ∙ ap (λ ns. take (slice_index ns 0) found.trail.lits) starts ∙ begins_found in
       watch_with last reserved
-      (held_reserved (each_in_order live) (AreForced (maps.get (each_in_order live))) before last same_lits same_assumptions same_starts (λ v h. reserved v ∙ h) watch.scan)
-      (simp (same_lits, same_assumptions, same_starts) below)
-      (simp (same_lits, same_assumptions, same_starts) roots_below)
-      (simp (same_assumptions, as_known) watch.standing)
+      (grind (arith, held_reserved))
+      (grind (arith, below))
+      (grind (arith, roots_below))
+      (grind (arith, as_known))
 
 -- ---- Where nothing changes but room and order
 
@@ -182,10 +171,10 @@ watch_room {live = live} {roots = roots} {roots2} {held} {held2} more noted watc
     let shown = maps.get (each_in_order live) in
     let kept = watch.kept in
     let old = λ (l : Literal) (h : has lits l ≡ true). more.reasons l (reasoned_some shown (at roots.reasons) lits kept.reasoned l h) in record {
-      scan = held_reserved (each_in_order live) (AreForced shown) held held2 more.lits more.assumptions more.starts more.reserved watch.scan;
+      scan = grind (arith, held_reserved);
       listed = watch.listed;
       rest = watch.rest;
-      watched = simp (more.lits, more.assumptions, more.starts) watch.watched;
+      watched = grind arith;
       one_each = watch.one_each;
       kept = simp (more.lits, more.assumptions, more.starts) (record {
         noted = record { each = λ s c is l member. let was = kept.noted.each s c is l member in ap is_some (more.reasons l was) ∙ was };
@@ -197,7 +186,7 @@ watch_room {live = live} {roots = roots} {roots2} {held} {held2} more noted watc
             counted_same (maps.get live) (at roots2.reasons) lits roots.uses roots2.uses more.counted more.times
             (counted_in_order live live (at roots.reasons) (at roots2.reasons) lits roots.uses refl old kept.counted);
       });
-      standing = simp (more.assumptions, more.kept) watch.standing;
+      standing = grind arith;
       noted = noted;
     }
 
@@ -209,7 +198,7 @@ watch_same loading live lists after units roots held times fewer entries watch =
 -- the lists were taken out and put back
 pub watch_put_back : (loading : Bool) (live : FinMap nat_cmp Clause) (lists after : WatchLists) (units : List ℕ) (roots : Roots) (held : AssumptionsState) → AreUnchanged lists after → IsWatch loading live lists units roots held → IsWatch loading live after units roots held
 watch_put_back loading live lists after units roots held same watch =
-    watch_same loading live lists after units roots held (λ l s. ap (entries_of s) (same.lists l)) (λ l s c _. let e = ap (unfit_entries s c l) (same.lists l) in omega (arith, e)) same.entries watch
+    watch_same loading live lists after units roots held (λ l s. ap (entries_of s) (same.lists l)) (grind arith) same.entries watch
 
 -- ---- Where nothing is assumed
 
@@ -217,32 +206,29 @@ pub watch_alone : (loading : Bool) (live : FinMap nat_cmp Clause) (lists : Watch
     AreLists loading live lists → IsUnitList (maps.get live) units → length units ≡ unit_or_empty_clauses live → IsKept live roots held.trail.lits → HaveReasons held.trail.reserved (at roots.reasons) →
     IsWatch loading live lists units roots held
 watch_alone loading live lists units roots held nothing room listed rest one_each kept noted = record {
-  scan = record {
-    room = room;
-    exact = simp nothing (kept_forced live roots held.trail.lits kept);
-  };
+  scan = grind (arith, kept_forced);
   listed = listed;
   rest = rest;
   watched = simp nothing tt;
   one_each = one_each;
-  kept = subst (IsKept live roots) (sym (roots_alone held.trail.lits held.assumptions held.starts nothing)) kept;
+  kept = grind (arith, roots_alone);
   standing = simp nothing tt;
   noted = noted;
 }
 
 -- what is kept there
 pub alone_kept : (loading : Bool) (live : FinMap nat_cmp Clause) (lists : WatchLists) (units : List ℕ) (roots : Roots) (held : AssumptionsState) → IsWatch loading live lists units roots held → held.assumptions ≡ [] → IsKept live roots held.trail.lits
-alone_kept loading live lists units roots held watch nothing = subst (IsKept live roots) (roots_alone held.trail.lits held.assumptions held.starts nothing) watch.kept
+alone_kept loading live lists units roots held watch nothing = subst (IsKept live roots) (grind (arith, roots_alone)) watch.kept
 
 -- it is brought up to date
 pub watch_refreshed : (live live2 : FinMap nat_cmp Clause) (lists lists2 : WatchLists) (units : List ℕ) (roots roots2 : Roots) (held held2 : AssumptionsState) → IsWatch false live lists units roots held → held2.assumptions ≡ [] → SameSet held2.trail.reserved held.trail.reserved →
     each_in_order live2 ≡ each_in_order live → ((s : ℕ) → unit_for (maps.get live2 s) ≡ unit_for (maps.get live s)) → IsListed (maps.get live2) (list_at lists2) → entries_in lists2 ≡ entries_in lists →
     IsKept live2 roots2 held2.trail.lits → ((l : Literal) → is_some (at roots.reasons l) ≡ true → is_some (at roots2.reasons l) ≡ true) → IsWatch false live2 lists2 units roots2 held2
 watch_refreshed live live2 lists lists2 units roots roots2 held held2 watch nothing reserved same unit_slots listed entries kept noted =
-    watch_alone false live2 lists2 units roots2 held2 nothing (record { each = λ k c here l member. reserved (l / 2) ∙ watch.scan.room.each k c (ap (λ m. maps.get m k) (sym same) ∙ here) l member })
-    (record { each = listed; two_each = entries ∙ watch.listed.two_each ∙ ap (λ n. 2 * n) (sym (watched_alike live live2 same)) })
-    (record { listed = λ s. watch.rest.listed s ∙ sym (unit_slots s) }) (watch.one_each ∙ sym (units_alike live live2 same)) kept
-    (λ l h. noted l (watch.noted l (sym (reserved (variable l)) ∙ h)))
+    watch_alone false live2 lists2 units roots2 held2 nothing (grind arith)
+    (grind (arith, watched_alike))
+    (grind arith) (grind (arith, units_alike)) kept
+    (λ l h. grind arith)
 
 -- ---- No clauses
 
@@ -252,12 +238,7 @@ pub watch_empty : (live : FinMap nat_cmp Clause) (lists : WatchLists) (units : L
 watch_empty live lists units roots held none no_entries no_unit_entry cut unseen unset no_room nothing uncounted =
     let gone = λ (s : ℕ). ap (λ m. maps.get m s) none ∙ maps.get-empty nat_cmp s in
     let gone_shown = λ (s : ℕ). ap (λ m. maps.get m s) (ap each_in_order none ∙ ordered_empty) ∙ maps.get-empty nat_cmp s in
-    watch_alone true live lists units roots held nothing (record { each = λ k c here. absurd (none-some c (sym (gone_shown k) ∙ here)) })
-    (record { none = no_entries; low = λ s is. absurd (false≢true (sym (ap is_some (gone s)) ∙ is)) })
-    (record { listed = λ s. ap (times_in s) no_unit_entry ∙ sym (ap unit_for (gone s)) })
-    (ap length no_unit_entry ∙ sym (ap unit_or_empty_clauses none ∙ sum_empty (λ c. cond (nat_le 2 (size c)) 0 1)))
-    (kept_nothing live roots held.trail.lits (record { each = λ s c here. absurd (none-some c (sym (gone_shown s) ∙ here)) }) cut (ap length unseen) unset uncounted)
-    (λ l h. absurd (false≢true (ap (λ vs. has vs (variable l)) (sym no_room) ∙ h)))
+    grind (arith, watch_alone, none-some, false≢true, sum_empty, nat_le, kept_nothing)
 
 -- ---- One clause more or less, where nothing is assumed
 
@@ -270,7 +251,7 @@ module _ (loading : Bool) (live after : FinMap nat_cmp Clause) (lists lists2 : W
       let more_units = ap unit_or_empty_clauses is ∙ sum_insert (λ c. cond (nat_le 2 (size c)) 0 1) live slot c free in
       let weight_unit = unit_weight c different in
       let was_unit = watch.one_each in
-      watch_alone loading after lists2 short2 roots2 held2 nothing room (lists_added live after slot c free is different low lists lists2 loading times fewer entries watch.listed)
+      watch_alone loading after lists2 short2 roots2 held2 nothing room (grind (arith, lists_added))
       (record { listed = λ s. unit_times s ∙ added live after slot c free is unit_for refl (is_unit_or_empty c) refl s (times_in s units) (watch.rest.listed s) })
       (omega (arith, more_units, weight_unit, was_unit, longer)) kept noted
 
@@ -282,9 +263,9 @@ module _ (loading : Bool) (live after : FinMap nat_cmp Clause) (lists lists2 : W
       let as_map_unit = ap unit_or_empty_clauses is in
       let weight_unit = unit_weight c different in
       let was_unit = watch.one_each in
-      watch_alone loading after lists2 short2 roots2 held2 nothing room (lists_removed live after slot c there is different lists lists2 loading times fewer entries watch.listed)
+      watch_alone loading after lists2 short2 roots2 held2 nothing room (grind (arith, lists_removed))
       (record { listed = λ s. removed live after slot c there is unit_for refl (is_unit_or_empty c) refl s (times_in s short2) (unit_times s ∙ watch.rest.listed s) })
-      (omega (arith, fewer_units, as_map_unit, weight_unit, was_unit, shorter)) kept noted
+      (grind arith) kept noted
 
 -- what is seen, field by field
 pub same_state : (live live2 : FinMap nat_cmp Clause) (assumptions assumptions2 : List Assumption) (stored stored2 : ℕ) (has_refused : Bool) → live ≡ live2 → assumptions ≡ assumptions2 → stored ≡ stored2 →
@@ -320,6 +301,6 @@ pub tautologies_removed : (live after : FinMap nat_cmp Clause) (list list2 : Lis
     ((s : ℕ) → times_in s list2 + cond (is_tautology c && eqb s slot) 1 0 ≡ times_in s list) → IsTautologyList (maps.get (each_in_order after)) list2
 tautologies_removed live after list list2 slot c listed there is times = record {
   listed = λ s.
-      removed live after slot c there is tautology_for refl (is_tautology c) refl s (times_in s list2) (times s ∙ listed.listed s ∙ tautology_shown live s)
+      removed live after slot c there is tautology_for refl (is_tautology c) refl s (times_in s list2) (grind (arith, tautology_shown))
       ∙ sym (tautology_shown after s);
 }

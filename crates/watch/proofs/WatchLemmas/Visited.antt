@@ -1,41 +1,32 @@
 -- Visits, one after the other.
-use Rattle.std.proofs.Common.{◌≡◌, ℕ, ◌/◌, ◌<◌, ◌≤◌, true, Option, Some, is_some, List, refl, sym}
-use Rattle.std.proofs.Common.{arith, ap, ◌∙◌, subst, length, get_or, map, slice_get}
-use Rattle.std.specs.Ordering.{nat_cmp}
+use Rattle.std.proofs.Common.{◌≡◌, ℕ, ◌/◌, ◌<◌, ◌≤◌, true, Option, Some, is_some, List, refl, arith}
+use Rattle.std.proofs.Common.{ap, ◌∙◌, subst, length, get_or, map, slice_get}
+use Rattle.std.specs.{Ordering.nat_cmp, FinMap.FinMap}
+use Rattle.std.proofs.lemmas.{Bool.and_parts, Grind.get_or_default_zero}
 use Rattle.std.specs.FinMap as maps
-use Rattle.std.specs.FinMap.{FinMap}
-use Rattle.std.proofs.lemmas.Bool.{and_parts}
-use Rattle.std.proofs.lemmas.Grind.{get_or_default_zero}
 use Rattle.cnf_base.specs.Literals.{Literal, Clause, complement, has, variable}
-use Rattle.cnf_base.proofs.LiteralLemmas.{complement-complement}
-use Rattle.cnf_base.proofs.MemberLemmas.{has_place}
+use Rattle.cnf_base.proofs.{LiteralLemmas.complement-complement, MemberLemmas.has_place}
 use Rattle.propagation.specs.Assumptions.{AssumptionsState}
 use Rattle.watch.specs.Code.Visits.{CanFollow, CanVisit, Followed, IsEntryOf, IsInHand, IsFound}
 use Rattle.watch.specs.Code.Visits.{CanLook, HasRoomForBlocking, IsFoundAfter, IsFoundNext, Visited}
-use Rattle.root_literals.specs.Code.Propagated.{PropagatesTo}
-use Rattle.watch.specs.declared.follow.Found.{Found}
-use Rattle.watch.specs.declared.follow.Found.TheVariants.{Unit}
-use Rattle.watch.specs.declared.follow.FoundAt.{FoundAt}
-use Rattle.watch_lists.specs.Cursor.{CursorState}
-use Rattle.watch_lists.specs.Lists.{list_at}
-use Rattle.watch_lists.specs.declared.lists.WatchLists.{WatchLists}
-use Rattle.watch_lists.specs.declared.watcher.Watcher.{Watcher}
-use Rattle.trail.specs.Trail.{HasNoVariableTwice, HasRoom, HasRoomForAll, TrailState}
-use Rattle.root_literals.specs.Order.{each_in_order}
-use Rattle.root_literals.proofs.RootLemmas.Order.{has-in_order, seen_there}
-use Rattle.trail.proofs.TrailLemmas.Longer.{has_begun}
-use Rattle.trail.proofs.TrailLemmas.Values.{fits_within}
-use Rattle.watch_lists.proofs.WatchListsLemmas.Lists.{entry_at}
+use Rattle.watch.specs.declared.follow.{Found.Found, Found.TheVariants.Unit, FoundAt.FoundAt}
 use Rattle.watch.proofs.WatchLemmas.Moves.{entry_alive}
+use Rattle.root_literals.specs.{Code.Propagated.PropagatesTo, Order.each_in_order}
+use Rattle.root_literals.proofs.RootLemmas.Order.{has-in_order, seen_there}
 use Rattle.root_literals.proofs.RootLemmas.Carried.{can_set_on, room_for}
 use Rattle.root_literals.proofs.RootLemmas.Propagated.{propagates_none, propagates_on}
+use Rattle.watch_lists.specs.{Cursor.CursorState, Lists.list_at}
+use Rattle.watch_lists.specs.declared.{lists.WatchLists.WatchLists, watcher.Watcher.Watcher}
+use Rattle.watch_lists.proofs.WatchListsLemmas.Lists.{entry_at}
+use Rattle.trail.specs.Trail.{HasNoVariableTwice, HasRoom, HasRoomForAll, TrailState}
+use Rattle.trail.proofs.TrailLemmas.{Longer.has_begun, Values.fits_within}
 
 -- they make no more literals true than there was room for
 pub fits_on : {a b : FinMap nat_cmp Clause} {x y : AssumptionsState} {r s : Literal → Option ℕ} → PropagatesTo a b x y r s → {t : TrailState} → t ≡ y.trail → HasNoVariableTwice t.lits →
     ((v : ℕ) → has (map variable t.lits) v ≡ true → has t.reserved v ≡ true) → length y.trail.lits ≤ length x.trail.reserved
 fits_on {a} {b} {x} {y} carried is different within =
-    fits_within y.trail.lits x.trail.reserved (subst (λ u. HasNoVariableTwice u.lits) is different)
-    (λ v h. sym (carried.extends.reserved v) ∙ subst (λ u. (v : ℕ) → has (map variable u.lits) v ≡ true → has u.reserved v ≡ true) is within v h)
+    fits_within y.trail.lits x.trail.reserved (grind arith)
+    (grind (arith, map))
 
 -- ---- The literals that are true, one after the other
 
@@ -71,14 +62,14 @@ pub next_entry : {live : FinMap nat_cmp Clause} {lists : WatchLists} {l : Litera
 next_entry {live} {lists} {l} cursor entry is hand =
     let e = entry_at cursor.entries cursor.visited entry is in
     let w = entry_alive (maps.get live) (list_at lists) l cursor.entries hand.listed cursor.visited entry e.0 e.1 in
-    record { clause = w.0; at = w.1; watched = w.2; fitting = w.3 }
+    grind arith
 
 -- what is found of its clause is found next
 pub found_at : {live : FinMap nat_cmp Clause} {lists : WatchLists} {l : Literal} {cursor : CursorState} {entry : Watcher} {trues : List Literal} {found : Found} → slice_get cursor.entries cursor.visited ≡ Some entry →
     IsInHand live lists cursor.entries l → ((c : Clause) → maps.get live entry.slot ≡ Some c → IsFound trues c found) → IsFoundNext live cursor trues entry found
 found_at {cursor = cursor} {entry} is hand found =
     let w = next_entry cursor entry is hand in
-    record { next = is; clause = w.clause; at = w.at; holds = found w.clause w.at }
+    grind arith
 
 pub visited_none : {a : FinMap nat_cmp Clause} {lists : WatchLists} {list : List Watcher} {l : Literal} (x : AssumptionsState) (r : Literal → Option ℕ) → IsInHand a lists list l → Visited a a lists lists list list x x r r l
 visited_none {a} x r hand = record { hand = hand; entries = refl; propagates = propagates_none a x r }
@@ -87,7 +78,7 @@ module _ {a b : FinMap nat_cmp Clause} {lists lists_b : WatchLists} {list list_b
   pub can_visit_on : CanVisit a lists list x r l → Visited a b lists lists_b list list_b x y r s l → CanVisit b lists_b list_b y s l
   can_visit_on can first = record {
     hand = first.hand;
-    is_false = has_begun x.trail.lits y.trail.lits (complement l) first.propagates.extends.begins can.is_false;
+    is_false = grind (arith, has_begun);
     can_set = can_set_on can.can_set first.propagates;
   }
 
@@ -121,4 +112,4 @@ room_in live room slot c here m member = let shown = seen_there live slot c here
 pub room_for_blocking : {live : FinMap nat_cmp Clause} {lists : WatchLists} {cursor : CursorState} {trail : TrailState} {l : Literal} → CanLook live lists cursor trail l → HasRoomForBlocking trail.reserved cursor.entries
 room_for_blocking {live} {cursor = cursor} can k e is =
     let w = next_entry (record { entries = cursor.entries; visited = k }) e is can.hand in
-    room_in live can.room e.slot w.clause w.at e.blocking (and_parts (has w.clause e.blocking) _ w.fitting).0
+    grind (arith, room_in, and_parts)

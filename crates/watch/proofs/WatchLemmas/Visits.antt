@@ -3,38 +3,27 @@ use Rattle.std.proofs.Common.{◌≡◌, ◌≢◌, ℕ, ◌-◌, ◌<◌, ◌�
 use Rattle.std.proofs.Common.{◌∷◌, ◌++◌, length, get_or, refl, sym, ap, ◌∙◌, arith, inl, inr, eqb}
 use Rattle.std.proofs.Common.{◌||◌, ne_eqb, eqb-true}
 use Rattle.std.proofs.lemmas.Bool.{and_from, and_parts, false_from_ne_true, cases_eq, cases_lt}
-use Rattle.std.proofs.lemmas.Bool.{true≢false, false≢true}
-use Rattle.std.proofs.lemmas.Bool.Decides.{nat_tests}
+use Rattle.std.proofs.lemmas.Bool.{true≢false, false≢true, Decides.nat_tests}
 use Rattle.cnf_base.specs.Literals.{Literal, complement, Clause, has}
 use Rattle.cnf_base.proofs.LiteralLemmas.{complement-complement}
 use Rattle.cnf_base.proofs.SetLemmas.{has_append_right, has_head}
-use Rattle.trail.specs.Trail.{value_under, HasNoVariableTwice}
-use Rattle.trail.specs.declared.value.Value.{Value}
-use Rattle.trail.specs.declared.value.Value.TheVariants.{True, False, Open}
 use Rattle.cnf_base.proofs.MemberLemmas.{place_of, has_place}
+use Rattle.trail.specs.Trail.{value_under, HasNoVariableTwice}
+use Rattle.trail.specs.declared.value.Value.{Value, TheVariants.False}
 use Rattle.trail.proofs.TrailLemmas.Truth.{consistent}
-use Rattle.watch_lists.specs.Lists.{fits}
-use Rattle.watch_lists.specs.Watched.{watches}
+use Rattle.watch_lists.specs.{Lists.fits, Watched.watches}
 use Rattle.watch_lists.proofs.WatchListsLemmas.Watched.{watched_first}
 
 -- a literal whose value isn't false isn't false
 pub not_false : (trues : List Literal) → HasNoVariableTwice trues → (m : Literal) (v : Value) → v ≡ value_under trues m → (v ≡ False → ⊥) → has trues (complement m) ≡ false
-not_false trues apart m v is ne = false_from_ne_true (has trues (complement m)) (λ h.
-    let open_m : has trues m ≡ false = ap (has trues) (sym (complement-complement m)) ∙ consistent trues apart (complement m) h in
-    ne (is ∙ ap (λ b. cond b True (cond (has trues (complement m)) False Open)) open_m ∙ ap (λ b. cond b False Open) h))
+not_false trues apart m v is ne = false_from_ne_true (has trues (complement m)) (grind (arith, complement-complement, consistent))
 
 module _ (trues : List Literal) (c : Clause) (l : Literal) (from : ℕ) (inside : from < 2) (long : 2 ≤ length c) (there : get_or c from 0 ≡ l) (m : Literal) (m_is : m ≡ get_or c (1 - from) 0)
     (l_false : has trues (complement l) ≡ true) (rest : (k : ℕ) → 2 ≤ k → k < length c → has trues (complement (get_or c k 0)) ≡ true) where
   pub others_false : (k : Literal) → has c k ≡ true → k ≢ m → has trues (complement k) ≡ true
   others_false k member other =
       let w = place_of c k member in
-      elim (cases_eq w.0 from) [
-        | inl e ↦ ap (λ x. has trues (complement x)) (sym w.2 ∙ ap (λ i. get_or c i 0) e ∙ there) ∙ l_false
-        | inr ne ↦ elim (cases_lt w.0 2) [
-          | inl low ↦ absurd (other (sym w.2 ∙ ap (λ i. get_or c i 0) (let same : w.0 ≡ 1 - from = omega arith in same) ∙ sym m_is))
-          | inr past ↦ ap (λ x. has trues (complement x)) (sym w.2) ∙ rest w.0 past w.1
-        ]
-      ]
+      grind (arith, cases_eq, cases_lt)
 
   pub each_false : has trues (complement m) ≡ true → (k : Literal) → has c k ≡ true → has trues (complement k) ≡ true
   each_false h k member = elim (cases_eq k m) [ inl e ↦ ap (λ x. has trues (complement x)) e ∙ h | inr ne ↦ others_false k member ne ]
@@ -55,7 +44,7 @@ made_true false lits after m was is = ap (λ ls. has ls m) is ∙ by_test (has l
 
 -- of a clause with a third literal
 pub longer_fits : (c : Clause) (l other : Literal) → has c other ≡ true → 2 < length c → fits c l other false ≡ true
-longer_fits c l other member long = and_from (has c other) (not (eqb (length c) 2)) member (ap not (ne_eqb (length c) 2 (λ e. absurd (let wrong : ⊥ = omega (arith, e, long) in wrong))))
+longer_fits c l other member long = and_from (has c other) (not (eqb (length c) 2)) member (grind (arith, not, ne_eqb))
 
 -- with another literal of the clause, which is true
 pub kept_fits : (trues : List Literal) → HasNoVariableTwice trues → (c : Clause) (l was other : Literal) (is_binary : Bool) → fits c l was is_binary ≡ true → has trues (complement l) ≡ true → has c other ≡ true → has trues other ≡ true → fits c l other is_binary ≡ true
@@ -83,7 +72,7 @@ no_third (a ∷ b ∷ x ∷ c) l other watched fitting k member differ =
 -- one that watches a false literal
 module _ (trues : List Literal) (c : Clause) (l other : Literal) (watched : watches c l ≡ true) (fitting : fits c l other true ≡ true) (l_false : has trues (complement l) ≡ true) where
   pub binary_others : (k : Literal) → has c k ≡ true → k ≢ other → has trues (complement k) ≡ true
-  binary_others k member differ = ap (λ x. has trues (complement x)) (no_third c l other watched fitting k member differ) ∙ l_false
+  binary_others k member differ = ap (λ x. has trues (complement x)) (grind (arith, no_third)) ∙ l_false
 
   pub binary_all : has trues (complement other) ≡ true → (k : Literal) → has c k ≡ true → has trues (complement k) ≡ true
   binary_all h k member = elim (cases_eq k other) [ inl e ↦ ap (λ x. has trues (complement x)) e ∙ h | inr ne ↦ binary_others k member ne ]

@@ -3,17 +3,12 @@ use Rattle.std.proofs.Common.{rules, ◌≡◌, ℕ, ◌+◌, ◌-◌, ◌<◌, 
 use Rattle.std.proofs.Common.{drop, set, sym, ap, ◌∙◌, arith}
 use Rattle.std.proofs.lemmas.List.{append_assoc, drop-drop, drop-set-lt, drop_more, length-append}
 use Rattle.std.proofs.lemmas.List.{length-drop, length-take-le, set-append_right, take_more_set}
-use Rattle.std.proofs.lemmas.List.Edits.{remove-append_right}
-use Rattle.std.specs.List.{remove}
+use Rattle.std.{proofs.lemmas.List.Edits.remove-append_right, specs.List.remove}
 
 module _ {X : Type 0} (xs : List X) (kept next : ℕ) (ordered : kept ≤ next) where
   -- how many entries there are
   pub entries_length : next ≤ length xs → length (take kept xs ++ drop next xs) + next ≡ kept + length xs
-  entries_length inside =
-      let both = length-append (take kept xs) (drop next xs) in
-      let front = length-take-le kept xs (omega (arith, ordered, inside)) in
-      let rest = length-drop next xs in
-      omega (arith, both, front, rest, inside)
+  entries_length inside = grind (arith, length-append, length-take-le, length-drop)
 
   module _ (inside : next < length xs) where
     front : length (take kept xs) ≡ kept
@@ -22,8 +17,8 @@ module _ {X : Type 0} (xs : List X) (kept next : ℕ) (ordered : kept ≤ next) 
     pub entry_kept : (x : X) → take (kept + 1) (set xs kept x) ++ drop (next + 1) (set xs kept x) ≡ set (take kept xs ++ drop next xs) kept x
     entry_kept x =
         let none : kept - kept ≡ 0 = omega arith in
-        ap (λ ys. ys ++ drop (next + 1) (set xs kept x)) (take_more_set xs kept x (omega (arith, ordered, inside)))
-        ∙ ap (λ ys. (take kept xs ++ x ∷ []) ++ ys) (drop-set-lt (next + 1) xs kept x (omega (arith, ordered)))
+        ap (λ ys. ys ++ drop (next + 1) (set xs kept x)) (grind (arith, take_more_set))
+        ∙ ap (λ ys. (take kept xs ++ x ∷ []) ++ ys) (grind (arith, drop-set-lt))
         ∙ append_assoc (take kept xs) (x ∷ []) (drop (next + 1) xs)
         ∙ sym (set-append_right (take kept xs) (drop next xs) kept kept x front (omega arith) ∙ ap (λ i. take kept xs ++ set (drop next xs) i x) none ∙ ap (λ ys. take kept xs ++ set ys 0 x) (drop_more xs next x inside))
 

@@ -2,13 +2,11 @@
 use Rattle.std.proofs.Common.{rules, ◌≡◌, ◌≢◌, ℕ, ◌+◌, ◌<◌, ◌≤◌, Bool, true, false, cond, eqb, ◌||◌}
 use Rattle.std.proofs.Common.{◌&&◌, List, [], ◌∷◌, Option, Some, length, get_or, refl, sym, ap, ◌∙◌}
 use Rattle.std.proofs.Common.{arith, ne_eqb}
-use Rattle.std.proofs.lemmas.Bool.{true≢false, false≢true}
-use Rattle.std.proofs.{lemmas.Bool.Decides.nat_tests, lemmas.List.Sums.sum_by-cons}
+use Rattle.std.proofs.lemmas.{Bool.true≢false, Bool.false≢true, List.Sums.sum_by-cons}
 use Rattle.cnf_base.specs.Literals.{Literal, Clause, has, size}
-use Rattle.cnf_base.proofs.{SetLemmas.both_pass, SetLemmas.has_head, SizeLemmas.distinct_parts}
+use Rattle.cnf_base.proofs.{SetLemmas.has_head, SizeLemmas.distinct_parts}
 use Rattle.clause_db.specs.Store.{is_tautology}
-use Rattle.watch_lists.specs.Lists.{fits, times_in}
-use Rattle.watch_lists.specs.Watched.{watches, IsTautologyList, tautology_for}
+use Rattle.watch_lists.specs.{Lists.fits, Lists.times_in, Watched.watches, Watched.IsTautologyList}
 
 -- a clause of two literals or more
 module _ (first second : Literal) where
@@ -23,14 +21,14 @@ module _ (first second : Literal) where
 
   -- an entry in each of the two lists
   pub one_each : first ≢ second → (slot l s : ℕ) → cond {A = ℕ} ((eqb first l || eqb second l) && eqb s slot) 1 0 ≡ cond (eqb l first && eqb s slot) 1 0 + cond (eqb l second && eqb s slot) 1 0
-  one_each apart slot l s = grind (arith, nat_tests)
+  one_each apart slot l s = grind arith
 
   -- the same where only some literals get one
   pub one_each_in : first ≢ second → (among : Literal → Bool) (slot l s : ℕ)
       → cond {A = ℕ} (among l && (eqb first l || eqb second l) && eqb s slot) 1 0 ≡
       cond (among first && eqb l first && eqb s slot) 1 0
       + cond (among second && eqb l second && eqb s slot) 1 0
-  one_each_in apart among slot l s = grind (arith, nat_tests)
+  one_each_in apart among slot l s = grind arith
 
   -- an entry of each fits the clause
   pub both_fit : (c : Clause) → 2 ≤ length c → size c ≡ length c → first ≡ get_or c 0 first
@@ -61,5 +59,4 @@ times_has (x ∷ xs) s h = by_test (eqb x s) refl (times_has xs s) h
 
 -- a slot stands in their list where its clause is one
 pub tautology_listed : (live : ℕ → Option Clause) (list : List ℕ) → IsTautologyList live list → (s : ℕ) (c : Clause) → live s ≡ Some c → has list s ≡ is_tautology c
-tautology_listed live list listed s c here =
-    search (rules, arith, tautology_for, both_pass, times_has, has_times)
+tautology_listed live list listed s c here = search (rules, arith, times_has, has_times)

@@ -1,42 +1,38 @@
 -- Entries in lists.
 use Rattle.std.proofs.Common.{rules, ◌≡◌, ℕ, ◌+◌, ◌-◌, ◌<◌, ◌≤◌, ◌&&◌, not, true, Bool, cond, eqb}
-use Rattle.std.proofs.Common.{eq-eqb, List, length, get_or, drop, take, swap_remove, [], ◌∷◌, ◌++◌}
-use Rattle.std.proofs.Common.{ap, arith, slice_get, Some, None}
+use Rattle.std.proofs.Common.{List, length, get_or, drop, take, swap_remove, [], ◌∷◌, ◌++◌, ap}
+use Rattle.std.proofs.Common.{arith, slice_get, Some, None}
 use Rattle.std.proofs.lemmas.List.{drop-take, take-append-drop, take-take}
-use Rattle.std.proofs.lemmas.Option.{none-some, same_Some, slice_get-get_or, slice_get_cases}
-use Rattle.std.proofs.lemmas.List.Sums.{get_or-le-sum_by, sum_by-append, sum_by-cons}
+use Rattle.std.proofs.lemmas.Option.{slice_get-get_or, slice_get_cases}
+use Rattle.std.proofs.lemmas.List.Sums.{get_or-le-sum_by, sum_by-append, sum_by-cons, sum_by_push}
 use Rattle.std.proofs.lemmas.List.Sums.{sum_by-le-sum_by, sum_by-remove, sum_by-swap_remove}
-use Rattle.std.proofs.lemmas.List.Sums.{sum_by_push}
-use Rattle.std.proofs.{lemmas.Bool.Decides.nat_tests, lemmas.Grind.get_or_default_zero}
-use Rattle.std.specs.List.{remove}
+use Rattle.std.{proofs.lemmas.Grind.get_or_default_zero, specs.List.remove}
 use Rattle.cnf_base.specs.Literals.{Clause, has}
 use Rattle.watch_lists.specs.Lists.{entries_of, fits, marked_entries, slot_at, slot_of, times_in}
-use Rattle.watch_lists.specs.Lists.{unfit_entries}
-use Rattle.watch_lists.specs.Code.Lists.{code_of, entries_with}
+use Rattle.watch_lists.specs.{Lists.unfit_entries, Code.Lists.code_of, Code.Lists.entries_with}
 use Rattle.watch_lists.specs.declared.watcher.Watcher.{Watcher}
 
 pub eqb_turned : (a b : ℕ) → eqb a b ≡ eqb b a
-eqb_turned a b = grind (arith, nat_tests)
+eqb_turned a b = grind arith
 
 -- a slot that is taken out
 pub times_taken : (xs : List ℕ) (i s x : ℕ) → i < length xs → get_or xs i 0 ≡ s → x ≡ get_or xs i x → (k : ℕ) → times_in k (swap_remove xs i x) + cond (eqb k s) 1 0 ≡ times_in k xs
 times_taken xs i s x inside read is k =
-    search (rules, arith, get_or_default_zero, sum_by-swap_remove, eqb_turned)
+    search (rules, arith, get_or_default_zero, sum_by-swap_remove)
 
 -- the entry at a place
 pub slot_is : (xs : List Watcher) (i : ℕ) (d : Watcher) → i < length xs → slot_at xs i ≡ (get_or xs i d).slot
 slot_is xs i d inside = ap slot_of (slice_get-get_or xs i d inside)
 
 pub entry_at : (xs : List Watcher) (i : ℕ) (w : Watcher) → slice_get xs i ≡ Some w → (i < length xs) × (w ≡ get_or xs i w)
-entry_at xs i w is = search (rules, arith, slice_get_cases, same_Some, none-some)
+entry_at xs i w is = search (rules, arith, slice_get_cases)
 
 pub entry_past : (xs : List Watcher) (i : ℕ) → slice_get xs i ≡ None → length xs ≤ i
-entry_past xs i none = search (rules, arith, slice_get_cases, none-some)
+entry_past xs i none = search (rules, arith, slice_get_cases)
 
 -- an entry that is taken out
 pub entries_taken : (xs : List Watcher) (i s : ℕ) (d : Watcher) → i < length xs → slot_at xs i ≡ s → (k : ℕ) → entries_of k (swap_remove xs i d) + cond (eqb k s) 1 0 ≡ entries_of k xs
-entries_taken xs i s d inside read k =
-    search (rules, arith, sum_by-swap_remove, slot_is, eqb_turned)
+entries_taken xs i s d inside read k = search (rules, arith, sum_by-swap_remove, slot_is)
 
 -- the same where the others keep their order
 pub entries_removed : (xs : List Watcher) (i s : ℕ) (d : Watcher) → i < length xs → slot_at xs i ≡ s → (k : ℕ) → entries_of k (remove xs i) + cond (eqb k s) 1 0 ≡ entries_of k xs
@@ -73,7 +69,7 @@ unfit_none s l c w fitting = search rules
 
 -- one more that does
 pub unfit_pushed : (xs : List Watcher) (w : Watcher) (s l : ℕ) (c : Clause) → (s ≡ w.slot → fits c l w.blocking w.is_binary ≡ true) → unfit_entries s c l (xs ++ w ∷ []) ≤ unfit_entries s c l xs
-unfit_pushed xs w s l c fitting = search (rules, arith, sum_by_push, unfit_none)
+unfit_pushed xs w s l c fitting = search (rules, arith, sum_by_push)
 
 -- a slot without entries
 pub unfit_absent : (xs : List Watcher) (s l : ℕ) (c : Clause) → entries_of s xs ≡ 0 → unfit_entries s c l xs ≡ 0
@@ -85,4 +81,4 @@ unfit_alike xs s l c d alike as_long = search rules
 
 -- an entry of a list in which all fit
 pub entry_fits : (xs : List Watcher) (i : ℕ) (w : Watcher) (l : ℕ) (c : Clause) → i < length xs → w ≡ get_or xs i w → unfit_entries w.slot c l xs ≡ 0 → fits c l w.blocking w.is_binary ≡ true
-entry_fits xs i w l c inside is none = search (rules, arith, get_or-le-sum_by, eq-eqb)
+entry_fits xs i w l c inside is none = search (rules, arith, get_or-le-sum_by)

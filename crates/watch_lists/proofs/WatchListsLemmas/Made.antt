@@ -1,8 +1,7 @@
 -- The lists of all clauses: one clause more or less.
 use Rattle.std.proofs.Common.{rules, ◌≡◌, ◌≢◌, ℕ, ◌+◌, ◌<◌, Bool, true, false, not, ◌&&◌, cond, eqb}
-use Rattle.std.proofs.Common.{eq-eqb, ne_eqb, Option, Some, None, nat_le, IsSome, length, arith}
-use Rattle.std.proofs.lemmas.Bool.{cases_eq, false≢true}
-use Rattle.std.proofs.lemmas.Option.{none-some, same_Some}
+use Rattle.std.proofs.Common.{Option, Some, None, nat_le, IsSome, length, arith}
+use Rattle.std.specs.FinMap as maps
 use Rattle.std.specs.{Ordering.nat_cmp, FinMap.FinMap}
 use Rattle.cnf_base.specs.Literals.{Clause, size}
 use Rattle.cnf_base.proofs.MapLemmas.{insert_here, insert_other, remove_here, remove_other}
@@ -11,7 +10,6 @@ use Rattle.clause_db.specs.Store.{is_tautology}
 use Rattle.watch_lists.specs.Watched.{AddsFitting, HasAll, HasEntry, is_unit_or_empty, is_unwatched}
 use Rattle.watch_lists.specs.{Lists.entries_in, declared.lists.WatchLists.WatchLists}
 use Rattle.watch_lists.proofs.WatchListsLemmas.Lists.{unfit_absent}
-use Rattle.std.specs.FinMap as maps
 
 pub and_true : (b : Bool) → cond {A = ℕ} (b && true) 1 0 ≡ cond b 1 0
 and_true b = search rules
@@ -39,15 +37,14 @@ module _ (live after : FinMap nat_cmp Clause) (slot : ℕ) (c : Clause) where
     here s e = search (rules, arith, insert_here)
 
     pub added : (f : Option Clause → ℕ) → f None ≡ 0 → (b : Bool) → f (Some c) ≡ cond b 1 0 → (s n : ℕ) → n ≡ f (maps.get live s) → n + cond {A = ℕ} (b && eqb s slot) 1 0 ≡ f (maps.get after s)
-    added f zero b one s n was =
-        search (rules, arith, cases_eq, insert_here, insert_other, eq-eqb, ne_eqb)
+    added f zero b one s n was = search (rules, arith, insert_here, insert_other)
 
     pub low_added : slot < 2147483648 → ((s : ℕ) → IsSome (maps.get live s) → s < 2147483648) → (s : ℕ) → IsSome (maps.get after s) → s < 2147483648
-    low_added low was s there = search (rules, arith, cases_eq, others)
+    low_added low was s there = search (rules, arith, others)
 
     pub all_added : size c ≡ length c → slot < 2147483648 → (lists lists2 : WatchLists) → HasEntry c slot lists2 lists → AddsFitting c slot lists lists2 → entries_in lists2 ≡ entries_in lists + cond (is_unwatched c) 0 2 → HasAll live lists → HasAll after lists2
     all_added different low lists lists2 times fewer entries was =
-        search (rules, arith, sum_insert, added, low_added, cases_eq, unfit_absent, same_Some, here, others)
+        search (rules, arith, sum_insert, unfit_absent, here, others)
 
   module _ (there : maps.get live slot ≡ Some c) (is : after ≡ maps.remove live slot) where
     others_stay : (s : ℕ) → s ≢ slot → maps.get after s ≡ maps.get live s
@@ -57,12 +54,11 @@ module _ (live after : FinMap nat_cmp Clause) (slot : ℕ) (c : Clause) where
     is_gone s e = search (rules, arith, remove_here)
 
     pub removed : (f : Option Clause → ℕ) → f None ≡ 0 → (b : Bool) → f (Some c) ≡ cond b 1 0 → (s n : ℕ) → n + cond {A = ℕ} (b && eqb s slot) 1 0 ≡ f (maps.get live s) → n ≡ f (maps.get after s)
-    removed f zero b one s n was =
-        search (rules, arith, cases_eq, is_gone, eq-eqb, and_true, others_stay, ne_eqb, and_false)
+    removed f zero b one s n was = search (rules, arith, is_gone, others_stay)
 
     pub low_left : ((s : ℕ) → IsSome (maps.get live s) → s < 2147483648) → (s : ℕ) → IsSome (maps.get after s) → s < 2147483648
-    low_left was s alive = search (rules, arith, cases_eq, false≢true, is_gone, others_stay)
+    low_left was s alive = search (rules, arith, others_stay)
 
     pub all_removed : size c ≡ length c → (lists lists2 : WatchLists) → HasEntry c slot lists lists2 → AddsFitting c slot lists lists2 → entries_in lists2 + cond (is_unwatched c) 0 2 ≡ entries_in lists → HasAll live lists → HasAll after lists2
     all_removed different lists lists2 times fewer entries was =
-        search (rules, arith, sum_remove, removed, low_left, cases_eq, none-some, is_gone, others_stay)
+        search (rules, arith, sum_remove, is_gone, others_stay)

@@ -1,17 +1,13 @@
 -- The lists of all clauses, as they are filled part by part.
-use Rattle.std.proofs.Common.{rules, ◌≡◌, ℕ, ◌+◌, ◌<◌, ◌≤◌, Bool, true, false, ◌&&◌, cond}
-use Rattle.std.proofs.Common.{eqb, Some, None, nat_lt, IsSome, [], ◌∷◌, List, length}
-use Rattle.std.proofs.Common.{sum_by, min, refl, ap, ◌∙◌, arith}
-use Rattle.std.proofs.{lemmas.Bool.Decides.nat_tests, lemmas.List.Sums.sum_by-cons}
-use Rattle.std.proofs.lemmas.Option.{same_Some}
+use Rattle.std.proofs.Common.{rules, ◌≡◌, ℕ, ◌+◌, ◌<◌, ◌≤◌, Bool, true, false, ◌&&◌, cond, eqb}
+use Rattle.std.proofs.Common.{Some, None, nat_lt, IsSome, [], ◌∷◌, List, length, sum_by, min, refl}
+use Rattle.std.proofs.{Common.arith, lemmas.List.Sums.sum_by-cons}
 use Rattle.std.specs.{Ordering.nat_cmp, FinMap.FinMap}
 use Rattle.std.specs.FinMap as maps
-use Rattle.cnf_base.specs.Literals.{Literal, Clause, size}
-use Rattle.cnf_base.specs.Maps.{sum_over}
+use Rattle.cnf_base.specs.{Literals.Literal, Literals.Clause, Literals.size, Maps.sum_over}
 use Rattle.cnf_base.proofs.MapLemmas.{sum_alike, sum_bound, sum_empty, sum_insert}
 use Rattle.clause_db.specs.Store.{is_tautology}
-use Rattle.clause_db.proofs.StoreLemmas.Below.{below, below_next, below_none, below_same}
-use Rattle.clause_db.proofs.StoreLemmas.Below.{gone}
+use Rattle.clause_db.proofs.StoreLemmas.Below.{below, below_next, below_none, below_same, gone}
 use Rattle.watch_lists.specs.Lists.{entries_in, entries_of, list_at, unfit_entries}
 use Rattle.watch_lists.specs.Watched.{AddsFitting, HasAll, entries_for, watches}
 use Rattle.watch_lists.specs.Code.Part.{is_in, part_of, watched_in}
@@ -40,14 +36,14 @@ pub record IsFilling (part : Part) (n : ℕ) (live : FinMap nat_cmp Clause)
 
 same_clause : (live : FinMap nat_cmp Clause) (n s : ℕ) (c d : Clause) → maps.get live n ≡ Some c
     → maps.get live s ≡ Some d → s ≡ n → d ≡ c
-same_clause live n s c d here there same = search (rules, same_Some)
+same_clause live n s c d here there same = search rules
 
 no_entries : (b : Bool) (l : Literal) → cond b (entries_for None l) 0 ≡ 0
 no_entries b l = search rules
 
 module _ (part : Part) (live : FinMap nat_cmp Clause) where
   pub filling_none : (lists : WatchLists) → IsFilling part 0 live lists lists
-  filling_none lists = search (rules, arith, below_none, sum_empty, no_entries, maps.get-empty)
+  filling_none lists = search (rules, arith, below_none, sum_empty, maps.get-empty)
 
   one_more : (l : Literal) (c : Clause)
       → cond (is_in part l) (entries_for (Some c) l) 0 ≡ cond (is_in part l && watches c l) 1 0
@@ -68,12 +64,8 @@ module _ (part : Part) (live : FinMap nat_cmp Clause) where
             (λ o. cond (is_in part l) (entries_for o l) 0) (no_entries (is_in part l) l)
             (is_in part l && watches c l) (one_more l c) s _ refl in
             omega (arith, times l s, was.watched l s, more);
-        fitting = λ l s d is.
-            omega (arith, fewer l s d (same_clause live n s c d here is), was.fitting l s d is);
-        entries =
-            let weight = watched_in (is_in part) in
-            let more = ap (sum_over weight) next ∙ sum_insert weight (below n live) n c free in
-            omega (arith, entries, was.entries, more);
+        fitting = grind (arith, same_clause);
+        entries = grind (arith, sum_insert, below);
       }
 
   pub filling_nothing : (n : ℕ) (before lists : WatchLists) → maps.get live n ≡ None
@@ -100,7 +92,7 @@ nothing_before last (a ∷ []) = omega arith
 nothing_before last (a ∷ b ∷ c) = search (rules, arith)
 
 one_part : (x n e : ℕ) → cond (nat_lt x n) e 0 + cond (eqb x n) e 0 ≡ cond (nat_lt x (n + 1)) e 0
-one_part x n e = grind (arith, nat_tests)
+one_part x n e = grind arith
 
 abbrev pub part_at : (last n : ℕ) → Part
 part_at last n = record { number = n; last = last }
@@ -119,7 +111,7 @@ part_watched last n (a ∷ b ∷ c) =
     by_kind false p q r u v w e f = omega (arith, e, f)
 
 last_first : (last x : ℕ) → nat_lt (min x last) (last + 1) ≡ true
-last_first last x = grind (arith, nat_tests)
+last_first last x = grind arith
 
 module _ (last : ℕ) (live : FinMap nat_cmp Clause) where
   pub filled_none : (lists : WatchLists) → ((l : Literal) → list_at lists l ≡ [])
@@ -135,9 +127,7 @@ module _ (last : ℕ) (live : FinMap nat_cmp Clause) where
       → entries_in lists2 ≡ entries_in lists + sum_over (watched_in (is_in (part_at last n))) live
       → AreFilled last n live lists → AreFilled last (n + 1) live lists2
   filled_next n lists lists2 times fewer entries was = record {
-    watched = λ l s.
-        let one = one_part (part_of last l) n (entries_for (maps.get live s) l) in
-        omega (arith, times l s, was.watched l s, one);
+    watched = grind (arith, one_part);
     fitting = λ l s c here. omega (arith, fewer l s c here, was.fitting l s c here);
     entries =
         let both = sum_both (watched_in (is_before last n)) (watched_in (is_in (part_at last n)))
@@ -155,16 +145,10 @@ module _ (last : ℕ) (live : FinMap nat_cmp Clause) where
       → ((s : ℕ) (c : Clause) → maps.get live s ≡ Some c → size c ≡ length c)
       → AreFilled last (last + 1) live lists → HasAll live lists
   filled_all lists low different filled = record {
-    each = record {
-      watched = λ l s. search (rules, filled.watched l s, last_first);
-      low = low;
-      fitting = filled.fitting;
-    };
+    each = grind (arith, last_first);
     two_each =
         let weight : Clause → ℕ = λ c. cond (is_counted c) 1 0 in
         let alike = sum_alike (watched_in (is_before last (last + 1))) (λ c. weight c + weight c)
         live (λ s c here. all_watched c (different s c here)) in
-        let both = sum_both weight weight (λ c. weight c + weight c) (λ c. refl)
-        (maps.values live) in
-        omega (arith, filled.entries, alike, both);
+        grind (arith, sum_both);
   }

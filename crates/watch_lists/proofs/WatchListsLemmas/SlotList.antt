@@ -1,29 +1,26 @@
 -- Slots by their places.
 use Rattle.std.proofs.Common.{rules, ◌≡◌, ℕ, ◌<◌, ◌≤◌, true, false, Option, Some, None, List}
-use Rattle.std.proofs.Common.{length, get_or, eqb, eq-eqb, arith}
-use Rattle.std.proofs.lemmas.Bool.{eqb-true, true≢false}
-use Rattle.std.proofs.lemmas.Option.{none-some, same_Some}
+use Rattle.std.proofs.Common.{length, get_or, eqb, arith}
 use Rattle.cnf_base.specs.Literals.{has}
 use Rattle.watch_lists.specs.Code.SlotList.{IsPlaced}
 use Rattle.cnf_base.proofs.MemberLemmas.{has_place, place_of as place_in}
-use Rattle.cnf_base.proofs.SetLemmas.{both_pass}
 
 module _ (slots : List ℕ) (place_of : ℕ → Option ℕ) (placed : IsPlaced slots place_of) (s : ℕ) (there : has slots s ≡ true) where
   noted_at : (i : ℕ) × (i < length slots) × (get_or slots i 0 ≡ s) × (place_of s ≡ Some i)
   noted_at = search (rules, arith, place_in)
 
   pub placed_none : place_of s ≡ None → ⊥
-  placed_none none = search (rules, arith, noted_at, none-some)
+  placed_none none = search (rules, arith, noted_at)
 
   pub placed_some : (p : ℕ) → place_of s ≡ Some p → (p < length slots) × (get_or slots p 0 ≡ s)
-  placed_some p some = search (rules, arith, same_Some, noted_at)
+  placed_some p some = search (rules, arith, noted_at)
 
 module _ (slots : List ℕ) (place_of : ℕ → Option ℕ) (placed : IsPlaced slots place_of) (s : ℕ) where
   pub absent_none : place_of s ≡ None → false ≡ has slots s
-  absent_none none = search (rules, arith, both_pass, place_in)
+  absent_none none = search (rules, arith, place_in)
 
   pub absent_past : (p : ℕ) → place_of s ≡ Some p → length slots ≤ p → false ≡ has slots s
-  absent_past p some past = search (rules, arith, both_pass, place_in, true≢false)
+  absent_past p some past = search (rules, arith, place_in)
 
   pub there_if : (p : ℕ) → place_of s ≡ Some p → p < length slots → eqb (get_or slots p 0) s ≡ has slots s
-  there_if p some low = search (rules, arith, both_pass, eqb-true, has_place, eq-eqb, placed_some)
+  there_if p some low = search (rules, arith, has_place, placed_some)

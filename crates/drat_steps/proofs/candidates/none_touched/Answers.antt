@@ -1,7 +1,6 @@
 use Rattle.std.proofs.Common.{eqb, eqb-true, take, sym, ap, ◌∙◌, subst, arith, inl, inr}
 use Rattle.std.proofs.lemmas.{Bool.or_cases, List.take_all}
-use Rattle.cnf_base.specs.Literals.{complement, has}
-use Rattle.cnf_base.proofs.WalkLemmas.{has_more}
+use Rattle.cnf_base.{specs.Literals.complement, specs.Literals.has, proofs.WalkLemmas.has_more}
 use Rattle.propagation.specs.Assumptions.{HasAt}
 use Rattle.std.specs.FinMap as maps
 use Rattle.drat_steps.proofs.candidates.none_touched.Goals as goal

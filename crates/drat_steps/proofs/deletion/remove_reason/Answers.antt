@@ -1,8 +1,6 @@
 use Rattle.std.proofs.Common.{◌≡◌, ◌⊎◌, [], true, false, Some, IfOk, ap, ◌∙◌, subst, arith}
-use Rattle.std.specs.Ordering.{nat_cmp}
+use Rattle.std.{specs.Ordering.nat_cmp, specs.FinMap.FinMap, proofs.lemmas.Bool.false≢true}
 use Rattle.std.specs.FinMap as maps
-use Rattle.std.specs.FinMap.{FinMap}
-use Rattle.std.proofs.lemmas.Bool.{false≢true}
 use Rattle.cnf_base.specs.Literals.{Clause}
 use Rattle.theory.specs.Propagation.{Forced, Clash}
 use Rattle.drat_steps.proofs.DratLemmas.Losses.{loses_past_clash, loses_nothing, loses_held}

@@ -1,8 +1,6 @@
-use Rattle.std.proofs.Common.{arith, eqb, eqb-true, take, sym, ◌∙◌, subst}
-use Rattle.std.proofs.Common.{inl, inr}
+use Rattle.std.proofs.Common.{arith, eqb, eqb-true, take, sym, ◌∙◌, subst, inl, inr}
 use Rattle.std.proofs.lemmas.{Bool.or_cases, Bool.false≢true, List.take_all, Option.same_Some}
-use Rattle.cnf_base.specs.Literals.{has}
-use Rattle.cnf_base.proofs.{SetLemmas.same_there, WalkLemmas.has_more}
+use Rattle.cnf_base.{specs.Literals.has, proofs.SetLemmas.same_there, proofs.WalkLemmas.has_more}
 use Rattle.propagation.specs.Assumptions.{assumed_by}
 use Rattle.theory.specs.Propagation.{Forced}
 use Rattle.drat_steps.proofs.DratLemmas.Losses.{not_forced}

@@ -1,8 +1,6 @@
 -- All that the iterator has is collected.
-use Rattle.std.proofs.Common.{refl, rules}
-use Rattle.std.specs.Vec.Iter.{into_iter_items}
-use Rattle.std.proofs.lemmas.Iterator.{items_from_collect}
-use Rattle.std.proofs.lemmas.Iterator.Adapters.{YieldsList-from_vec}
+use Rattle.std.{proofs.Common.refl, proofs.Common.rules, specs.Vec.Iter.into_iter_items}
+use Rattle.std.proofs.lemmas.Iterator.{items_from_collect, Adapters.YieldsList-from_vec}
 use Rattle.filter_io.proofs.words.collected.Goals as goal
 
 pub returns : goal.returns

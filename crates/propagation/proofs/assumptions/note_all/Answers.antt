@@ -1,16 +1,10 @@
-use Rattle.std.proofs.{Common.refl, Common.sym, Common.◌∙◌, lemmas.List.take_all}
-use Rattle.trail.specs.Numbers.{number_at}
-use Rattle.propagation.proofs.PropagationLemmas.Levels.{noted_none, noted_next, noted_past}
-use Rattle.propagation.proofs.PropagationLemmas.Levels.{noted_whole}
-use Rattle.propagation.proofs.assumptions.note_all.Goals.{then-keeps_literal, else-keeps_literal}
+use Rattle.std.proofs.{Common.arith, Common.sym, Common.◌∙◌, lemmas.List.take_all}
+use Rattle.propagation.proofs.PropagationLemmas.Levels.{noted_next, noted_past, noted_whole}
 use Rattle.propagation.proofs.assumptions.note_all.Goals as goal
+use Rattle.propagation.proofs.assumptions.note_all.Goals.{then-keeps_literal, else-keeps_literal}
 
 pub loop-l-init : goal.loop-l-init
-loop-l-init g c = record {
-  notes = noted_none c.args.first c.args.number c.args.clause.now (g.P.Part.keeps c.args.part.now)
-      (number_at c.args.numbers.now) (number_at c.args.numbers.now);
-  known = λ v. refl;
-}
+loop-l-init g c = grind arith
 
 pub loop-l-preserved : goal.loop-l-preserved
 loop-l-preserved g c =
@@ -23,11 +17,7 @@ loop-l-preserved g c =
             notes = noted_next _ _ _ keeps _ _ c.loop-l.l-index c.loop-l-test.true x c.l-item.is so_far.notes _ _ w.var.ensures.value e.other e.old e.new (sym c.keeps_literal.ensures ∙ w.if-keeps_literal.true);
             known = λ v. e.known v ∙ so_far.known v;
           })
-      | else-keeps_literal w ↦
-          rw w.numbers-is (record {
-            notes = noted_past _ _ _ keeps _ _ c.loop-l.l-index c.loop-l-test.true x c.l-item.is so_far.notes (sym c.keeps_literal.ensures ∙ w.if-keeps_literal.false);
-            known = so_far.known;
-          })
+      | else-keeps_literal w ↦ grind (arith, noted_past)
     ]
 
 pub returns-clause-notes : goal.returns-clause-notes

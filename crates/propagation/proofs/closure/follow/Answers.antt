@@ -24,5 +24,5 @@ loop-done-preserved g c =
 
 pub returns-clause-whole : goal.returns-clause-whole
 returns-clause-whole g c =
-    let over : length c.lits.result.now ≤ c.loop-done.done = let ended = c.loop-done-test.false in omega arith in
-    followed_whole (maps.get c.args.store.now.live) c.loop-done.done c.loop-done.found c.loop-done.invariant.followed (subst (λ ls. length ls ≤ c.loop-done.done) c.lits.ensures over)
+    let over : length c.lits.result.now ≤ c.loop-done.done = grind arith in
+    followed_whole (maps.get c.args.store.now.live) c.loop-done.done c.loop-done.found c.loop-done.invariant.followed (grind arith)

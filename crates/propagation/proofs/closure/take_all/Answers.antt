@@ -1,4 +1,4 @@
-use Rattle.std.proofs.Common.{sym}
+use Rattle.std.proofs.Common.{arith, sym}
 use Rattle.std.specs.FinMap as maps
 use Rattle.propagation.proofs.PropagationLemmas.Closing.{all_none, all_taken, follows_forced}
 use Rattle.propagation.proofs.PropagationLemmas.Exact.{begins_on, longer_from}
@@ -19,5 +19,5 @@ loop-number-preserved g c =
             begins = begins_on before now after so_far.begins (longer_from before now so_far.begins) e.begins;
             takes = all_taken live before now n so_far.takes after so_far.begins e.begins d w.in-Some.ensures e.takes;
           })
-      | in_default w ↦ rw (w.found-is) (record { sound = so_far.sound; begins = so_far.begins; takes = all_none live before now n so_far.takes w.in_default.ensures })
+      | in_default w ↦ grind (arith, all_none)
     ]

@@ -1,25 +1,23 @@
-use Rattle.std.proofs.Common.{rules, ◌≡◌, [], ◌++◌, filter, take, length, sym, ◌∙◌, ap, subst}
+use Rattle.std.proofs.Common.{◌≡◌, [], ◌++◌, filter, take, length, sym, ◌∙◌, ap, subst, arith}
+use Rattle.std.specs.FinMap as maps
 use Rattle.std.specs.Bool.{OnFalse}
 use Rattle.cnf_base.specs.Literals.{complements, has}
 use Rattle.propagation.specs.{Assumptions.assumed_by, Code.Exact.IsExact}
 use Rattle.theory.specs.Sets.{SameSet}
-use Rattle.propagation.proofs.PropagationLemmas.Scan.{assumed_none, no_roots, part_clashes}
-use Rattle.propagation.proofs.PropagationLemmas.Scan.{part_answer, part_exact, scan_after}
+use Rattle.propagation.proofs.PropagationLemmas.Scan.{no_roots, part_clashes, part_answer}
+use Rattle.propagation.proofs.PropagationLemmas.Scan.{part_exact, scan_after}
 use Rattle.propagation.proofs.PropagationLemmas.Exact.{begins_on, longer_from}
-use Rattle.std.specs.FinMap as maps
 use Rattle.propagation.proofs.scan.assume_part.Goals as goal
 
 pub returns-in_err-assume-clause-assumed : goal.returns-in_err-assume-clause-assumed
-returns-in_err-assume-clause-assumed g c =
-    assumed_none _ c.args.assumptions.now _ _ c.from_residual.result (search rules)
-    (ap (λ h. h.assumptions) c.in_err-assume.ensures.err)
+returns-in_err-assume-clause-assumed g c = grind arith
 
 pub returns-then-branch-clause-assumed : goal.returns-then-branch-clause-assumed
 returns-then-branch-clause-assumed g c =
     let live = c.args.store.now.live in
     let e = c.in_ok-assume.ensures in record {
       answer = part_clashes live (λ ls. ls ≡ []) (no_roots (maps.get live)) c.args.assumptions.now c.assume.new.self (complements (filter (g.P.Part.keeps c.args.part.now) c.args.clause.now)) c.requires.may c.requires.scan (sym e.conflict ∙ c.if-branch.true);
-      stands = record { all = e.assumed.0; stands = e.assumed.1; same = λ quiet. absurd (let wrong : ⊥ = cc in wrong) };
+      stands = grind arith;
       stays = tt;
     }
 

@@ -1,10 +1,10 @@
-use Rattle.std.proofs.Common.{rules, ◌≡◌, Some, sym, ap, ◌∙◌}
+use Rattle.std.proofs.Common.{rules, ◌≡◌, Some, sym, ap, ◌∙◌, arith}
+use Rattle.std.specs.FinMap as maps
 use Rattle.tables.specs.Filled.{at}
 use Rattle.cnf_base.specs.Literals.{complement, has}
-use Rattle.root_literals.proofs.RootLemmas.Doubts.{left_false, left_unit, met_by}
+use Rattle.root_literals.proofs.RootLemmas.Doubts.{left_false, left_unit}
 use Rattle.root_literals.proofs.RootLemmas.Propagated.{clashes, propagates_unit}
 use Rattle.root_literals.proofs.RootLemmas.{Carried.room_for, Units.set_by}
-use Rattle.std.specs.FinMap as maps
 use Rattle.root_literals.proofs.doubts.look.Goals as goal
 
 pub set_by-requires-clause-reserved : goal.set_by-requires-clause-reserved
@@ -24,17 +24,10 @@ set_by-requires-clause-noted c =
     (room_for c.requires c.args.slot d here c.in-One.l (left_unit c.trail-2.result.now.lits d c.in-One.l c.in-One.ensures).0).1
 
 pub returns-in-Nothing-clause-looked : goal.returns-in-Nothing-clause-looked
-returns-in-Nothing-clause-looked c =
-    let d = c.in-Some.clause.now in
-    let here : maps.get c.args.store.now.live c.args.slot ≡ Some d = search rules in
-    clashes c.args.store.now.live c.args.assumptions.now c.args.slot d here (λ k h. ap (λ t. has t.lits (complement k)) (sym c.trail-2.ensures) ∙ left_false c.trail-2.result.now.lits d c.in-Nothing.ensures k h)
+returns-in-Nothing-clause-looked c = grind (arith, clashes, left_false)
 
 pub returns-in-One-clause-looked : goal.returns-in-One-clause-looked
-returns-in-One-clause-looked c s among clause is l _ =
-    let d = c.in-Some.clause.now in let m = c.in-One.l in
-    let here : maps.get c.args.store.now.live c.args.slot ≡ Some d = search rules in
-    let e = c.set_by.ensures in let after = c.set_by.new.assumptions.trail.lits in
-    met_by (maps.get c.args.store.now.live) c.args.slot d here m (left_unit c.trail-2.result.now.lits d m c.in-One.ensures).0 after (set_by c.args.assumptions.now.trail.lits after m c.set_by.result e.was_open e.lits) s among clause is l
+returns-in-One-clause-looked c s among clause is l _ = search (rules, left_unit, set_by)
 
 pub returns-in-One-clause-propagates : goal.returns-in-One-clause-propagates
 returns-in-One-clause-propagates c =

@@ -1,18 +1,16 @@
-use Rattle.std.proofs.{lemmas.List.take_all, Common.ap, Common.◌∙◌}
+use Rattle.std.proofs.{Common.rules, lemmas.List.take_all, Common.ap, Common.◌∙◌}
+use Rattle.std.specs.FinMap as maps
 use Rattle.tables.specs.Filled.{at}
 use Rattle.cnf_base.specs.Literals.{has}
 use Rattle.trail.proofs.TrailLemmas.Longer.{has_begun}
 use Rattle.root_literals.specs.Code.Propagated.{PropagatesTo}
 use Rattle.root_literals.proofs.RootLemmas.{Propagated.propagates_on, Doubts.settled_more}
-use Rattle.root_literals.proofs.doubts.look_at.Goals.{After-look}
-use Rattle.std.specs.FinMap as maps
 use Rattle.root_literals.proofs.doubts.look_at.Goals as goal
+use Rattle.root_literals.proofs.doubts.look_at.Goals.{After-look}
 
 -- with what the looks before made true
 all-propagates : (c : After-look) → PropagatesTo c.args.store.now.live c.args.store.now.live c.args.assumptions.now c.look.new.assumptions (at c.args.reasons.now) (at c.look.new.reasons)
-all-propagates c =
-    let live = c.args.store.now.live in
-    propagates_on live live live c.args.assumptions.now c.loop-place.assumptions c.look.new.assumptions (at c.args.reasons.now) (at c.loop-place.reasons) (at c.look.new.reasons) c.loop-place.invariant.propagates c.look.ensures.propagates
+all-propagates c = search (rules, propagates_on)
 
 pub loop-place-preserved : goal.loop-place-preserved
 loop-place-preserved c =

@@ -1,7 +1,7 @@
 use Rattle.std.proofs.Common.{take}
+use Rattle.std.specs.FinMap as maps
 use Rattle.tables.specs.Filled.{at}
 use Rattle.root_literals.specs.Code.{Propagated.PropagatesTo, Doubts.AreSettled}
-use Rattle.std.specs.FinMap as maps
 use Rattle.root_literals.proofs.doubts.look_at.Given as goal
 
 abbrev pub invariant-loop-place : goal.invariant-loop-place

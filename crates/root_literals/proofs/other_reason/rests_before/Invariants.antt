@@ -1,5 +1,4 @@
-use Rattle.std.proofs.Common.{◌≡◌, ◌≢◌, true, take}
-use Rattle.std.specs.Prelude.{slice_index}
+use Rattle.std.proofs.Common.{◌≡◌, ◌≢◌, true, take, slice_index}
 use Rattle.cnf_base.specs.Literals.{Literal, complement, has}
 use Rattle.root_literals.proofs.other_reason.rests_before.Given as goal
 

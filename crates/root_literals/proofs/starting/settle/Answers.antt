@@ -1,13 +1,11 @@
-use Rattle.std.proofs.Common.{◌≡◌, length, inl, inr, refl, ap, subst, arith}
-use Rattle.root_literals.specs.{History.IsRewound, Roots.has_clash, Code.Doubts.AreSettled}
-use Rattle.root_literals.proofs.RootLemmas.History.{rewound_none}
-use Rattle.root_literals.proofs.RootLemmas.Grown.{kept_settled, settled_all}
+use Rattle.std.proofs.Common.{inr, refl, ap, subst, arith, rules}
 use Rattle.std.specs.FinMap as maps
+use Rattle.root_literals.specs.{Roots.has_clash, Code.Doubts.AreSettled}
+use Rattle.root_literals.proofs.RootLemmas.Grown.{kept_settled, settled_all}
 use Rattle.root_literals.proofs.starting.settle.Goals as goal
 
 pub returns-in-Settled-clause-kept : goal.returns-in-Settled-clause-kept
-returns-in-Settled-clause-kept c =
-    kept_settled c.args.store.now.live c.args.assumptions.now c.look_at.new.assumptions c.args.roots.now _ c.look_at.ensures.propagates c.requires.kept c.requires.cut refl refl refl
+returns-in-Settled-clause-kept c = search (rules, kept_settled)
 
 pub returns-in-Settled-clause-sure : goal.returns-in-Settled-clause-sure
 returns-in-Settled-clause-sure c =
@@ -16,8 +14,7 @@ returns-in-Settled-clause-sure c =
     (subst (λ xs. AreSettled (maps.get c.args.store.now.live) xs x.trail.lits y.trail.lits) c.as_slice-slots.ensures.value c.in-Settled.ensures.looked)
 
 pub returns-in-Clash-clause-kept : goal.returns-in-Clash-clause-kept
-returns-in-Clash-clause-kept c =
-    kept_settled c.args.store.now.live c.args.assumptions.now c.look_at.new.assumptions c.args.roots.now _ c.look_at.ensures.propagates c.requires.kept c.requires.cut refl refl refl
+returns-in-Clash-clause-kept c = search (rules, kept_settled)
 
 pub returns-in-Settled-clause-begun : goal.returns-in-Settled-clause-begun
 returns-in-Settled-clause-begun c = inr (refl, c.look_at.ensures.propagates.extends.begins)
@@ -26,7 +23,4 @@ pub returns-in-Clash-clause-begun : goal.returns-in-Clash-clause-begun
 returns-in-Clash-clause-begun c = inr (refl, c.look_at.ensures.propagates.extends.begins)
 
 pub returns-in-Open-clause-begun : goal.returns-in-Open-clause-begun
-returns-in-Open-clause-begun c =
-    let fewer = c.cut.ensures.fewer in
-    let zero : length c.cut.new.assumptions.trail.lits ≡ 0 = omega (arith, fewer) in
-    inl (rewound_none (subst (IsRewound c.args.roots.now.history c.cut.new.self.history) zero c.cut.ensures.history))
+returns-in-Open-clause-begun c = grind arith

@@ -1,33 +1,23 @@
 -- The formula was loaded, or it has a fault.
+use Rattle.std.proofs.Common.{arith, [], sym, ◌∙◌, ◌≡◌}
 use Rattle.cnf_base.proofs.SeenLemmas.{seen_is_some}
 use Rattle.cnf_base.proofs.StreamLemmas.{Along-map, Along-none}
-use Rattle.{cnf_base.specs.declared.fault.Fault.Fault, dimacs.specs.Formula.formula_of}
 use Rattle.report.specs.declared.status.Status.TheVariants.{Malformed, OutOfMemory as NoMemory}
 use Rattle.sat_check.proofs.{CheckLemmas.LeavesProof-fault, OutcomeLemmas.no_verdict}
 use Rattle.sat_check.proofs.ReportLemmas.{err_report, reports_checked}
-use Rattle.sat_check.specs.Code.Checking.{LeavesProof}
-use Rattle.std.proofs.Common.{Option, [], subst, sym, ◌∙◌, ◌≡◌}
 use Rattle.theory.specs.Rules.{rule_of}
 use Rattle.sat_check.proofs.check.check.Goals as goal
 
 pub check_loaded-requires-clause-loaded : goal.check_loaded-requires-clause-loaded
 check_loaded-requires-clause-loaded g c = let loads = c.in-Ok.ensures.loads in
     let some = seen_is_some _ _ loads.seen in
-    (rule_of (g.S.ProofSession.shown c.args.session.now).state, (formula_of some.0).clauses, (loads.fact some.0 some.1).0.2)
+    grind arith
 
 pub returns-in-Ok-clause-report : goal.returns-in-Ok-clause-report
 returns-in-Ok-clause-report g c =
     let rule = rule_of (g.S.ProofSession.shown c.args.session.now).state in (
       c.in-Ok.ensures.loads.seen,
-      Along-map _ _ _ _ c.check_loaded.ensures.report (λ j k m x i s.
-          let loaded = c.in-Ok.ensures.loads.fact i s in
-          let l = loaded.0 in
-          let y = x rule (formula_of i).clauses l.2 in
-          let P : Option Fault → Type 0 = λ f. LeavesProof rule f (formula_of i).clauses (g.R.StepReader.to_come c.args.reader.now j) (g.R.StepReader.stream c.args.reader.now).reader (g.R.StepReader.stream c.check_loaded.new.reader).reader k c.check_loaded.result in (
-            record { report = y.0; reports = reports_checked rule c.args.trace (formula_of i) _ _ y.0 l.0 l.1 y.1; outcome = y.2 },
-            subst P (sym l.1) y.3,
-            loaded.1,
-          )),
+      Along-map _ _ _ _ c.check_loaded.ensures.report (grind (arith, reports_checked, c.in-Ok.ensures.loads.fact)),
     )
 
 pub returns-in-Err-clause-report : goal.returns-in-Err-clause-report

@@ -1,13 +1,13 @@
 -- The formula's line broke off, a clause is empty, or the proof is checked.
+use Rattle.std.proofs.Common.{arith, None, ap, rules, sym, ◌∙◌, ◌≡◌}
 use Rattle.cnf_base.proofs.StreamLemmas.{Along-map, Along-none}
 use Rattle.report.specs.Lines.{formula_line, steps_line}
 use Rattle.report.specs.declared.status.Status.TheVariants.{Malformed, Verified}
-use Rattle.sat_check.proofs.CheckLemmas.{LeavesProof-broken, LeavesProof-checked, LeavesProof-empty}
-use Rattle.sat_check.proofs.CheckLemmas.{TellsFault-none, concluded_not, cut_short_not}
+use Rattle.sat_check.proofs.CheckLemmas.{LeavesProof-checked, LeavesProof-empty, TellsFault-none}
+use Rattle.sat_check.proofs.CheckLemmas.{concluded_not, cut_short_not}
 use Rattle.sat_check.proofs.OutcomeLemmas.{Outcome-line, no_verdict}
 use Rattle.sat_check.proofs.ReportLemmas.{checks_rest, checks_some, loaded_finite, loaded_least}
 use Rattle.sat_check.{proofs.ReportLemmas.verified_report, specs.declared.checked.Checked.Checked}
-use Rattle.std.proofs.Common.{None, [], ap, rules, sym, ◌∙◌, ◌≡◌}
 use Rattle.sat_check.proofs.check.check_loaded.Goals as goal
 
 pub returns-in-Err-clause-report : goal.returns-in-Err-clause-report
@@ -16,10 +16,8 @@ returns-in-Err-clause-report g c = Along-map _ _ _ _ (Along-none _) (λ j k m sa
     let stopped = c.in-Err.ensures.stopped (formula_line c.args.header) in (
       _,
       some.1,
-      rw c.without_step.ensures (stopped some.0 c.formula_line.ensures),
-      LeavesProof-broken rule None clauses _ _ k c.without_step.result (search rules) (search rules)
-          (TellsFault-none None _ c.without_step.result (search rules) (λ m. cut_short_not _ c.in-Err.ensures.cut_short (sym (ap (λ (x : Checked). x.status) c.without_step.ensures) ∙ m)))
-          (rw c.without_step.ensures (no_verdict _ _ _ _ (stopped (record { lines = []; status = Malformed }) c.formula_line.ensures))),
+      grind arith,
+      grind (arith, cut_short_not, no_verdict),
     ))
 
 pub returns-then-verified-clause-report : goal.returns-then-verified-clause-report

@@ -1,16 +1,14 @@
 -- Want of memory, or the check in the form that was asked for.
+use Rattle.std.proofs.Common.{ap, refl, rules, sym, arith}
 use Rattle.proofs.specs.{Binary.binary_steps, Code.Binary.binary_to_come, Code.Drat.drat_to_come}
 use Rattle.proofs.specs.Drat.{drat_steps}
 use Rattle.sat_check.proofs.CheckLemmas.{reports_as, reports_run, runs_nothing}
 use Rattle.sat_check.{proofs.FormulaLemmas.unused, specs.Report.drat_proof, specs.Report.rules_of}
-use Rattle.std.proofs.Common.{ap, refl, rules, sym}
 use Rattle.{steps.specs.Session.view_of, theory.specs.Rules.drat, theory.specs.Rules.rule_of}
 use Rattle.sat_check.proofs.drat.check_with.Goals as goal
 
 pub returns-in_default : goal.returns-in_default
-returns-in_default g c =
-    runs_nothing (drat (rules_of c.args.options)) c.args.options.trace (drat_proof c.args.options.binary) _ _ _ c.without_step.result c.args.lines.now c.give_up.new.lines refl
-    (rw (c.without_step.ensures, c.give_up.ensures.status) refl) c.give_up.ensures.outcome c.give_up.ensures.writer
+returns-in_default g c = grind (arith, runs_nothing)
 
 pub check-checked-requires-clause-unused : goal.check-checked-requires-clause-unused
 check-checked-requires-clause-unused g c = unused (drat (rules_of c.args.options)) c.args.session.now c.requires.fresh

@@ -1,9 +1,9 @@
 -- A clause is met, it is the first that isn't, none is left, or there is a fault.
-use Rattle.sat_check.proofs.ModelLemmas.{Judging-clause, Judging-done, Judging-fault}
-use Rattle.sat_check.proofs.FormulaLemmas.{clause_told}
-use Rattle.sat_check.proofs.ModelLemmas.{Judging-start, Judging-unmet}
-use Rattle.{sat_check.specs.ModelReport.meets, std.proofs.Common.false}
+use Rattle.std.proofs.Common.{arith, rules}
 use Rattle.std.{proofs.Common.rules, proofs.Common.true, proofs.Common.◌≡◌, specs.Prelude.Ok}
+use Rattle.sat_check.proofs.ModelLemmas.{Judging-clause, Judging-done, Judging-fault, Judging-start}
+use Rattle.sat_check.proofs.{ModelLemmas.Judging-unmet, FormulaLemmas.clause_told}
+use Rattle.{sat_check.specs.ModelReport.meets, std.proofs.Common.false}
 use Rattle.sat_check.proofs.judge.judge_clauses.Goals as goal
 
 pub loop-clause-init : goal.loop-clause-init
@@ -16,10 +16,10 @@ returns-then-not-meets-clause-judges g c =
 
 pub loop-clause-preserved : goal.loop-clause-preserved
 loop-clause-preserved g c =
-    Judging-clause _ _ _ c.next.new.self _ c.loop-clause.invariant c.next.new.clause (clause_told c.loop-clause.reader c.next.new.self _ (Ok true) _ c.next.ensures.clause (search rules)) (search rules) (search rules) (search rules)
+    Judging-clause _ _ _ c.next.new.self _ c.loop-clause.invariant c.next.new.clause (grind (arith, clause_told)) (search rules) (search rules) (search rules)
 
 pub returns-clause-judges : goal.returns-clause-judges
-returns-clause-judges g c = Judging-done _ _ _ c.next.new.self _ c.loop-clause.invariant c.next.new.clause (clause_told c.loop-clause.reader c.next.new.self _ (Ok false) _ c.next.ensures.clause (search rules))
+returns-clause-judges g c = Judging-done _ _ _ c.next.new.self _ c.loop-clause.invariant c.next.new.clause (grind (arith, clause_told))
 
 pub returns-in_err-next-clause-judges : goal.returns-in_err-next-clause-judges
 returns-in_err-next-clause-judges g c = Judging-fault _ _ _ c.next.new.self _ c.loop-clause.invariant c.next.new.clause c.in_err-next.field-0.0 c.from_residual.result (search rules) c.in_err-next.ensures.clause

@@ -1,4 +1,5 @@
 -- What was seen of the formula.
+use Rattle.std.proofs.Common.{arith, rules}
 use Rattle.sat_check.proofs.FormulaLemmas.{loads_body, loads_body_fault, loads_fault, loads_refused}
 use Rattle.{std.proofs.Common.refl, std.proofs.Common.rules, theory.specs.Rules.rule_of}
 use Rattle.sat_check.proofs.load.load.Goals as goal
@@ -17,4 +18,4 @@ returns-in_err-loaded-in-Ok-clause-loads g c =
 
 pub returns-in-Err-clause-loads : goal.returns-in-Err-clause-loads
 returns-in-Err-clause-loads g c = let last = c.in-Err.ensures.refused in
-    loads_fault (rule_of (g.S.ProofSession.shown c.args.session.now).state) (g.S.ProofSession.shown c.args.session.now) _ _ _ c.over.ensures c.in-Err.refused.0 last.0 _ (search rules) last.2
+    loads_fault (grind arith) (g.S.ProofSession.shown c.args.session.now) _ _ _ c.over.ensures c.in-Err.refused.0 last.0 _ (search rules) last.2

@@ -1,7 +1,8 @@
 -- A clause is input, until the last one or a fault.
+use Rattle.std.proofs.Common.{arith, rules}
 use Rattle.sat_check.proofs.FormulaLemmas.{Loading-clause, Loading-done, Loading-fault}
 use Rattle.sat_check.proofs.FormulaLemmas.{Loading-refused, Loading-start, clause_told, loaded_more}
-use Rattle.std.{proofs.Common.false, proofs.Common.rules, proofs.Common.true, specs.Prelude.Ok}
+use Rattle.std.{proofs.Common.false, proofs.Common.rules, specs.Prelude.Ok}
 use Rattle.sat_check.proofs.load.load_clauses.Goals as goal
 
 pub loop-clause-init : goal.loop-clause-init
@@ -9,12 +10,12 @@ loop-clause-init g c = search (rules, Loading-start)
 
 pub returns-then-is_err-clause-loads : goal.returns-then-is_err-clause-loads
 returns-then-is_err-clause-loads g c =
-    Loading-refused _ _ _ c.next.new.self _ c.loop-clause.invariant (g.S.ProofSession.shown c.input.new.self) c.next.new.clause (clause_told c.loop-clause.reader c.next.new.self _ (Ok true) _ c.next.ensures.clause (search rules))
+    Loading-refused _ _ _ c.next.new.self _ c.loop-clause.invariant (g.S.ProofSession.shown c.input.new.self) c.next.new.clause (grind (arith, clause_told))
 
 pub loop-clause-preserved : goal.loop-clause-preserved
 loop-clause-preserved g c = let old = g.S.ProofSession.shown c.loop-clause.session in
     let new = g.S.ProofSession.shown c.input.new.self in
-    Loading-clause _ _ _ c.next.new.self _ c.loop-clause.invariant _ c.next.new.clause (clause_told c.loop-clause.reader c.next.new.self _ (Ok true) _ c.next.ensures.clause (search rules))
+    Loading-clause _ _ _ c.next.new.self _ c.loop-clause.invariant _ c.next.new.clause (grind (arith, clause_told))
     (loaded_more _ old new _ _ c.loop-clause.invariant.loaded (search rules) (search rules) (search rules) (search rules)
     (search rules) (search rules) (search rules)) (search rules) (search rules)
 

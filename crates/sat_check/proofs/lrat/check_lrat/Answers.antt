@@ -1,8 +1,8 @@
 -- Want of memory, or the check.
+use Rattle.std.proofs.Common.{arith, refl, rules}
 use Rattle.proofs.specs.{Code.Lrat.lrat_to_come, Lrat.lrat_steps}
 use Rattle.sat_check.proofs.CheckLemmas.{reports_as, reports_run, runs_nothing}
 use Rattle.sat_check.proofs.FormulaLemmas.{unused}
-use Rattle.std.proofs.Common.{ap, refl, rules}
 use Rattle.{steps.specs.Session.view_of, theory.specs.Rules.lrat, theory.specs.Rules.rule_of}
 use Rattle.sat_check.proofs.lrat.check_lrat.Goals as goal
 
@@ -17,7 +17,7 @@ check-checked-requires-clause-unused g c = unused lrat c.args.session.now c.requ
 pub returns : goal.returns
 returns g c = let rule = rule_of (view_of c.args.session.now).state in
     record {
-      report = reports_as rule lrat c.args.trace lrat_steps lrat_steps _ _ _ _ c.check-checked.result c.args.lines.now c.check-checked.new.lines (ap (λ s. rule_of (view_of s).state) c.requires.fresh) (λ j. refl)
+      report = reports_as rule lrat c.args.trace lrat_steps lrat_steps _ _ _ _ c.check-checked.result c.args.lines.now c.check-checked.new.lines (grind arith) (λ j. refl)
           (reports_run rule c.args.trace lrat_to_come lrat_steps _ _ _ _ c.over.result _ _ c.check-checked.result c.args.lines.now c.check-checked.new.lines c.over.ensures (search rules) (λ j. refl)
           c.new-reader.result c.new-reader.ensures c.check-checked.ensures.report.0 c.check-checked.ensures.report.1);
       read_failed = search rules;

@@ -1,10 +1,9 @@
 -- The formula was judged, or it has a fault.
+use Rattle.std.proofs.Common.{arith, None, ap, rules, subst, sym, ◌∙◌}
 use Rattle.dimacs.specs.Formula.{formula_of}
-use Rattle.report.specs.declared.status.Status.TheVariants.{Malformed, OutOfMemory as NoMemory}
-use Rattle.sat_check.proofs.{CheckLemmas.TellsFault-none, ModelLemmas.fault_unmet}
+use Rattle.sat_check.proofs.{CheckLemmas.TellsFault-none}
 use Rattle.sat_check.proofs.ModelLemmas.{formula_fault, formula_tells, judged_as, judged_unmet}
 use Rattle.sat_check.specs.{Report.Outcome, Report.Report, declared.checked.Checked.Checked}
-use Rattle.std.proofs.Common.{None, ap, rules, subst, sym, ◌∙◌, ◌≡◌}
 use Rattle.sat_check.proofs.model.check_formula.Goals as goal
 
 pub returns-in-Ok-clause-report : goal.returns-in-Ok-clause-report
@@ -30,11 +29,8 @@ returns-in-Err-clause-report g c = let judges = c.in-Err.ensures.judges in
       fact = λ i seen. (
         rw status (formula_fault c.break_off-status.result c.args.lines.now c.break_off-status.new.lines c.args.model.now c.in-Err.fault (formula_of i) (judges.fact i seen).0 (c.break_off-status.ensures.memory, c.break_off-status.ensures.told)),
         (judges.fact i seen).1,
-        formula_tells (formula_of i) c.by_fault.result c.by_fault.ensures.no_clause (λ not. c.by_fault.ensures.only (λ m. not (status ∙ m))) c.args.model.now c.in-Err.fault (judges.fact i seen).0
-            (λ is m. let bad : NoMemory ≡ Malformed = sym (c.break_off-status.ensures.gave_up is) ∙ (sym status ∙ m) in cc)
-            (λ m. c.by_fault.ensures.malformed (sym status ∙ m)),
-        λ room. c.by_fault.ensures.no_clause ∙ sym (fault_unmet c.args.model.now c.in-Err.fault (formula_of i) (judges.fact i seen).0
-            (λ is. room (status ∙ c.break_off-status.ensures.gave_up is))),
+        grind (arith, formula_tells),
+        grind arith,
         (judges.fact i seen).2,
       );
     }

@@ -1,5 +1,5 @@
 -- The formula is checked, or the output has a fault.
-use Rattle.std.proofs.Common.{◌∙◌, subst, sym, codes}
+use Rattle.std.proofs.Common.{arith, ◌∙◌, sym, codes}
 use Rattle.cnf_base.proofs.SeenLemmas.{Seen-nothing}
 use Rattle.dimacs.specs.{Claim.claim_of, Formula.formula_of}
 use Rattle.sat_check.specs.Report.{Report, Outcome}
@@ -16,8 +16,8 @@ returns-in-Ok-clause-report g c = let checked = c.check_formula.ensures.report i
       first = checked.seen;
       second = claims.seen;
       fact = λ i j s t. (
-        subst P (claimed_report c.in-Ok.model (claim_of j) (formula_of i) (claims.fact j t)) (checked.fact i s).0,
-        λ is. claimed_consistent c.in-Ok.model (claim_of j) (claims.fact j t) c.in-Ok.ensures.consistent,
+        grind (arith, claimed_report),
+        grind (arith, claimed_consistent),
         formula_needed c.in-Ok.model (claim_of j) i _ _ (claims.fact j t) (checked.fact i s).1 (checked.fact i s).4,
         claimed_tells c.in-Ok.model (claim_of j) (formula_of i) c.check_formula.result (claims.fact j t) (checked.fact i s).2 (checked.fact i s).3,
       );

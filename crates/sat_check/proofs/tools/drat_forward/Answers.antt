@@ -1,4 +1,5 @@
 -- The options are those that the words ask for.
+use Rattle.std.proofs.Common.{arith}
 use Rattle.sat_check.proofs.SoundLemmas.{drat_reported}
 use Rattle.sat_check.proofs.TheoremLemmas.{drat_read, shows_steps, shows_unsatisfiable}
 use Rattle.sat_check.specs.{Report.drat_proof, Report.rules_of, Runs.IsDratProof}
@@ -11,8 +12,7 @@ returns-clause-runs g c = rw c.of-options.ensures at c.run_drat_kept-session.ens
 pub returns-clause-unsatisfiable : goal.returns-clause-unsatisfiable
 returns-clause-unsatisfiable g c = let options = c.of-options.result in
     shows_unsatisfiable (drat (rules_of options)) options.trace (drat_proof options.binary)
-    _ _ _ _ _ _ _ _ c.run_drat_kept-session.ensures.checks (λ i j x.
-    drat_reported (rules_of options) options.trace i (drat_proof options.binary j) _ _ _ x.0.reports)
+    _ _ _ _ _ _ _ _ c.run_drat_kept-session.ensures.checks (grind (arith, drat_reported))
 
 pub returns-clause-steps_verify : goal.returns-clause-steps_verify
 returns-clause-steps_verify g c = let options = c.of-options.result in

@@ -1,17 +1,16 @@
-use Rattle.std.proofs.Common.{◌≡◌, Err, sym, ◌∙◌, subst, rules}
+use Rattle.std.proofs.Common.{arith, ◌≡◌, Err, ◌∙◌, subst, rules}
+use Rattle.std.specs.FinMap as maps
 use Rattle.cnf_base.specs.Literals.{complements}
 use Rattle.theory.specs.Answers.{StepAnswer, UnlessOutOfMemory}
 use Rattle.theory.specs.Lrat.{AnswersChain, chain, groups_of, units_of}
-use Rattle.steps.specs.Code.Ready.{IsReady}
 use Rattle.steps.proofs.LratLemmas.{Ending.chain_never, Rooms.ready_with}
 use Rattle.steps.proofs.lrat.take_addition.Goals as goal
-use Rattle.std.specs.FinMap as maps
 
 pub returns-clause-ready : goal.returns-clause-ready
 returns-clause-ready c =
     let trues = c.judge.new.trues in let held = c.judge.new.held in
     ready_with trues (maps.get held.live) (maps.get c.add.new.self.live) c.id-id.result c.args.lits.now c.in_ok-add.ensures.live
-    (subst (λ held. IsReady (maps.get held.live) trues) (sym c.judge.ensures.same) c.judge.ensures.ready)
+    (grind arith)
     c.in_ok-word.ensures.room
 
 pub returns-in_err-word-clause-never_ended : goal.returns-in_err-word-clause-never_ended

@@ -1,9 +1,9 @@
-use Rattle.std.proofs.Common.{◌⊎◌, ◌↔◌, IfOk, OnOk, IsTrue, sym, ap, ◌∙◌, subst}
+use Rattle.std.proofs.Common.{◌⊎◌, ◌↔◌, IfOk, IsTrue, sym, ◌∙◌, subst, arith}
 use Rattle.theory.specs.{Answers.UnlessOutOfMemory, Losses.StepLoses}
 use Rattle.theory.specs.Rules.{Answers, Same, after}
-use Rattle.steps.specs.Code.Naming.{answer_with, names_after, named_state, with_lits, AreAllAmong}
-use Rattle.steps.specs.{Code.Naming.IsGiven, Session.state_of}
-use Rattle.steps.proofs.NamingLemmas.Steps.{Steps, steps, lost_named, ok_named}
+use Rattle.steps.specs.Code.Naming.{answer_with, named_state, with_lits}
+use Rattle.steps.specs.{Session.state_of}
+use Rattle.steps.proofs.NamingLemmas.Steps.{Steps, steps, lost_named}
 use Rattle.steps.proofs.named.step_numbered.Given.{Over}
 use Rattle.steps.proofs.named.step_numbered.Goals as goal
 
@@ -14,17 +14,15 @@ module _ (g : Over) (c : goal.After-with_pivot g) where
   shown : all
   shown =
       steps c.args.numbering.now c.number_step.new.numbering (g.J.Judge.held c.args.judge.now) (g.J.Judge.held c.step-answer.new.self) 0 c.args.lits.now c.as_slice.result.now c.args.step.now c.step-answer.result c.requires.named.given
-      (c.in_ok-number_step.ensures.names ∙ ap (λ kind. names_after kind c.args.numbering.now c.args.lits.now) c.kind.ensures)
-      (c.as_slice.ensures.value ∙ c.in_ok-number_step.ensures.literals) c.step-answer.ensures.answers c.step-answer.ensures.state
+      (grind arith)
+      (grind arith) c.step-answer.ensures.answers c.step-answer.ensures.state
 
 pub returns-clause-answers : goal.returns-clause-answers
 returns-clause-answers g c =
     subst (λ a. UnlessOutOfMemory a (Answers (named_state c.args.numbering.now (g.J.Judge.held c.args.judge.now)) (with_lits c.args.lits.now c.args.step.now) a)) (sym c.with_pivot.ensures) (shown g c).answers
 
 pub returns-clause-given : goal.returns-clause-given
-returns-clause-given g c =
-    subst (λ a. OnOk a (AreAllAmong (IsGiven c.number_step.new.numbering) (state_of (g.J.Judge.held c.step-answer.new.self)))) (sym c.with_pivot.ensures)
-    (ok_named c.args.lits.now c.step-answer.result _ (shown g c).given)
+returns-clause-given g c = grind (arith, shown)
 
 pub returns-clause-state : goal.returns-clause-state
 returns-clause-state g c =

@@ -1,16 +1,14 @@
-use Rattle.std.proofs.Common.{◌<◌, length, get_or, sym, ap, ◌∙◌, subst}
-use Rattle.std.proofs.lemmas.Grind.{get_or_default_zero}
-use Rattle.std.proofs.lemmas.Option.{same_Some}
-use Rattle.root_literals.specs.Roots.{IsBrought}
+use Rattle.std.proofs.Common.{arith, sym, ◌∙◌, subst}
+use Rattle.std.proofs.lemmas.{Grind.get_or_default_zero, Option.same_Some}
+use Rattle.root_literals.{specs.Roots.IsBrought, proofs.RootLemmas.Order.alive_clause}
 use Rattle.watch.proofs.WatchLemmas.Arrange.{arranged_more, arranged_nothing, arranged_one}
 use Rattle.watch.proofs.WatchLemmas.Arrange.{one_inside}
-use Rattle.root_literals.proofs.RootLemmas.Order.{alive_clause}
 use Rattle.watch.proofs.arrange.put_non_false_first.Goals as goal
 
 pub returns-then-not-bring-clause-arranged : goal.returns-then-not-bring-clause-arranged
 returns-then-not-bring-clause-arranged c clause there =
     let d = c.bring.ensures.brought clause there in
-    (d.0, d.1, d.2.alike, arranged_nothing c.args.trail.now.lits clause d.0 (subst (IsBrought c.args.trail.now.lits clause d.0 0) c.if-not-bring.true d.2))
+    grind (arith, arranged_nothing)
 
 pub returns-then-is_more-clause-arranged : goal.returns-then-is_more-clause-arranged
 returns-then-is_more-clause-arranged c clause there =
@@ -22,12 +20,7 @@ returns-then-is_more-clause-arranged c clause there =
 pub bounds-clause-0 : goal.bounds-clause-0
 bounds-clause-0 c =
     let trues = c.args.trail.now.lits in
-    let w = alive_clause c.args.store.now.live c.args.slot c.requires.alive in
-    let d = c.bring.ensures.brought w.0 w.1 in
-    let e = c.bring-is_more.ensures.brought d.0 d.1 in
-    let same = same_Some e.0 c.clause-else-is_more.result.now (sym e.1 ∙ sym c.clause-else-is_more.ensures.clause) in
-    subst (λ x. 0 < length x) same
-    (one_inside trues w.0 d.0 e.0 (subst (IsBrought trues w.0 d.0 0) c.if-not-bring.false d.2) (subst (IsBrought trues d.0 e.0 1) c.if-is_more.false e.2))
+    grind (arith, alive_clause, same_Some, one_inside)
 
 pub returns-else-is_more-clause-arranged : goal.returns-else-is_more-clause-arranged
 returns-else-is_more-clause-arranged c clause there =
@@ -35,4 +28,4 @@ returns-else-is_more-clause-arranged c clause there =
     let d = c.bring.ensures.brought clause there in
     let e = c.bring-is_more.ensures.brought d.0 d.1 in
     let same = same_Some e.0 c.clause-else-is_more.result.now (sym e.1 ∙ sym c.clause-else-is_more.ensures.clause) in
-    (e.0, e.1, λ l. e.2.alike l ∙ d.2.alike l, arranged_one trues clause d.0 e.0 (subst (IsBrought trues clause d.0 0) c.if-not-bring.false d.2) (subst (IsBrought trues d.0 e.0 1) c.if-is_more.false e.2) c.index-clause-0.result (ap (λ x. get_or x 0 0) same ∙ sym (c.index-clause-0.is ∙ get_or_default_zero c.clause-else-is_more.result.now 0 c.index-clause-0.result (subst (λ x. 0 < length x) same (one_inside trues clause d.0 e.0 (subst (IsBrought trues clause d.0 0) c.if-not-bring.false d.2) (subst (IsBrought trues d.0 e.0 1) c.if-is_more.false e.2))))))
+    (e.0, e.1, λ l. e.2.alike l ∙ d.2.alike l, arranged_one trues clause d.0 e.0 (grind arith) (grind arith) c.index-clause-0.result (grind (arith, get_or_default_zero, one_inside)))

@@ -1,21 +1,20 @@
-use Rattle.std.proofs.Common.{rules, [], refl, drop, filter, take, length, sym, ◌∙◌, ap}
+use Rattle.std.proofs.Common.{arith, rules, [], refl, filter, take, length, sym, ◌∙◌, ap}
+use Rattle.std.proofs.lemmas.Bool.{false≢true}
 use Rattle.std.specs.FinMap as maps
 use Rattle.cnf_base.specs.Literals.{complements, has}
-use Rattle.propagation.specs.Assumptions.{roots_in}
-use Rattle.root_literals.specs.Order.{each_in_order}
-use Rattle.propagation.specs.Code.Closure.{AreForced}
-use Rattle.watch.specs.Code.ClauseSource.{clause_of}
+use Rattle.propagation.specs.{Assumptions.roots_in, Code.Closure.AreForced}
 use Rattle.propagation.proofs.PropagationLemmas.Scan.{assumed_none, part_clashes, part_answer}
 use Rattle.propagation.proofs.PropagationLemmas.Scan.{part_exact, scan_after}
 use Rattle.propagation.proofs.PropagationLemmas.Exact.{begins_on, longer_from}
-use Rattle.theory.proofs.PropagationLemmas.Forced.{clash_through}
+use Rattle.root_literals.specs.Order.{each_in_order}
 use Rattle.root_literals.proofs.RootLemmas.Carried.{kept_clash, kept_forced}
-use Rattle.std.proofs.lemmas.Bool.{false≢true}
+use Rattle.watch.specs.Code.ClauseSource.{clause_of}
 use Rattle.watch.proofs.WatchLemmas.State.{watch_answered, watch_undone}
+use Rattle.theory.proofs.PropagationLemmas.Forced.{clash_through}
 use Rattle.watch.proofs.assume.assume_part.Goals as goal
 
 pub returns-in_err-assume_from-clause-assumed : goal.returns-in_err-assume_from-clause-assumed
-returns-in_err-assume_from-clause-assumed g c = assumed_none _ c.args.assumptions.now _ _ c.from_residual.result (search rules) (ap (λ h. h.assumptions) c.in_err-assume_from.ensures.err)
+returns-in_err-assume_from-clause-assumed g c = assumed_none _ c.args.assumptions.now _ _ c.from_residual.result (search rules) (grind arith)
 
 pub returns-then-branch-clause-assumed : goal.returns-then-branch-clause-assumed
 returns-then-branch-clause-assumed g c =
@@ -24,7 +23,7 @@ returns-then-branch-clause-assumed g c =
     let e = c.in_ok-assume_from.ensures in record {
       answer = part_clashes (each_in_order live) (AreForced (maps.get (each_in_order live))) (λ ls forced. forced) held c.assume_from.new.assumptions (complements (filter (g.P.Part.keeps c.args.part.now) (clause_of live c.args.source.now)))
           c.requires.may c.requires.watch.scan (sym e.conflict ∙ c.if-branch.true);
-      stands = record { all = e.assumed.0; stands = e.assumed.1; same = λ quiet. absurd (let wrong : ⊥ = cc in wrong) };
+      stands = grind arith;
       stays = tt;
     }
 
@@ -83,7 +82,7 @@ returns-in-Err g c =
     let f = c.in-Err.ensures.followed in
     let extends = f.propagates.extends in
     let u = c.undo.ensures in record {
-      assumed = record { answer = tt; stands = tt; stays = u.assumptions ∙ ap (drop 1) (extends.assumptions ∙ e.assumed.1) };
+      assumed = grind arith;
       watch =
           watch_undone c.args.store.now.live c.run.new.store.live c.args.lists.now c.run.new.lists c.args.units.now c.args.roots.now _ c.args.assumptions.now c.assume_from.new.assumptions c.run.new.assumptions c.requires.watch f.propagates refl f.listed f.entries e.begins
           c.undo.new.self _ (extends.assumptions ∙ e.assumed.1) (extends.starts ∙ e.starts) u.assumptions u.starts u.lits (λ v. u.reserved v ∙ extends.reserved v ∙ e.reserved v);

@@ -1,3 +1,4 @@
+use Rattle.std.proofs.Common.{arith}
 use Rattle.watch.proofs.WatchLemmas.Shown.{closure_held, closure_shown}
 use Rattle.watch.proofs.clauses.remove_clause.Goals as goal
 
@@ -6,4 +7,4 @@ leave-requires-clause-closure c = closure_held c.args.store.now.live c.args.clos
 
 pub returns-clause-closure : goal.returns-clause-closure
 returns-clause-closure c =
-    simp c.remove.ensures.live (closure_shown _ c.leave.new.self c.leave.ensures.closure)
+    simp c.remove.ensures.live (grind (arith, closure_shown))

@@ -1,9 +1,8 @@
-use Rattle.std.proofs.Common.{[], cond, eq-eqb, length, ◌+◌, refl, ap, ◌∙◌}
+use Rattle.std.proofs.Common.{arith, [], cond, eq-eqb, refl, ap, ◌∙◌}
 use Rattle.std.specs.FinMap as maps
-use Rattle.watch_lists.specs.Lists.{entries_in, list_at}
-use Rattle.watch.specs.Code.Visits.{with_list}
+use Rattle.watch_lists.specs.Lists.{list_at}
+use Rattle.watch.{specs.Code.Visits.with_list, proofs.WatchLemmas.Visited.followed_none}
 use Rattle.watch.proofs.WatchLemmas.Follow.{none_met, hand_taken, listed_alike}
-use Rattle.watch.proofs.WatchLemmas.Visited.{followed_none}
 use Rattle.watch.proofs.follow.follow.Goals as goal
 
 pub visit_all-found-requires : goal.visit_all-found-requires
@@ -36,12 +35,4 @@ returns-then-not-has_list-clause-followed c = followed_none c.requires.can
 pub returns-clause-followed : goal.returns-clause-followed
 returns-clause-followed c =
     let visited = c.visit_all-found.ensures.visited in
-    let l = c.args.l in
-    let list = c.into_list.result.items in
-    let same = c.into_list.ensures in record {
-      listed =
-          listed_alike (maps.get c.visit_all-found.new.store.live) (with_list c.visit_all-found.new.lists l list) (list_at c.put_back.new.self)
-          c.put_back.ensures.lists (simp same visited.hand.listed);
-      entries = c.put_back.ensures.entries ∙ ap (λ xs. entries_in c.visit_all-found.new.lists + length xs) same ∙ visited.entries ∙ ap (λ xs. entries_in c.take_out.new.self + length xs) c.over-cursor.ensures.entries ∙ c.take_out.ensures.entries;
-      propagates = visited.propagates;
-    }
+    grind (arith, listed_alike)

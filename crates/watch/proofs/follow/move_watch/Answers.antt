@@ -1,25 +1,20 @@
 use Rattle.std.proofs.Common.{◌+◌, ◌++◌, ◌∷◌, [], cond, eqb, false, ne_eqb, refl, ap, ◌∙◌}
-use Rattle.std.proofs.Common.{length, arith}
-use Rattle.std.specs.List.{remove, swap}
-use Rattle.std.specs.FinMap as maps
+use Rattle.std.{proofs.Common.length, proofs.Common.arith, specs.List.remove, specs.List.swap}
 use Rattle.std.proofs.lemmas.List.Edits.{length-remove, length-swap}
+use Rattle.std.specs.FinMap as maps
 use Rattle.clause_db.proofs.StoreLemmas.Swap.{has_swapped}
-use Rattle.cnf_base.proofs.MapLemmas.{insert_other}
-use Rattle.cnf_base.specs.Literals.{Literal}
-use Rattle.watch_lists.specs.Lists.{list_at}
-use Rattle.watch.specs.Code.Visits.{IsInHand, with_list}
-use Rattle.watch_lists.specs.declared.watcher.Watcher.{Watcher}
-use Rattle.watch.proofs.WatchLemmas.Follow.{same_cursor, listed_alike}
+use Rattle.cnf_base.{proofs.MapLemmas.insert_other, specs.Literals.Literal}
+use Rattle.watch_lists.specs.{Lists.list_at, declared.watcher.Watcher.Watcher}
 use Rattle.watch_lists.proofs.WatchListsLemmas.Lists.{entries_removed, unfit_removed}
-use Rattle.watch.proofs.WatchLemmas.Visits.{longer_fits}
+use Rattle.watch.specs.Code.Visits.{IsInHand, with_list}
+use Rattle.watch.proofs.WatchLemmas.{Follow.same_cursor, Follow.listed_alike, Visits.longer_fits}
 use Rattle.watch.proofs.WatchLemmas.Moves.{entries_moved, exchanged_back, listed_moved}
 use Rattle.watch.proofs.WatchLemmas.Moves.{places_apart, times_moved, unfit_moved}
-use Rattle.root_literals.proofs.RootLemmas.Propagated.{propagates_on}
 use Rattle.watch.proofs.WatchLemmas.Reordered.{exchange_member, second_inside, to_inside}
 use Rattle.watch.proofs.WatchLemmas.Reordered.{exchanged, moved, moved_there, propagates_moved}
-use Rattle.watch.proofs.WatchLemmas.Reordered.{turned_at, turned_clause}
-use Rattle.watch.proofs.WatchLemmas.Reordered.{turned_listed, turned_live}
+use Rattle.watch.proofs.WatchLemmas.Reordered.{turned_at, turned_clause, turned_listed, turned_live}
 use Rattle.watch.proofs.WatchLemmas.Reordered.{turned_propagates}
+use Rattle.root_literals.proofs.RootLemmas.Propagated.{propagates_on}
 use Rattle.watch.proofs.follow.move_watch.Goals as goal
 
 pub rewatch-requires : goal.rewatch-requires

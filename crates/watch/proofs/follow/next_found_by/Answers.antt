@@ -1,4 +1,4 @@
-use Rattle.std.proofs.Common.{None, [], refl, sym, ◌∙◌, arith}
+use Rattle.std.proofs.Common.{None, [], refl, ◌∙◌, arith}
 use Rattle.watch.proofs.WatchLemmas.Visited.{room_for_blocking, visited_none, visited_on}
 use Rattle.watch_lists.proofs.WatchListsLemmas.Lists.{entry_past}
 use Rattle.watch.proofs.follow.next_found_by.Goals as goal
@@ -12,12 +12,7 @@ next_unblocked-requires g c = room_for_blocking c.loop-entry.invariant.can
 pub visit-requires-clause-can : goal.visit-requires-clause-can
 visit-requires-clause-can g c =
     let so_far = c.loop-entry.invariant.can in
-    let e = c.next_unblocked.ensures in record {
-      room = so_far.room;
-      hand = simp e.entries so_far.hand;
-      is_false = so_far.is_false;
-      met = e.met c.loop-entry.store.live c.loop-entry.lists c.args.l so_far.hand so_far.met;
-    }
+    grind arith
 
 pub returns-in_err-found-clause-visited : goal.returns-in_err-found-clause-visited
 returns-in_err-found-clause-visited g c held reason_of same =
@@ -34,26 +29,17 @@ loop-entry-preserved g c =
     let trail = g.A.Assignment.trail_of c.args.assignment.now in
     let so_far = c.loop-entry.invariant in
     let visited = c.visit.ensures.visited (record { trail = trail; assumptions = []; starts = [] }) (λ _. None) refl in record {
-      can = record {
-        room = simp visited.propagates.same so_far.can.room;
-        hand = visited.hand;
-        is_false = so_far.can.is_false;
-        met = c.in_ok-found.ensures.met;
-      };
+      can = grind arith;
       visited = λ held reason_of same. visited_on (so_far.visited held reason_of same)
           (simp c.next_unblocked.ensures.entries at (c.visit.ensures.visited held reason_of same));
-      no_more =
-          let fewer = simp c.in_default-2.is at c.in_ok-found.ensures.fewer in
-          let passed = c.next_unblocked.ensures.no_more in
-          let earlier = so_far.no_more in
-          omega (arith, fewer, passed, earlier);
+      no_more = grind arith;
       slots = c.visit.ensures.slots ∙ so_far.slots;
     }
 
 pub returns-clause-found : goal.returns-clause-found
 returns-clause-found g c =
     let cursor = c.next_unblocked.new.cursor in
-    entry_past cursor.entries cursor.visited (sym c.next_unblocked.ensures.next ∙ c.in_default.is)
+    grind (arith, entry_past)
 
 pub returns-clause-visited : goal.returns-clause-visited
 returns-clause-visited g c held reason_of same =

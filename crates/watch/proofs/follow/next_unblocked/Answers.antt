@@ -1,6 +1,5 @@
 use Rattle.std.proofs.Common.{refl, sym, ap, ◌∙◌, arith}
-use Rattle.std.proofs.lemmas.Bool.{and_parts}
-use Rattle.std.proofs.lemmas.Option.{same_Some}
+use Rattle.std.proofs.lemmas.{Bool.and_parts, Option.same_Some}
 use Rattle.cnf_base.specs.Literals.{has}
 use Rattle.watch.proofs.WatchLemmas.Follow.{kept_fewer, kept_met, put_same}
 use Rattle.watch.proofs.WatchLemmas.Visited.{next_entry}

@@ -8,8 +8,8 @@ use Rattle.watch.proofs.follow.propagate.Goals as goal
 
 pub follow-requires-clause-is_false : goal.follow-requires-clause-is_false
 follow-requires-clause-is_false c =
-    let inside : c.loop-done.done < length c.loop-done.assumptions.trail.lits = let low = c.loop-done-test.true in let n = c.len.ensures.value ∙ ap (λ t. length t.lits) c.trail.ensures in omega arith in
-    false_at c.loop-done.assumptions.trail.lits inside (c.lits.ensures.value ∙ ap (λ t. t.lits) c.trail-in-loop-done.ensures) c.index-lits-done.is c.neg-l.ensures
+    let inside : c.loop-done.done < length c.loop-done.assumptions.trail.lits = grind arith in
+    grind (arith, false_at)
 
 pub follow-requires-clause-can : goal.follow-requires-clause-can
 follow-requires-clause-can c = can_follow_on c.requires.can c.loop-done.invariant.followed
@@ -26,8 +26,7 @@ returns-in-Some-clause-followed c = followed_on c.loop-done.invariant.followed c
 pub loop-done-smaller : goal.loop-done-smaller
 loop-done-smaller c =
     let fits = fits_on c.loop-done.invariant.followed.propagates c.trail.ensures c.len.ensures.different c.len.ensures.within in
-    let inside : c.loop-done.done < length c.loop-done.assumptions.trail.lits = let low = c.loop-done-test.true in let n = c.len.ensures.value ∙ ap (λ t. length t.lits) c.trail.ensures in omega arith in
-    omega (arith, fits, inside)
+    grind arith
 
 pub loop-done-preserved : goal.loop-done-preserved
 loop-done-preserved c =

@@ -1,18 +1,15 @@
-use Rattle.std.proofs.Common.{set, length, refl, sym, ap, ◌∙◌, ◌+◌}
+use Rattle.std.proofs.Common.{arith, set, length, refl, sym, ap, ◌∙◌, ◌+◌}
+use Rattle.std.proofs.lemmas.{List.length-set, Option.same_Some}
 use Rattle.std.specs.FinMap as maps
-use Rattle.std.proofs.lemmas.List.{length-set}
-use Rattle.std.proofs.lemmas.Option.{same_Some}
 use Rattle.cnf_base.specs.Literals.{has}
 use Rattle.watch_lists.specs.Lists.{entries_in, fits, list_at}
 use Rattle.watch_lists.specs.declared.watcher.Watcher.{Watcher}
 use Rattle.watch_lists.proofs.WatchListsLemmas.Watched.{watched_apart}
-use Rattle.watch.proofs.WatchLemmas.Visits.{kept_fits}
-use Rattle.watch.proofs.WatchLemmas.Follow.{kept_fewer, kept_met, taken_fewer, taken_met}
-use Rattle.watch.proofs.WatchLemmas.Follow.{front_apart}
-use Rattle.root_literals.proofs.RootLemmas.Propagated.{propagates_none}
 use Rattle.watch_lists.proofs.WatchListsLemmas.Lists.{entry_at, slot_is}
-use Rattle.watch.proofs.WatchLemmas.Moves.{listed_written}
+use Rattle.watch.proofs.WatchLemmas.{Visits.kept_fits, Follow.front_apart, Moves.listed_written}
+use Rattle.watch.proofs.WatchLemmas.Follow.{kept_fewer, kept_met, taken_fewer, taken_met}
 use Rattle.watch.proofs.WatchLemmas.Visited.{found_at, next_entry, visited_none}
+use Rattle.root_literals.proofs.RootLemmas.Propagated.{propagates_none}
 use Rattle.watch.proofs.follow.visit.Goals as goal
 
 pub look_at-requires-clause-entry : goal.look_at-requires-clause-entry
@@ -22,22 +19,22 @@ pub move_watch-requires-clause-next : goal.move_watch-requires-clause-next
 move_watch-requires-clause-next g c =
     let cursor = c.args.cursor.now in
     let e = entry_at cursor.entries cursor.visited c.args.entry c.requires.next in
-    (e.0, slot_is cursor.entries cursor.visited c.args.entry e.0 ∙ ap (λ x. x.slot) (sym e.1) ∙ sym c.slot.ensures.value)
+    grind (arith, slot_is)
 
 pub move_watch-requires-clause-exchange : goal.move_watch-requires-clause-exchange
 move_watch-requires-clause-exchange g c =
     let w = next_entry c.args.cursor.now c.args.entry c.requires.next c.requires.can.hand in
-    record { clause = w.clause; at = ap (maps.get c.args.store.now.live) c.slot.ensures.value ∙ w.at; different = c.in-Moves.ensures.unrepeated w.clause w.at; apart = watched_apart w.clause c.args.l w.watched; exchange = (c.in-Moves.ensures.visit w.clause w.at).0 }
+    grind (arith, watched_apart)
 
 pub returns-in_ok-move_watch-in-Moves-clause-visited : goal.returns-in_ok-move_watch-in-Moves-clause-visited
 returns-in_ok-move_watch-in-Moves-clause-visited g c held reason_of same =
     let w = next_entry c.args.cursor.now c.args.entry c.requires.next c.requires.can.hand in
-    c.move_watch.ensures.visited held reason_of (simp same (c.in-Moves.ensures.visit w.clause w.at).1)
+    c.move_watch.ensures.visited held reason_of (grind arith)
 
 pub returns-in_err-move_watch-in-Moves-clause-visited : goal.returns-in_err-move_watch-in-Moves-clause-visited
 returns-in_err-move_watch-in-Moves-clause-visited g c held reason_of same =
     let w = next_entry c.args.cursor.now c.args.entry c.requires.next c.requires.can.hand in
-    c.move_watch.ensures.visited held reason_of (simp same (c.in-Moves.ensures.visit w.clause w.at).1)
+    c.move_watch.ensures.visited held reason_of (grind arith)
 
 pub returns-in_ok-move_watch-in-Moves-clause-met : goal.returns-in_ok-move_watch-in-Moves-clause-met
 returns-in_ok-move_watch-in-Moves-clause-met g c =
@@ -53,7 +50,7 @@ pub returns-in_ok-move_watch-in-Moves-clause-fewer : goal.returns-in_ok-move_wat
 returns-in_ok-move_watch-in-Moves-clause-fewer g c =
     let cursor = c.args.cursor.now in
     let e = entry_at cursor.entries cursor.visited c.args.entry c.requires.next in
-    taken_fewer cursor c.move_watch.new.cursor e.0 c.in_ok-move_watch-in-Moves.ensures.taken
+    grind (arith, taken_fewer)
 
 pub keep-requires : goal.keep-requires
 keep-requires g c = let cursor = c.args.cursor.now in (entry_at cursor.entries cursor.visited c.args.entry c.requires.next).0

@@ -1,23 +1,21 @@
 use Rattle.std.proofs.Common.{◌&&◌, cond, eqb, Some, length, refl, sym, ap, ◌∙◌, ◌+◌, arith}
-use Rattle.std.specs.FinMap as maps
 use Rattle.std.proofs.lemmas.Option.{same_Some}
+use Rattle.std.specs.FinMap as maps
 use Rattle.tables.specs.Filled.{at}
 use Rattle.cnf_base.specs.Literals.{has}
 use Rattle.watch_lists.specs.Lists.{entries_in, list_at}
-use Rattle.watch.proofs.WatchLemmas.Follow.{kept_fewer, kept_met, put_same, all_met, in_list}
-use Rattle.watch.proofs.WatchLemmas.Follow.{none_before}
-use Rattle.root_literals.proofs.RootLemmas.Propagated.{clashes, propagates_unit}
-use Rattle.watch.proofs.WatchLemmas.Visited.{can_visit_on, found_next, room_found, visited_none}
-use Rattle.watch.proofs.WatchLemmas.Visited.{visited_on}
-use Rattle.watch.proofs.WatchLemmas.Visits.{made_true}
-use Rattle.trail.proofs.TrailLemmas.Longer.{has_begun}
 use Rattle.watch_lists.proofs.WatchListsLemmas.Lists.{entry_at}
+use Rattle.watch.proofs.WatchLemmas.Follow.{kept_fewer, kept_met, put_same, all_met, in_list}
+use Rattle.watch.proofs.WatchLemmas.{Follow.none_before, Visited.visited_on, Visits.made_true}
+use Rattle.watch.proofs.WatchLemmas.Visited.{can_visit_on, found_next, room_found, visited_none}
+use Rattle.root_literals.proofs.RootLemmas.Propagated.{clashes, propagates_unit}
+use Rattle.trail.proofs.TrailLemmas.Longer.{has_begun}
 use Rattle.watch.proofs.follow.visit_all.Goals as goal
 
 pub loop-at-init : goal.loop-at-init
 loop-at-init c = record {
   visited = visited_none c.args.assumptions.now (at c.args.reasons.now) c.requires.can.hand;
-  met = λ s some. absurd (none_before c.args.cursor.now.entries c.args.cursor.now.visited s c.requires.front some);
+  met = grind (arith, none_before);
   slots = refl;
 }
 
@@ -25,10 +23,10 @@ pub next_found-requires : goal.next_found-requires
 next_found-requires c =
     let visited = c.loop-at.invariant.visited in
     let can = can_visit_on c.requires.can visited in
-    simp c.trail.ensures (record { room = can.can_set.room; hand = visited.hand; is_false = can.is_false; met = c.loop-at.invariant.met })
+    grind arith
 
 pub returns-in_err-at-clause-visited : goal.returns-in_err-at-clause-visited
-returns-in_err-at-clause-visited c = visited_on c.loop-at.invariant.visited (c.next_found.ensures.visited c.loop-at.assumptions (at c.loop-at.reasons) (sym c.trail.ensures))
+returns-in_err-at-clause-visited c = visited_on c.loop-at.invariant.visited (grind arith)
 
 pub set_by-requires-clause-reserved : goal.set_by-requires-clause-reserved
 set_by-requires-clause-reserved c =
@@ -93,10 +91,10 @@ returns-in-Clash-clause-clash c =
     simp c.slot-in-Clash.ensures.value (clashes live held _ f.clause f.at f.holds)
 
 pub returns-in-Clash-clause-visited : goal.returns-in-Clash-clause-visited
-returns-in-Clash-clause-visited c = visited_on c.loop-at.invariant.visited (c.next_found.ensures.visited c.loop-at.assumptions (at c.loop-at.reasons) (sym c.trail.ensures))
+returns-in-Clash-clause-visited c = visited_on c.loop-at.invariant.visited (grind arith)
 
 pub returns-clause-visited : goal.returns-clause-visited
-returns-clause-visited c = visited_on c.loop-at.invariant.visited (c.next_found.ensures.visited c.loop-at.assumptions (at c.loop-at.reasons) (sym c.trail.ensures))
+returns-clause-visited c = visited_on c.loop-at.invariant.visited (grind arith)
 
 pub returns-clause-met : goal.returns-clause-met
 returns-clause-met c =

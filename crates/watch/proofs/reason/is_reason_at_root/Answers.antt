@@ -1,4 +1,4 @@
-use Rattle.std.proofs.Common.{sym, ap, ◌∙◌, subst}
+use Rattle.std.proofs.Common.{arith, sym, ap, ◌∙◌, subst}
 use Rattle.std.specs.FinMap as maps
 use Rattle.std.proofs.lemmas.Option.{same_Some}
 use Rattle.cnf_base.specs.Literals.{has}
@@ -23,8 +23,8 @@ returns-clause-yes c is_reason clause at =
     let here = c.clause-clause.ensures.clause in
     subst (IsRootReason (maps.get live)) (same_Some kept clause (here ∙ at))
     (reason_left (maps.get live) c.trail-trail.result.now.lits c.args.slot kept (sym here)
-    (λ l h. forced_held live l (kept_forced live c.args.roots.now lits c.requires.kept l (ap (λ t. has t.lits l) (sym c.trail-trail.ensures) ∙ h)))
-    (sym (c.is_one_at_most.ensures ∙ ap (λ left. is_one_at_most left kept) c.left.ensures) ∙ is_reason))
+    (grind (arith, forced_held, kept_forced))
+    (grind arith))
 
 pub returns-clause-no : goal.returns-clause-no
 returns-clause-no c is_none clause at =

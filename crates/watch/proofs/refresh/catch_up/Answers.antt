@@ -1,16 +1,12 @@
 use Rattle.std.proofs.Common.{◌≡◌, ◌+◌, ◌<◌, ◌≤◌, ◌∷◌, [], length, take, ℕ, refl, sym, ap, ◌∙◌}
 use Rattle.std.proofs.Common.{arith}
+use Rattle.std.proofs.lemmas.{Bool.true≢false, List.length-append, List.take_all}
 use Rattle.std.specs.FinMap as maps
-use Rattle.std.proofs.lemmas.Bool.{true≢false}
-use Rattle.std.proofs.lemmas.List.{length-append, take_all}
 use Rattle.tables.specs.Filled.{at}
-use Rattle.root_literals.specs.History.{IsHistory, sure_of, visits}
-use Rattle.root_literals.specs.Roots.{has_clash}
+use Rattle.root_literals.specs.{History.IsHistory, History.sure_of, History.visits, Roots.has_clash}
 use Rattle.root_literals.proofs.RootLemmas.Grown.{begun_again, history_grown, kept_grown}
-use Rattle.root_literals.proofs.RootLemmas.Grown.{visited_more}
-use Rattle.root_literals.proofs.RootLemmas.Closed.{units_kept}
-use Rattle.root_literals.proofs.RootLemmas.History.{history_begun}
-use Rattle.root_literals.proofs.RootLemmas.Watched.{watched_all}
+use Rattle.root_literals.proofs.RootLemmas.{Grown.visited_more, Closed.units_kept}
+use Rattle.root_literals.proofs.RootLemmas.{History.history_begun, Watched.watched_all}
 use Rattle.watch.proofs.WatchLemmas.Visited.{can_follow_on, false_at, fits_on, followed_none}
 use Rattle.watch.proofs.WatchLemmas.Visited.{followed_on, read_at}
 use Rattle.watch.proofs.refresh.catch_up.Goals as goal
@@ -35,8 +31,8 @@ loop-done-init c =
 
 pub follow-requires-clause-is_false : goal.follow-requires-clause-is_false
 follow-requires-clause-is_false c =
-    let inside : c.loop-done.done < length c.loop-done.assumptions.trail.lits = let low = c.loop-done-test.true in let n = c.len.ensures.value ∙ ap (λ t. length t.lits) c.trail.ensures in omega arith in
-    false_at c.loop-done.assumptions.trail.lits inside (c.lits.ensures.value ∙ ap (λ t. t.lits) c.trail-in-loop-done.ensures) c.index-lits-done.is c.neg-l.ensures
+    let inside : c.loop-done.done < length c.loop-done.assumptions.trail.lits = grind arith in
+    grind (arith, false_at)
 
 pub returns-in_err-slot-clause-followed : goal.returns-in_err-slot-clause-followed
 returns-in_err-slot-clause-followed c = followed_on c.loop-done.invariant.followed c.follow.ensures.followed
@@ -47,8 +43,7 @@ returns-in_default-clause-followed c = followed_none c.requires.can
 pub loop-done-smaller : goal.loop-done-smaller
 loop-done-smaller c =
     let fits = fits_on c.loop-done.invariant.followed.propagates c.trail.ensures c.len.ensures.different c.len.ensures.within in
-    let inside : c.loop-done.done < length c.loop-done.assumptions.trail.lits = let low = c.loop-done-test.true in let n = c.len.ensures.value ∙ ap (λ t. length t.lits) c.trail.ensures in omega arith in
-    omega (arith, fits, inside)
+    grind arith
 
 -- the visit is noted, and what was visited before it stays so
 loop-visited : (c : In_ok-slot) → (visits c.begin.new.self ≡ c.loop-done.done + 1) × IsHistory (sure_of c.begin.new.self.doubts.items (maps.get c.follow.new.store.live)) c.begin.new.self c.follow.new.assumptions.trail.lits

@@ -1,18 +1,16 @@
-use Rattle.std.proofs.Common.{◌≡◌, ◌/◌, is_some, length, take, refl, sym, ap, ◌∙◌, arith}
+use Rattle.std.proofs.Common.{◌≡◌, is_some, length, take, refl, sym, ap, ◌∙◌, arith}
 use Rattle.tables.specs.Filled.{at}
 use Rattle.watch.specs.Code.State.{AddsRoom}
-use Rattle.root_literals.proofs.RootLemmas.History.{rewound_none}
-use Rattle.root_literals.proofs.RootLemmas.Kept.{kept_nothing}
-use Rattle.root_literals.proofs.RootLemmas.Grown.{begun_from}
-use Rattle.root_literals.proofs.RootLemmas.Carried.{not_clash, noted_carried, nothing_stands}
-use Rattle.root_literals.proofs.RootLemmas.Carried.{roots_alone}
 use Rattle.watch.proofs.WatchLemmas.State.{watch_refreshed, watch_room}
+use Rattle.root_literals.proofs.RootLemmas.{History.rewound_none, Carried.roots_alone}
+use Rattle.root_literals.proofs.RootLemmas.{Kept.kept_nothing, Grown.begun_from}
+use Rattle.root_literals.proofs.RootLemmas.Carried.{not_clash, noted_carried, nothing_stands}
 use Rattle.watch.proofs.refresh.refresh.Goals as goal
 
 pub catch_up-requires-clause-can : goal.catch_up-requires-clause-can
 catch_up-requires-clause-can c =
     let watch = c.requires.watch in
-    record { listed = watch.listed.each; can_set = record { room = record { each = λ k d here l member. c.start.ensures.reserved (l / 2) ∙ watch.scan.room.each k d here l member }; noted = c.start.ensures.kept.noted } }
+    grind arith
 
 pub returns-in-Ok-clause-watch : goal.returns-in-Ok-clause-watch
 returns-in-Ok-clause-watch c =
@@ -62,7 +60,4 @@ returns-in-Err-clause-watch c =
 pub catch_up-requires-clause-begun : goal.catch_up-requires-clause-begun
 catch_up-requires-clause-begun c p low =
     let held = c.args.assumptions.now in
-    let nothing = nothing_stands c.args.roots.now.kept held.assumptions c.requires.watch.standing (sym c.is_up_to_date.ensures ∙ c.if-is_up_to_date.false) in
-    let trues = c.len-trues.ensures.value ∙ ap (λ t. length t.lits) c.trail.ensures in
-    begun_from c.args.store.now.live c.args.roots.now c.start.new.roots held.trail.lits c.start.new.assumptions.trail.lits (simp (roots_alone held.trail.lits held.assumptions held.starts nothing) at c.requires.watch.kept)
-    (not_clash c.args.roots.now.kept (sym c.is_up_to_date.ensures ∙ c.if-is_up_to_date.false)) c.start.ensures.begun p (omega (arith, trues, low))
+    grind (arith, nothing_stands, begun_from, roots_alone, not_clash)

@@ -1,3 +1,4 @@
+use Rattle.std.proofs.Common.{arith}
 use Rattle.tables.specs.Filled.{at}
 use Rattle.trail.proofs.TrailLemmas.Longer.{has_begun}
 use Rattle.root_literals.proofs.RootLemmas.Propagated.{clash_from}
@@ -7,7 +8,7 @@ use Rattle.watch.proofs.run.run.Goals as goal
 pub returns-in-Some-clause-answer : goal.returns-in-Some-clause-answer
 returns-in-Some-clause-answer c =
     clash_from c.args.store.now.live c.propagate.new.store.live c.args.assumptions.now c.propagate.new.assumptions (at c.args.reasons.now) (at c.propagate.new.reasons) c.propagate.ensures.followed.propagates c.in-Some.field-0
-    (simp c.in-Some.is at c.in_ok-found.ensures.clash)
+    (grind arith)
 
 pub returns-in-None : goal.returns-in-None
 returns-in-None c =

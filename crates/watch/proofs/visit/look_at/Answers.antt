@@ -1,12 +1,10 @@
 use Rattle.std.proofs.Common.{sym, ◌∙◌, subst}
-use Rattle.std.proofs.lemmas.Bool.{and_parts}
-use Rattle.std.proofs.lemmas.Option.{same_Some}
+use Rattle.std.proofs.lemmas.{Bool.and_parts, Option.same_Some}
 use Rattle.cnf_base.specs.Literals.{has}
 use Rattle.trail.proofs.TrailLemmas.Truth.{false_from_value}
-use Rattle.watch.specs.Code.Visits.{IsVisit}
+use Rattle.watch.{specs.Code.Visits.IsVisit, proofs.WatchLemmas.Visited.room_in}
 use Rattle.watch.specs.declared.visit.Visit.TheVariants.{Clash, Unit}
 use Rattle.watch.proofs.WatchLemmas.Visits.{binary_all, binary_others, other_fits, not_false}
-use Rattle.watch.proofs.WatchLemmas.Visited.{room_in}
 use Rattle.watch.proofs.visit.look_at.Goals as goal
 
 pub look-requires-clause-room : goal.look-requires-clause-room

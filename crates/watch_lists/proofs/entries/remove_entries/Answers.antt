@@ -1,13 +1,12 @@
 use Rattle.std.proofs.Common.{rules, ◌≡◌, ℕ, ◌<◌, ◌≤◌, true, false, eqb, eq-eqb, refl, sym, ap, ◌∙◌}
 use Rattle.std.proofs.Common.{arith, subst, length, get_or, List, Some, Option}
-use Rattle.std.proofs.{lemmas.Bool.or_right, lemmas.Option.same_Some}
+use Rattle.std.proofs.lemmas.{Bool.or_right, Option.same_Some}
 use Rattle.cnf_base.specs.Literals.{Clause, Literal, has}
 use Rattle.watch_lists.specs.Lists.{list_at, marked_entries}
 use Rattle.watch_lists.specs.{declared.watcher.Watcher.Watcher, Watched.IsListed, Watched.watches}
-use Rattle.watch_lists.proofs.WatchListsLemmas.Lists.{marked_fitting}
+use Rattle.watch_lists.proofs.WatchListsLemmas.{Lists.marked_fitting, Entries.tautology_listed}
 use Rattle.watch_lists.proofs.WatchListsLemmas.Watched.{units_apart}
 use Rattle.watch_lists.proofs.WatchListsLemmas.Entries.{two_apart, two_watched, has_times}
-use Rattle.watch_lists.proofs.WatchListsLemmas.Entries.{tautology_listed}
 use Rattle.clause_db.specs.Store.{is_tautology}
 use Rattle.watch_lists.proofs.entries.remove_entries.Goals as goal
 
@@ -21,8 +20,7 @@ first_watched d first h1 h2 h3 = search rules
 marked : (live : ℕ → Option Clause) (list_of : Literal → List Watcher) → IsListed live list_of → (s n : ℕ) (d : Clause) (l : Literal) → n ≡ s → live s ≡ Some d → watches d l ≡ true → 0 < marked_entries n (eqb (length d) 2) (list_of l)
 marked live list_of listed s n d l same here watched =
     let most = marked_fitting (list_of l) s l d in
-    let fitting = listed.fitting s in
-    search (rules, arith)
+    grind arith
 
 pub take_off-requires-clause-there : goal.take_off-requires-clause-there
 take_off-requires-clause-there c =
@@ -48,8 +46,7 @@ take_off-requires-then-not-is_loading-clause-there c =
     subst (λ xs. 0 < marked_entries c.number-number.result (eqb (length d) 2) xs) (sym (c.take_off.ensures.others second (λ e. apart (sym e)))) there
 
 pub returns-then-clause-lt2-clause-tautologies : goal.returns-then-clause-lt2-clause-tautologies
-returns-then-clause-lt2-clause-tautologies c d here s =
-    search (rules, arith, same_Some, units_apart)
+returns-then-clause-lt2-clause-tautologies c d here s = search (rules, arith, units_apart)
 
 pub returns-else-not-is_loading-clause-tautologies : goal.returns-else-not-is_loading-clause-tautologies
 returns-else-not-is_loading-clause-tautologies c d here s = search (rules, arith, tautology_listed)

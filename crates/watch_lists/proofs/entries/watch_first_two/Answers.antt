@@ -1,6 +1,6 @@
 use Rattle.std.proofs.Common.{rules, arith}
-use Rattle.watch_lists.proofs.WatchListsLemmas.Entries.{two_apart, two_watched, one_each}
+use Rattle.watch_lists.proofs.WatchListsLemmas.Entries.{two_apart}
 use Rattle.watch_lists.proofs.entries.watch_first_two.Goals as goal
 
 pub returns-clause-watched : goal.returns-clause-watched
-returns-clause-watched c = search (rules, arith, two_apart, two_watched, one_each)
+returns-clause-watched c = search (rules, arith, two_apart)

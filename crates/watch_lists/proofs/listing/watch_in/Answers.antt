@@ -1,7 +1,7 @@
 use Rattle.std.proofs.Common.{false, ◌≡◌, rules, arith}
 use Rattle.clause_db.specs.Store.{is_tautology}
-use Rattle.watch_lists.proofs.WatchListsLemmas.Entries.{two_apart, two_watched, one_each_in, both_fit}
-use Rattle.watch_lists.specs.Code.Part.{is_in}
+use Rattle.watch_lists.proofs.WatchListsLemmas.Entries.{two_apart, two_watched, one_each_in}
+use Rattle.watch_lists.{proofs.WatchListsLemmas.Entries.both_fit, specs.Code.Part.is_in}
 use Rattle.watch_lists.proofs.listing.watch_in.Goals as goal
 
 pub returns-clause-watched : goal.returns-clause-watched
@@ -21,10 +21,4 @@ returns-clause-watched c l s =
     search (rules, arith)
 
 pub returns-clause-fitting : goal.returns-clause-fitting
-returns-clause-fitting c l s d same =
-    let long = c.in-len2-up.len_at_least in
-    let both = both_fit c.first-item.result c.second-item.result c.args.clause.now long
-    c.requires.different c.first-item.is c.second-item.is in
-    let e = c.in_ok-push_in.ensures.fitting l s d (λ is. search (rules, arith)) in
-    let f = c.in_ok-push_in-2.ensures.fitting l s d (λ is. search (rules, arith)) in
-    omega (arith, e, f)
+returns-clause-fitting c l s d same = grind (arith, both_fit)

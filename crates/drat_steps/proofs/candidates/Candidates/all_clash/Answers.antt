@@ -1,5 +1,4 @@
-use Rattle.std.proofs.Common.{arith}
-use Rattle.std.proofs.{Common.subst, lemmas.List.take_all}
+use Rattle.std.proofs.{Common.arith, Common.subst, lemmas.List.take_all}
 use Rattle.propagation.specs.Assumptions.{assumed_by}
 use Rattle.drat_steps.proofs.DratLemmas.Candidates.{Passed, all_touched_passed, can_try}
 use Rattle.drat_steps.proofs.DratLemmas.Candidates.{clashed_after, none_is_one, passed_more}

@@ -1,6 +1,5 @@
 -- A literal of the rest is true, and so forced; its complement is assumed.
-use Rattle.std.proofs.Common.{arith}
-use Rattle.std.proofs.{Common.sym, Common.◌∙◌, lemmas.Bool.false≢true}
+use Rattle.std.proofs.{Common.arith, Common.sym, Common.◌∙◌, lemmas.Bool.false≢true}
 use Rattle.cnf_base.proofs.WalkLemmas.{is_in}
 use Rattle.propagation.specs.Assumptions.{assumed_by}
 use Rattle.theory.specs.Propagation.{Forced}

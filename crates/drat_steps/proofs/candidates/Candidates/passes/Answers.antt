@@ -1,12 +1,11 @@
 -- The clause is no candidate, has all that is left of one that clashed, or is tried.
 use Rattle.std.proofs.Common.{◌≡◌, Some, sym, ◌∙◌, subst, ◌++◌}
-use Rattle.std.specs.FinMap as maps
 use Rattle.std.proofs.lemmas.Bool.{false≢true}
+use Rattle.std.specs.FinMap as maps
 use Rattle.cnf_base.specs.Literals.{complements}
 use Rattle.propagation.specs.Assumptions.{IsAnswer, assumed_by}
-use Rattle.drat_steps.specs.Code.Candidates.{rest_of}
+use Rattle.drat_steps.{specs.Code.Candidates.rest_of, proofs.DratLemmas.Candidates.looked_at}
 use Rattle.drat_steps.proofs.DratLemmas.Candidates.{clashed_now, clashes_seen, clashes_within}
-use Rattle.drat_steps.proofs.DratLemmas.Candidates.{looked_at}
 use Rattle.drat_steps.proofs.candidates.Candidates.passes.Goals as goal
 
 pub returns-then-not-includes-clause-passes : goal.returns-then-not-includes-clause-passes

@@ -1,6 +1,5 @@
-use Rattle.std.proofs.Common.{arith, ◌≡◌, rules}
+use Rattle.std.proofs.{Common.arith, Common.◌≡◌, Common.rules, lemmas.Option.none-some}
 use Rattle.std.proofs.lemmas.Iterator.{YieldsList-from_slice, Search.all_from_yields_List}
-use Rattle.std.proofs.lemmas.Option.{none-some}
 use Rattle.std.specs.List.{list_all}
 use Rattle.cnf_base.proofs.SetLemmas.{all_each}
 use Rattle.trail.specs.LiteralSet.{in_set}

@@ -1,10 +1,9 @@
-use Rattle.theory.proofs.LratLemmas.Sums.{sum_agree}
 use Rattle.std.proofs.Common.{arith, rules}
 use Rattle.live_clauses.proofs.ClausesLemmas.Joined.{joined_is}
 use Rattle.live_clauses.proofs.clauses.LiveClauses.literals.Goals as goal
 
 pub returns-clause-live_alone : goal.returns-clause-live_alone
-returns-clause-live_alone c = search (rules, arith, sum_agree, joined_is)
+returns-clause-live_alone c = search (rules, arith, joined_is)
 
 pub returns-clause-value : goal.returns-clause-value
 returns-clause-value c = search (rules, returns-clause-live_alone)

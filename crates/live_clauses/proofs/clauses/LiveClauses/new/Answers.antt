@@ -1,11 +1,11 @@
-use Rattle.cnf_base.proofs.MapLemmas.{sum_empty}
-use Rattle.std.proofs.{lemmas.Option.none-some, Common.arith, Common.rules}
+use Rattle.std.proofs.Common.{arith, rules, arith, rules}
 use Rattle.std.specs.FinMap.{get-empty}
+use Rattle.cnf_base.proofs.MapLemmas.{sum_empty}
 use Rattle.live_clauses.proofs.ClausesLemmas.Joined.{start_view}
 use Rattle.live_clauses.proofs.clauses.LiveClauses.new.Goals as goal
 
 pub invariant_of-result : goal.invariant_of-result
-invariant_of-result c = search (rules, arith, sum_empty, get-empty, none-some)
+invariant_of-result c = search (rules, arith, sum_empty, get-empty)
 
 pub returns : goal.returns
 returns c = search (rules, start_view)

@@ -1,10 +1,9 @@
 use Rattle.std.proofs.Common.{rules, ◌+◌, ap, ◌∙◌, arith}
 use Rattle.cnf_base.specs.Literals.{has, variable}
-use Rattle.numbering.specs.Code.Numbers.{number_at}
-use Rattle.tables.specs.Filled.{at}
+use Rattle.numbering.{specs.Code.Numbers.number_at, proofs.RecentLemmas.recent_more}
 use Rattle.numbering.proofs.NumberLemmas.{count_most, next_invariant, next_names, next_low}
 use Rattle.numbering.proofs.NumberLemmas.{next_number, next_at, none, wrote}
-use Rattle.numbering.proofs.RecentLemmas.{recent_more}
+use Rattle.tables.specs.Filled.{at}
 use Rattle.numbering.proofs.numbering.Numbering.number_anew.Goals as goal
 
 pub overflow_add-number : goal.overflow_add-number

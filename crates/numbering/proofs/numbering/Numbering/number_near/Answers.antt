@@ -1,8 +1,7 @@
 use Rattle.std.proofs.Common.{rules, ◌≡◌, ◌≢◌, ◌∷◌, [], ◌<◌, take, length, sym, ap, ◌∙◌, refl}
 use Rattle.std.proofs.Common.{arith, true, vec_len, slice_index_or}
 use Rattle.std.proofs.lemmas.List.{map-append}
-use Rattle.cnf_base.specs.Literals.{has, variable}
-use Rattle.cnf_base.proofs.WalkLemmas.{take_is}
+use Rattle.cnf_base.{specs.Literals.has, specs.Literals.variable, proofs.WalkLemmas.take_is}
 use Rattle.theory.specs.Renaming.{renamed}
 use Rattle.numbering.specs.{Names.number_in, Code.Numbers.number_at}
 use Rattle.numbering.proofs.NameLemmas.{with_names_push, same_names}

@@ -1,4 +1,4 @@
-use Rattle.std.proofs.Common.{◌≡◌, Some, sym, ap, ◌∙◌, subst}
+use Rattle.std.proofs.Common.{arith, ◌≡◌, Some, sym, ap, ◌∙◌, subst}
 use Rattle.std.specs.FinMap as maps
 use Rattle.std.proofs.lemmas.Option.{same_Some}
 use Rattle.theory.specs.Propagation.{IsRootReason}
@@ -26,5 +26,4 @@ returns-clause-no g c is_none clause here =
     subst (λ d. ¬ IsRootReason (maps.get c.args.store.now.live) d) (same_Some kept clause (at ∙ here))
     (no_reason_left (maps.get c.args.store.now.live) c.in_ok-found.found c.args.slot kept (sym at)
     c.in_ok-found.ensures.whole.all
-    (sym (c.is_one_at_most-is_reason.ensures
-    ∙ ap (λ left. is_one_at_most left kept) c.left.ensures) ∙ is_none))
+    (grind arith))

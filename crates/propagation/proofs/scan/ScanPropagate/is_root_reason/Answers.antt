@@ -1,12 +1,11 @@
-use Rattle.std.proofs.Common.{◌≡◌, true, false, Some, IfOk, subst}
+use Rattle.std.proofs.Common.{◌≡◌, false, Some, IfOk, subst, arith}
 use Rattle.std.specs.FinMap as maps
 use Rattle.cnf_base.specs.Literals.{Clause}
 use Rattle.theory.specs.Propagation.{IsRootReason}
 use Rattle.propagation.proofs.scan.ScanPropagate.is_root_reason.Goals as goal
 
 pub returns-clause-yes : goal.returns-clause-yes
-returns-clause-yes c =
-    subst (λ s. IfOk c.is_root_reason-found.result (λ is_reason. is_reason ≡ true → (d : Clause) → maps.get s.propagation.live c.args.slot ≡ Some d → IsRootReason (maps.get s.propagation.live) d)) c.self.view_is c.is_root_reason-found.ensures.yes
+returns-clause-yes c = grind (arith, c.self.view_is, c.is_root_reason-found.ensures.yes)
 
 pub returns-clause-no : goal.returns-clause-no
 returns-clause-no c =

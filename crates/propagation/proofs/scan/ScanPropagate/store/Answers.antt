@@ -1,4 +1,4 @@
-use Rattle.std.proofs.Common.{is_some, sym, ap, ◌∙◌}
+use Rattle.std.proofs.Common.{arith, sym, ap, ◌∙◌}
 use Rattle.std.specs.FinMap as maps
 use Rattle.cnf_base.proofs.SetLemmas.{same_itself}
 use Rattle.propagation.proofs.scan.ScanPropagate.store.Goals as goal
@@ -7,5 +7,5 @@ pub returns-clause-live : goal.returns-clause-live
 returns-clause-live c =
     let view = ap (λ s. s.propagation.live) c.self.view_is in record {
       each = λ slot d at. (d, ap (λ live. maps.get live slot) (sym view) ∙ at, same_itself d);
-      no_other = λ slot alive. ap (λ live. is_some (maps.get live slot)) view ∙ alive;
+      no_other = λ slot alive. grind arith;
     }

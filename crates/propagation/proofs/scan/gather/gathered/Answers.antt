@@ -20,4 +20,4 @@ loop-number-preserved c =
     ]
 
 pub returns-clause-live : goal.returns-clause-live
-returns-clause-live c = gathered_all (λ s some. let below = c.end-number-end.ensures.past s some in omega (arith, below)) c.loop-number.invariant
+returns-clause-live c = gathered_all (grind arith) c.loop-number.invariant

@@ -1,10 +1,10 @@
-use Rattle.std.proofs.Common.{◌≡◌, false, ◌∙◌, sym, ap, subst}
+use Rattle.std.proofs.Common.{arith, ◌≡◌, false, ◌∙◌, sym, ap, subst}
+use Rattle.std.specs.FinMap as maps
 use Rattle.theory.specs.{Propagation.IsClosed, Sets.conflicts}
 use Rattle.cnf_base.specs.Literals.{has}
 use Rattle.trail.proofs.TrailLemmas.{MakesFalse.no_conflict, Longer.has_begun}
 use Rattle.theory.proofs.PropagationLemmas.Forced.{clash_through}
 use Rattle.trail.proofs.TrailLemmas.Left.{settled_closed, settled_quiet}
-use Rattle.std.specs.FinMap as maps
 use Rattle.propagation.proofs.scan.unit.propagate.Goals as goal
 
 pub returns-in-Clash-clause-answer : goal.returns-in-Clash-clause-answer
@@ -14,7 +14,7 @@ returns-in-Clash-clause-answer c =
     c.loop-assumptions.invariant.sound c.in-Clash.ensures.pass
 
 pub loop-assumptions-smaller : goal.loop-assumptions-smaller
-loop-assumptions-smaller c = c.in-Changed.ensures.pass c.args.assumptions.now.trail.reserved (λ v h. sym (c.loop-assumptions.invariant.extends.reserved v) ∙ h)
+loop-assumptions-smaller c = c.in-Changed.ensures.pass c.args.assumptions.now.trail.reserved (λ v h. grind arith)
 
 pub returns-in-Quiet-clause-answer : goal.returns-in-Quiet-clause-answer
 returns-in-Quiet-clause-answer c =

@@ -1,4 +1,5 @@
-use Rattle.std.proofs.Common.{◌≡◌, ◌/◌, ◌∷◌, [], ◌++◌, ◌+◌, true, cond, sym, ap, ◌∙◌, subst}
+use Rattle.std.proofs.Common.{arith, ◌≡◌, ◌/◌, ◌∷◌, [], ◌++◌, ◌+◌, true, cond, sym, ap, ◌∙◌, subst}
+use Rattle.std.specs.FinMap as maps
 use Rattle.cnf_base.specs.Literals.{has}
 use Rattle.std.proofs.lemmas.Bool.{not-true, not-false}
 use Rattle.trail.specs.{Code.Left.IsSettled, Left.how_many}
@@ -11,11 +12,10 @@ use Rattle.propagation.proofs.PropagationLemmas.Passes.{IsPassedTo, passed_none,
 use Rattle.propagation.proofs.PropagationLemmas.Passes.{passed_unit}
 use Rattle.trail.proofs.TrailLemmas.Longer.{pushed_each}
 use Rattle.theory.proofs.PropagationLemmas.Unit.{left_is_forced, none_left_clashes}
+use Rattle.propagation.proofs.scan.unit.run_pass.Goals as goal
 use Rattle.propagation.proofs.scan.unit.run_pass.Goals.{in-Some+in-One+then-make_true}
 use Rattle.propagation.proofs.scan.unit.run_pass.Goals.{in-Some+in-One+else-make_true}
 use Rattle.propagation.proofs.scan.unit.run_pass.Goals.{in-Some+in-More, in_default}
-use Rattle.std.specs.FinMap as maps
-use Rattle.propagation.proofs.scan.unit.run_pass.Goals as goal
 
 pub returns-in-Nothing-clause-pass : goal.returns-in-Nothing-clause-pass
 returns-in-Nothing-clause-pass c =
@@ -34,7 +34,7 @@ make_true-requires-clause-reserved c =
     let room : has c.args.assumptions.now.trail.reserved (c.in-One.l / 2) ≡ true =
     c.requires.each c.loop-number.number d (sym c.in-Some.ensures) c.in-One.l
     (left_open c.loop-number.assumptions.trail.lits d c.in-One.l left).0 in
-    c.loop-number.invariant.extends.reserved (c.in-One.l / 2) ∙ room
+    grind arith
 
 pub make_true-requires-clause-not_false : goal.make_true-requires-clause-not_false
 make_true-requires-clause-not_false c =

@@ -1,9 +1,8 @@
 use Rattle.std.proofs.Common.{◌≡◌, true}
 use Rattle.std.specs.FinMap as maps
 use Rattle.cnf_base.specs.Literals.{Literal, has}
-use Rattle.propagation.specs.Code.Exact.{Extends}
+use Rattle.propagation.{specs.Code.Exact.Extends, proofs.PropagationLemmas.Passes.IsPassedTo}
 use Rattle.theory.specs.Propagation.{Forced}
-use Rattle.propagation.proofs.PropagationLemmas.Passes.{IsPassedTo}
 use Rattle.propagation.proofs.scan.unit.run_pass.Given as goal
 
 abbrev pub invariant-loop-number : goal.invariant-loop-number

@@ -1,22 +1,18 @@
-use Rattle.std.proofs.Common.{◌<◌, Some, get_or, length, refl, sym, ap, ◌∙◌, subst}
+use Rattle.std.proofs.Common.{◌<◌, Some, get_or, length, refl, sym, ap, ◌∙◌, subst, arith}
+use Rattle.std.specs.FinMap as maps
 use Rattle.trail.specs.Trail.{HasNoVariableTwice}
 use Rattle.tables.specs.Filled.{at}
-use Rattle.root_literals.proofs.roots.Roots.take_back_alone.Goals.{After-is_needed}
-use Rattle.root_literals.specs.{Roots.IsKept, Roots.IsUnneeded, Uses.AreCounted}
-use Rattle.root_literals.proofs.RootLemmas.{Kept.kept_counted, Unshared.kept_out}
+use Rattle.root_literals.specs.{Roots.IsKept, Roots.IsUnneeded}
+use Rattle.root_literals.proofs.RootLemmas.{Unshared.kept_out}
 use Rattle.root_literals.proofs.roots.Roots.take_back_alone.Goals as goal
-use Rattle.std.specs.FinMap as maps
+use Rattle.root_literals.proofs.roots.Roots.take_back_alone.Goals.{After-is_needed}
 
 -- all is kept, with the reasons that were counted
 kept-then : (c : After-is_needed) → IsKept c.args.store.now.live (record c.args.self.now { uses = c.is_needed.new.uses }) c.args.assumptions.now.trail.lits
-kept-then c =
-    let live = c.args.store.now.live in
-    let shown = c.lits-lits.ensures.value ∙ ap (λ t. t.lits) c.trail-2.ensures in
-    kept_counted live c.args.self.now _ c.args.assumptions.now.trail.lits refl refl c.requires.kept refl
-    (subst (λ ls. AreCounted (maps.get live) (at c.args.self.now.reasons) ls c.is_needed.new.uses) shown c.is_needed.ensures.counted)
+kept-then c = grind arith
 
 pub returns-then-is_needed-clause-still_kept : goal.returns-then-is_needed-clause-still_kept
-returns-then-is_needed-clause-still_kept c _ = kept-then (goal.at.returns-then-is_needed-clause-still_kept c).After-is_needed
+returns-then-is_needed-clause-still_kept c _ = grind arith
 
 pub returns-clause-kept : goal.returns-clause-kept
 returns-clause-kept c is =

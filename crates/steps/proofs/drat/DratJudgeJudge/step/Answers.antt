@@ -1,15 +1,14 @@
 -- A deletion, after which the clauses that are left may stand elsewhere.
-use Rattle.std.proofs.Common.{rules, ◌≡◌, ◌∙◌, refl, sym, subst, List, Ok}
+use Rattle.std.proofs.Common.{rules, ◌≡◌, ◌∙◌, refl, sym, subst, List, Ok, arith}
+use Rattle.proofs.specs.declared.step_buf.StepKind.TheVariants as kinds
+use Rattle.std.specs.FinMap as maps
 use Rattle.cnf_base.specs.Literals.{Clause, Literal}
 use Rattle.proofs.specs.Steps.{Step}
-use Rattle.proofs.specs.declared.step_buf.StepKind.TheVariants as kinds
 use Rattle.theory.specs.Drat.{SameLive, after_drat, drat_step_of, delete}
 use Rattle.theory.specs.Rules.{by_copies, Same, after}
 use Rattle.theory.specs.declared.{accepted.Accepted.Accepted, drat_rules.DratRules.DratRules}
-use Rattle.steps.specs.Code.Naming.{with_lits}
-use Rattle.steps.proofs.SessionLemmas.{keeps_taken}
+use Rattle.steps.{specs.Code.Naming.with_lits, proofs.SessionLemmas.keeps_taken}
 use Rattle.steps.proofs.drat.DratJudgeJudge.step.Goals as goal
-use Rattle.std.specs.FinMap as maps
 
 pub returns-in-Add-clause-keeps_models : goal.returns-in-Add-clause-keeps_models
 returns-in-Add-clause-keeps_models g c =
@@ -22,12 +21,11 @@ taken_off r old left gathered lits step word is same together =
     (refl, subst (λ kind. SameLive gathered (after_drat old (drat_step_of r kind lits) word)) (sym is) (record { copies = λ e. together.copies e ∙ same.copies e }))
 
 pub returns-in_ok-word-in-Delete-clause-state : goal.returns-in_ok-word-in-Delete-clause-state
-returns-in_ok-word-in-Delete-clause-state g c =
-    taken_off c.args.self.now.rules _ _ _ c.args.lits.now c.args.step.now c.in_ok-word-in-Delete.word (search rules) c.in_ok-word-in-Delete.ensures.live c.gather-stay.ensures.live
+returns-in_ok-word-in-Delete-clause-state g c = grind (arith, taken_off)
 
 pub returns-in_ok-word-in-Delete-clause-keeps_models : goal.returns-in_ok-word-in-Delete-clause-keeps_models
 returns-in_ok-word-in-Delete-clause-keeps_models g c =
     let state = λ (p : g.row.P.Denot). by_copies c.args.self.now.rules (maps.values (g.P.Propagate.state p).live) in
     let word = c.in_ok-word-in-Delete.word in
     keeps_taken (state c.args.self.now.checker.clauses) (state c.gather-stay.new.self) (with_lits c.args.lits.now c.args.step.now) (Ok word) (search rules)
-    (taken_off c.args.self.now.rules _ _ _ c.args.lits.now c.args.step.now word (search rules) c.in_ok-word-in-Delete.ensures.live c.gather-stay.ensures.live)
+    (grind (arith, taken_off))

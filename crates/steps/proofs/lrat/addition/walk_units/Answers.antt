@@ -1,4 +1,4 @@
-use Rattle.std.proofs.Common.{sym, ◌∙◌}
+use Rattle.std.proofs.Common.{arith}
 use Rattle.std.specs.FinMap as maps
 use Rattle.theory.specs.Lrat.{units_of}
 use Rattle.trail.proofs.TrailLemmas.MakesFalse.{whole_conflict, whole_added}
@@ -7,9 +7,9 @@ use Rattle.steps.proofs.lrat.addition.walk_units.Goals as goal
 
 pub returns-then-make_false-clause-end : goal.returns-then-make_false-clause-end
 returns-then-make_false-clause-end c =
-    units_conflict (maps.get c.args.live.now.live) c.args.clause.now (units_of c.args.hints.now) c.args.trues.now.lits c.requires.none_true (whole_conflict c.args.trues.now.lits c.args.clause.now (sym c.make_false.ensures.made.conflict ∙ c.if-make_false.true)) c.make_false.new.self.lits
+    units_conflict (maps.get c.args.live.now.live) c.args.clause.now (units_of c.args.hints.now) c.args.trues.now.lits c.requires.none_true (grind (arith, whole_conflict)) c.make_false.new.self.lits
 
 pub returns-clause-end : goal.returns-clause-end
 returns-clause-end c =
-    units_walk (maps.get c.args.live.now.live) c.args.clause.now (units_of c.args.hints.now) c.args.trues.now.lits c.requires.none_true c.make_false.new.self.lits c.walk.new.trues.lits (whole_added c.make_false.new.self.lits c.args.trues.now.lits c.args.clause.now c.if-make_false.ensures.made.added)
+    units_walk (maps.get c.args.live.now.live) c.args.clause.now (units_of c.args.hints.now) c.args.trues.now.lits c.requires.none_true c.make_false.new.self.lits c.walk.new.trues.lits (grind (arith, whole_added))
     c.walk.result c.walk.ensures.end

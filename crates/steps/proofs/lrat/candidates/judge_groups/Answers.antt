@@ -1,13 +1,13 @@
-use Rattle.std.proofs.Common.{◌≡◌, ℕ, ◌+◌, ◌<◌, ◌||◌, eqb, true, drop, length, refl, sym, ap, ◌∙◌}
-use Rattle.std.proofs.{Common.subst, Common.arith, Common.rules, lemmas.List.take_rest}
+use Rattle.std.proofs.Common.{arith, ◌≡◌, ℕ, ◌+◌, ◌<◌, ◌||◌, eqb, true, drop, length, refl, sym, ap}
+use Rattle.std.proofs.{Common.◌∙◌, Common.rules, Common.arith, Common.rules, lemmas.List.take_rest}
+use Rattle.std.specs.FinMap as maps
 use Rattle.cnf_base.specs.Literals.{has}
-use Rattle.theory.specs.Lrat.{group_refusal, groups_refusal, groups_of, units_of}
+use Rattle.theory.specs.Lrat.{group_refusal, units_of}
 use Rattle.steps.proofs.LratLemmas.Groups.{groups_pass_over, groups_stop, groups_go_on, named_kept}
 use Rattle.steps.proofs.LratLemmas.Groups.{named_grows, when_none, held_grow}
+use Rattle.steps.proofs.lrat.candidates.judge_groups.Goals as goal
 use Rattle.steps.proofs.lrat.candidates.judge_groups.Goals.{then-hint-lt0+in_ok-refusal+else-is_some}
 use Rattle.steps.proofs.lrat.candidates.judge_groups.Goals.{else-hint-lt0}
-use Rattle.std.specs.FinMap as maps
-use Rattle.steps.proofs.lrat.candidates.judge_groups.Goals as goal
 
 pub loop-i-preserved : goal.loop-i-preserved
 loop-i-preserved c =
@@ -28,16 +28,7 @@ loop-i-preserved c =
             lits = ap (λ t. t.lits) w.trues-is ∙ w.in_ok-refusal.ensures.lits ∙ c.loop-i.invariant.lits;
             reserved = λ v. ap (λ t. has t.reserved v) w.trues-is ∙ w.in_ok-refusal.ensures.reserved v ∙ c.loop-i.invariant.reserved v;
           }
-      | else-hint-lt0 w ↦
-          record {
-            refusal =
-                ap (λ n. groups_refusal live c.args.trues.now.lits c.args.pivot n (groups_of (drop (i + 1) hints))) w.named-is
-                ∙ groups_pass_over live c.args.trues.now.lits c.args.pivot hints i inside (search rules) named _ c.loop-i.invariant.refusal w.if-hint-lt0.false;
-            named = λ j. ap (λ n. has n j) w.named-is ∙ named_kept hints i inside (search rules) named c.loop-i.invariant.named w.if-hint-lt0.false j;
-            hold = λ k member. c.loop-i.invariant.hold k (subst (λ n. has n k ≡ true) w.named-is member);
-            lits = ap (λ t. t.lits) w.trues-is ∙ c.loop-i.invariant.lits;
-            reserved = λ v. ap (λ t. has t.reserved v) w.trues-is ∙ c.loop-i.invariant.reserved v;
-          }
+      | else-hint-lt0 w ↦ grind (arith, groups_pass_over, named_kept)
     ]
 
 pub returns-then-is_some-clause-refusal : goal.returns-then-is_some-clause-refusal

@@ -1,16 +1,12 @@
 use Rattle.std.proofs.Common.{◌≡◌, ◌<◌, length, slice_index_or, pos, subst, sym, ap, ◌∙◌, arith}
-use Rattle.std.proofs.Common.{rules, ◌/◌, nat_abs, cond, refl}
+use Rattle.std.proofs.{Common.rules, Common.nat_abs, lemmas.List.drop_all}
 use Rattle.std.specs.Option.{option_copied}
+use Rattle.std.specs.FinMap as maps
 use Rattle.steps.proofs.LratLemmas.{Hints.units_more, Hints.read_is, Walks.same_set_push}
 use Rattle.steps.proofs.LratLemmas.Walks.{walk_one, walk_nothing, walk_more, walk_unknown}
 use Rattle.propagation.proofs.PropagationLemmas.Exact.{begins_on}
 use Rattle.trail.proofs.TrailLemmas.Left.{left_open}
 use Rattle.trail.proofs.TrailLemmas.MakesFalse.{made_true, begins_made, longer_made}
-use Rattle.std.specs.FinMap as maps
-use Rattle.std.proofs.lemmas.List.{drop_all}
-use Rattle.theory.specs.Lrat.{chain, conflict, open_with, units_of}
-use Rattle.steps.specs.Code.Walk.{IsEnd}
-use Rattle.steps.specs.declared.lrat.walk.WalkEnd.TheVariants.{Open}
 use Rattle.steps.proofs.lrat.walk.walk.Goals as goal
 
 pub make_true-requires-clause-not_false : goal.make_true-requires-clause-not_false
@@ -19,7 +15,7 @@ make_true-requires-clause-not_false c = (left_open c.loop-i.trues.lits c.in-Some
 pub make_true-requires-clause-reserved : goal.make_true-requires-clause-reserved
 make_true-requires-clause-reserved c =
     let member = (left_open c.loop-i.trues.lits c.in-Some.clause.now c.in-One.l c.in-One.ensures).0 in
-    c.loop-i.invariant.reserved (c.in-One.l / 2) ∙ c.requires.room.each c.unsigned_abs-k.result c.in-Some.clause.now (let hints = c.args.hints.now in let i = c.loop-i.i in ap (λ k. maps.get c.args.live.now.live k) (c.unsigned_abs-k.ensures.value ∙ ap nat_abs (read_is hints i (omega arith) (search rules))) ∙ sym (c.loop-i.invariant.next c.loop-i-test.true) ∙ ap option_copied c.in-Some.is) c.in-One.l member
+    grind (arith, nat_abs)
 
 pub loop-i-preserved : goal.loop-i-preserved
 loop-i-preserved c =
@@ -45,24 +41,17 @@ loop-i-preserved c =
 pub returns-in_default-clause-end : goal.returns-in_default-clause-end
 returns-in_default-clause-end c =
     let left_is = units_more c.args.hints.now c.loop-i.i (omega arith) (search rules) c.unsigned_abs-k.result c.if-hint-lt0.false c.unsigned_abs-k.ensures.value in
-    walk_unknown (maps.get c.args.live.now.live) c.loop-i.trues.lits _ _ c.unsigned_abs-k.result left_is _ c.loop-i.invariant.so_far c.loop-i.invariant.quiet
-    (let hints = c.args.hints.now in let i = c.loop-i.i in ap (λ k. maps.get c.args.live.now.live k) (c.unsigned_abs-k.ensures.value ∙ ap nat_abs (read_is hints i (omega arith) (search rules))) ∙ sym (c.loop-i.invariant.next c.loop-i-test.true) ∙ ap option_copied c.in_default.is) c.loop-i.trues.lits
+    grind (arith, walk_unknown, nat_abs)
 
 pub returns-in-Nothing-clause-end : goal.returns-in-Nothing-clause-end
 returns-in-Nothing-clause-end c =
     let left_is = units_more c.args.hints.now c.loop-i.i (omega arith) (search rules) c.unsigned_abs-k.result c.if-hint-lt0.false c.unsigned_abs-k.ensures.value in
-    walk_nothing (maps.get c.args.live.now.live) c.loop-i.trues.lits _ _ c.unsigned_abs-k.result left_is _ c.loop-i.invariant.so_far c.loop-i.invariant.quiet c.in-Some.clause.now
-    (let hints = c.args.hints.now in let i = c.loop-i.i in ap (λ k. maps.get c.args.live.now.live k) (c.unsigned_abs-k.ensures.value ∙ ap nat_abs (read_is hints i (omega arith) (search rules))) ∙ sym (c.loop-i.invariant.next c.loop-i-test.true) ∙ ap option_copied c.in-Some.is) c.loop-i.trues.lits c.in-Nothing.ensures
+    grind (arith, walk_nothing, nat_abs)
 
 pub returns-in-More-clause-end : goal.returns-in-More-clause-end
 returns-in-More-clause-end c =
     let left_is = units_more c.args.hints.now c.loop-i.i (omega arith) (search rules) c.unsigned_abs-k.result c.if-hint-lt0.false c.unsigned_abs-k.ensures.value in
-    walk_more (maps.get c.args.live.now.live) c.loop-i.trues.lits _ _ c.unsigned_abs-k.result left_is _ c.loop-i.invariant.so_far c.loop-i.invariant.quiet c.in-Some.clause.now
-    (let hints = c.args.hints.now in let i = c.loop-i.i in ap (λ k. maps.get c.args.live.now.live k) (c.unsigned_abs-k.ensures.value ∙ ap nat_abs (read_is hints i (omega arith) (search rules))) ∙ sym (c.loop-i.invariant.next c.loop-i-test.true) ∙ ap option_copied c.in-Some.is) c.loop-i.trues.lits c.in-More.ensures
+    grind (arith, walk_more, nat_abs)
 
 pub returns-clause-end : goal.returns-clause-end
-returns-clause-end c =
-    let trues = c.loop-i.trues.lits in let live = maps.get c.args.live.now.live in
-    c.loop-i.invariant.so_far trues Open
-    (subst (λ hints. IsEnd trues Open (chain live trues (units_of hints))) (sym (drop_all c.loop-i.i c.args.hints.now (omega arith)))
-    (subst (λ b. IsEnd trues Open (cond b conflict (open_with trues))) (sym c.loop-i.invariant.quiet) (λ l. refl)))
+returns-clause-end c = grind (arith, drop_all)

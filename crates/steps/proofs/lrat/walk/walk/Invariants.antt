@@ -1,6 +1,5 @@
 use Rattle.std.proofs.Common.{◌≡◌, ◌≤◌, ◌<◌, ◌+◌, false, length, take, drop, nat_abs, pos}
-use Rattle.std.proofs.Common.{slice_index_or}
-use Rattle.std.specs.Option.{option_copied}
+use Rattle.std.{proofs.Common.slice_index_or, specs.Option.option_copied}
 use Rattle.std.specs.FinMap as maps
 use Rattle.theory.specs.{Lrat.chain, Lrat.units_of, Sets.conflicts, Sets.SameSet}
 use Rattle.steps.proofs.LratLemmas.Walks.{Gives}

@@ -2,8 +2,7 @@
 use Rattle.std.proofs.Common.{◌≡◌, ◌<◌, true, Some, eqb-true, is_some, length, ap, sym, ◌∙◌, inl}
 use Rattle.std.proofs.{Common.inr, Common.subst, Common.arith, lemmas.Bool.or_cases}
 use Rattle.std.proofs.lemmas.{Option.same_Some, Option.slice_get-get_or, Bool.Decides.nat_tests}
-use Rattle.cnf_base.specs.Literals.{has, variable}
-use Rattle.cnf_base.proofs.WalkLemmas.{has_more}
+use Rattle.cnf_base.{specs.Literals.has, specs.Literals.variable, proofs.WalkLemmas.has_more}
 use Rattle.tables.specs.Table.{at}
 use Rattle.trail.proofs.trail.Trail.has_room_near.Goals as goal
 

@@ -1,27 +1,26 @@
-use Rattle.std.proofs.Common.{◌≡◌, ◌/◌, ◌++◌, ◌∷◌, [], true, length, length-append, take, refl, sym}
-use Rattle.std.proofs.{Common.ap, Common.◌∙◌, Common.subst, Common.arith, lemmas.List.take_all}
+use Rattle.std.proofs.Common.{◌++◌, ◌∷◌, [], true, length, length-append, take, refl, sym, arith}
+use Rattle.std.proofs.{Common.ap, Common.◌∙◌, Common.arith, lemmas.List.take_all}
 use Rattle.cnf_base.specs.Literals.{complement, has}
 use Rattle.cnf_base.proofs.{LiteralLemmas.complement-complement, WalkLemmas.is_in}
 use Rattle.theory.specs.Sets.{conflicts}
-use Rattle.trail.specs.{declared.value.Value.TheVariants.Open, Trail.value_under}
 use Rattle.trail.proofs.TrailLemmas.MakesFalse.{falsified, falsified_next, falsified_same}
 use Rattle.trail.proofs.TrailLemmas.MakesFalse.{falsified_conflict, falsified_none, no_conflict}
 use Rattle.trail.proofs.TrailLemmas.MakesFalse.{same_old, same_pushed}
 use Rattle.theory.proofs.PropagationLemmas.Conflicts.{conflicts_same, quiet_push}
 use Rattle.cnf_base.proofs.MemberLemmas.{variable-complement}
 use Rattle.trail.proofs.TrailLemmas.Truth.{true_from_value, false_from_value, open_from_value}
-use Rattle.trail.proofs.TrailLemmas.{Truth.value_is_open, Longer.begins_push}
+use Rattle.trail.proofs.TrailLemmas.{Longer.begins_push}
+use Rattle.trail.proofs.trail.Trail.make_false.Goals as goal
 use Rattle.trail.proofs.trail.Trail.make_false.Goals.{then-keeps_literal+in-False}
 use Rattle.trail.proofs.trail.Trail.make_false.Goals.{then-keeps_literal+in-Open}
 use Rattle.trail.proofs.trail.Trail.make_false.Goals.{else-keeps_literal}
-use Rattle.trail.proofs.trail.Trail.make_false.Goals as goal
 
 pub loop-l-init : goal.loop-l-init
 loop-l-init g c =
     let lits = c.args.self.now.lits in
     record {
       added = λ l. ap (λ ls. has ls l) (sym (falsified_none lits (g.P.Part.keeps c.args.part.now) c.args.clause.now));
-      quiet = no_conflict lits c.len-different.ensures.different;
+      quiet = grind (arith, no_conflict);
       begins = take_all _ lits (omega arith);
       longer = omega arith;
       reserved = λ v. refl;
@@ -39,16 +38,10 @@ returns-in-True-clause-made g c =
     }
 
 pub set-requires-clause-reserved : goal.set-requires-clause-reserved
-set-requires-clause-reserved g c =
-    let x = c.l-item.result in
-    let room : has c.args.self.now.reserved (x / 2) ≡ true = c.requires x (is_in c.args.clause.now c.loop-l.l-index c.loop-l-test.true x c.l-item.is) in
-    subst (λ v. has c.loop-l.self.reserved v ≡ true) (sym (ap (λ m. m / 2) c.neg.ensures ∙ variable-complement x)) (c.loop-l.invariant.reserved (x / 2) ∙ room)
+set-requires-clause-reserved g c = grind (arith, is_in, variable-complement)
 
 pub set-requires-clause-open : goal.set-requires-clause-open
-set-requires-clause-open g c =
-    let x = c.l-item.result in let lits = c.loop-l.self.lits in
-    let tests = open_from_value lits x c.in-Open.ensures.value in
-    subst (λ m. value_under lits m ≡ Open) (sym c.neg.ensures) (value_is_open lits (complement x) tests.1 (ap (has lits) (complement-complement x) ∙ tests.0))
+set-requires-clause-open g c = grind (arith, complement-complement)
 
 pub loop-l-preserved : goal.loop-l-preserved
 loop-l-preserved g c =
@@ -93,11 +86,4 @@ loop-l-preserved g c =
     ]
 
 pub returns-clause-made : goal.returns-clause-made
-returns-clause-made g c =
-    let keeps = g.P.Part.keeps c.args.part.now in let before = c.args.self.now.lits in
-    let whole = take_all c.loop-l.l-index c.args.clause.now c.loop-l-test.false in
-    record {
-      conflict = sym c.loop-l.invariant.quiet ∙ conflicts_same _ _ c.loop-l.invariant.added ∙ ap (λ d. conflicts (falsified before keeps d)) whole;
-      added = λ l. c.loop-l.invariant.added l ∙ ap (λ d. has (falsified before keeps d) l) whole;
-      quiet = c.loop-l.invariant.quiet;
-    }
+returns-clause-made g c = grind (arith, take_all, conflicts_same)

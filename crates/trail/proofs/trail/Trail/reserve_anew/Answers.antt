@@ -1,17 +1,16 @@
 use Rattle.std.proofs.Common.{◌≡◌, ℕ, ◌<◌, ◌≤◌, ◌∙◌, Bool, true, false, cond, eqb, Option, is_some}
-use Rattle.std.proofs.Common.{inl, inr, length, refl, sym, ap, subst, arith}
-use Rattle.std.proofs.lemmas.Bool.{Decides.nat_tests, cases_eq}
-use Rattle.std.specs.Vec.{vec_capacity}
+use Rattle.std.proofs.Common.{length, refl, sym, ap, subst, arith}
+use Rattle.std.{proofs.lemmas.Bool.cases_eq, specs.Vec.vec_capacity}
+use Rattle.tables.specs.Filled as filled
 use Rattle.tables.specs.Table.{at}
 use Rattle.trail.specs.{Code.Values.IsTrail, Code.Values.reserved_in, Trail.is_variable}
-use Rattle.cnf_base.specs.Literals.{has}
 use Rattle.trail.proofs.TrailLemmas.Reserved.{seen_adds, seen_more, seen_noted, seen_same}
 use Rattle.trail.proofs.TrailLemmas.Values.{negative_key, trail_wider, trail_reserved}
-use Rattle.tables.specs.Filled as filled
+use Rattle.cnf_base.specs.Literals.{has}
 use Rattle.trail.proofs.trail.Trail.reserve_anew.Goals as goal
 
 in_range : (v : ℕ) → is_variable v ≡ true → (1 ≤ v) × (v ≤ 268435455)
-in_range v h = grind (arith, nat_tests)
+in_range v h = grind arith
 
 seen_or : {A : Type 0} (b : Bool) (x y : Option A) → is_some x ≡ true
     → (b ≡ false → is_some y ≡ true) → is_some (cond b x y) ≡ true
@@ -20,26 +19,10 @@ seen_or false x y here there = there refl
 
 -- the variables were all reserved before, but for the one that is
 up_to : (dense w v : ℕ) → (dense < w → w ≡ v) → eqb w v ≡ false → w ≤ dense
-up_to dense w v next other = grind (arith, nat_tests)
+up_to dense w v next other = grind arith
 
 pub invariant_of-self-in_err-reserve-2 : goal.invariant_of-self-in_err-reserve-2
-invariant_of-self-in_err-reserve-2 c =
-    let t = c.self.inside in let made = c.reserve_both.ensures in
-    let kept = c.in_err-reserve-2.ensures.err in
-    let same = seen_same (at t.seen) (at c.reserve-2.new.self) (λ k. ap is_some (kept k))
-    268435455 in
-    let wide = trail_wider t.lits.items (reserved_in (at t.seen)) (vec_capacity t.lits) (at t.seen)
-    (filled.at t.values) c.self.invariant.0 (vec_capacity c.reserve.new.self)
-    (at c.reserve-2.new.self) (filled.at c.reserve_both.new.values) c.reserve.ensures.capacity
-    (λ k. ap is_some (kept k)) made.same made.kept in (
-      subst (λ ls. IsTrail ls (reserved_in (at c.reserve-2.new.self))
-          (vec_capacity c.reserve.new.self) (at c.reserve-2.new.self)
-          (filled.at c.reserve_both.new.values)) (sym c.reserve.ensures.items)
-          (subst (λ vs. IsTrail t.lits.items vs (vec_capacity c.reserve.new.self)
-          (at c.reserve-2.new.self) (filled.at c.reserve_both.new.values)) (sym same) wide),
-      c.self.invariant.1 ∙ ap length (sym same),
-      (λ w some most. ap is_some (kept w) ∙ c.self.invariant.2 w some most),
-    )
+invariant_of-self-in_err-reserve-2 c = grind (arith, seen_same)
 
 pub invariant_of-self-2 : goal.invariant_of-self-2
 invariant_of-self-2 c =
@@ -81,7 +64,4 @@ returns-clause-reserved c w =
     let range = in_range v variable in
     let adds = seen_adds (at t.seen) (at c.reserve-2.new.self) 268435455 v _ range.0 range.1 c.in_ok-reserve-2.ensures.ok w in
     let old = ap (λ s. has s.reserved w) c.self.view_is in
-    elim (cases_eq w v) [
-      | inl same ↦ let here = ap is_variable same ∙ variable in grind (arith, nat_tests)
-      | inr apart ↦ grind (arith, nat_tests)
-    ]
+    grind (arith, cases_eq)

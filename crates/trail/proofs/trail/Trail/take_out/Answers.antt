@@ -1,6 +1,5 @@
 use Rattle.std.proofs.Common.{ℕ, Some, cond, eqb, Option, refl, sym, ◌∙◌, subst, ◌<◌, length}
-use Rattle.std.specs.Vec.{vec_capacity}
-use Rattle.std.proofs.lemmas.Grind.{get_or_default_zero}
+use Rattle.std.{specs.Vec.vec_capacity, proofs.lemmas.Grind.get_or_default_zero}
 use Rattle.tables.specs.Table.{at}
 use Rattle.trail.specs.Code.Values.{IsTrail, reserved_in}
 use Rattle.trail.specs.declared.value.Value.{TheVariants.Open, Value}

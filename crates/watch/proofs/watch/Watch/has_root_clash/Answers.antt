@@ -1,4 +1,4 @@
-use Rattle.std.proofs.Common.{[], sym, ap, ◌∙◌, subst}
+use Rattle.std.proofs.Common.{arith, [], sym, ap, ◌∙◌, subst}
 use Rattle.std.specs.FinMap as maps
 use Rattle.theory.specs.Propagation.{Clash}
 use Rattle.propagation.specs.Assumptions.{roots_in}
@@ -17,5 +17,5 @@ pub returns-clause-quiet : goal.returns-clause-quiet
 returns-clause-quiet c up quiet clash =
     let i = c.self.inside in
     let held = i.assumptions in
-    no_clash i.store.live i.roots held.trail.lits held.assumptions held.starts c.recall_invariant.ensures.different (simp c.trail.ensures at c.len-different.ensures.different) c.self.invariant.0.kept
+    no_clash i.store.live i.roots held.trail.lits held.assumptions held.starts c.recall_invariant.ensures.different (grind arith) c.self.invariant.0.kept
     (ap (λ w. w.is_up_to_date) c.self.view_is ∙ up) (sym c.has_clash.ensures ∙ quiet) (subst (λ w. Clash (maps.get w.propagation.live) []) (sym c.self.view_is) clash)

@@ -1,4 +1,4 @@
-use Rattle.std.proofs.Common.{sym, ap, ◌∙◌}
+use Rattle.std.proofs.Common.{arith, ap, ◌∙◌}
 use Rattle.std.specs.FinMap as maps
 use Rattle.cnf_base.proofs.SetLemmas.{same_from, same_trans}
 use Rattle.root_literals.specs.Order.{in_order}
@@ -11,7 +11,7 @@ returns-clause-found c =
     let live = c.self.inside.store.live in
     if_some_then c.find.result (λ slot h. (
       in_order h.0,
-      ap (λ w. maps.get w.propagation.live slot) (sym c.self.view_is) ∙ seen_there live slot h.0 h.1,
+      grind (arith, seen_there),
       same_trans (in_order h.0) h.0 c.args.lits.now (same-in_order h.0) h.2,
     )) c.find.ensures.found
 
@@ -20,4 +20,4 @@ returns-clause-none c =
     let live = c.self.inside.store.live in
     if_none_then c.find.result c.find.ensures.none (λ h s d there same.
     let w = there_seen live s d (ap (λ w. maps.get w.propagation.live s) c.self.view_is ∙ there) in
-    h s w.0 w.1 (same_trans w.0 d c.args.lits.now (same_from w.0 d (λ l g. w.2 l ∙ g) (λ l g. sym (w.2 l) ∙ g)) same))
+    h s w.0 w.1 (same_trans w.0 d c.args.lits.now (grind (arith, same_from)) same))

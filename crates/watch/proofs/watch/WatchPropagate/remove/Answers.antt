@@ -1,40 +1,38 @@
-use Rattle.std.proofs.Common.{◌/◌, is_some, sym, ap, ◌∙◌}
+use Rattle.std.proofs.Common.{arith, ◌/◌, is_some, sym, ap, ◌∙◌}
 use Rattle.std.specs.FinMap as maps
-use Rattle.root_literals.specs.Order.{each_in_order}
-use Rattle.propagation.proofs.PropagationLemmas.Scan.{room_removed}
+use Rattle.root_literals.{specs.Order.each_in_order, proofs.RootLemmas.Order.ordered_remove}
 use Rattle.root_literals.proofs.RootLemmas.Order.{alive_alike, alive_clause, literals_ordered}
-use Rattle.root_literals.proofs.RootLemmas.Order.{ordered_remove}
+use Rattle.propagation.proofs.PropagationLemmas.Scan.{room_removed}
 use Rattle.watch.proofs.WatchLemmas.State.{lists_low, loaded_all, alone_kept, tautologies_removed}
 use Rattle.watch.proofs.WatchLemmas.State.{tautologies_there, watch_put_back, watch_removed}
 use Rattle.watch.proofs.watch.WatchPropagate.remove.Goals as goal
 
 pub remove_entries-requires-clause-alive : goal.remove_entries-requires-clause-alive
 remove_entries-requires-clause-alive c =
-    sym (alive_alike c.self.inside.store.live c.args.slot) ∙ ap (λ w. is_some (maps.get w.propagation.live c.args.slot)) c.self.view_is ∙ c.requires.alive
+    sym (grind (arith, alive_alike)) ∙ ap (λ w. is_some (maps.get w.propagation.live c.args.slot)) c.self.view_is ∙ c.requires.alive
 
 pub remove_clause-requires-clause-alive : goal.remove_clause-requires-clause-alive
 remove_clause-requires-clause-alive c =
-    sym (alive_alike c.self.inside.store.live c.args.slot) ∙ ap (λ w. is_some (maps.get w.propagation.live c.args.slot)) c.self.view_is ∙ c.requires.alive
+    sym (grind (arith, alive_alike)) ∙ ap (λ w. is_some (maps.get w.propagation.live c.args.slot)) c.self.view_is ∙ c.requires.alive
 
 pub leave-requires-clause-alive : goal.leave-requires-clause-alive
 leave-requires-clause-alive c =
-    sym (alive_alike c.self.inside.store.live c.args.slot) ∙ ap (λ w. is_some (maps.get w.propagation.live c.args.slot)) c.self.view_is ∙ c.requires.alive
+    sym (grind (arith, alive_alike)) ∙ ap (λ w. is_some (maps.get w.propagation.live c.args.slot)) c.self.view_is ∙ c.requires.alive
 
 pub leave-requires-clause-kept : goal.leave-requires-clause-kept
 leave-requires-clause-kept c =
     let i = c.self.inside in
-    alone_kept i.is_loading i.store.live i.lists i.units i.roots i.assumptions c.self.invariant.0 (ap (λ w. w.propagation.assumptions) c.self.view_is ∙ c.requires.nothing_assumed)
+    grind (arith, alone_kept)
 
 pub remove_entries-requires-clause-listed : goal.remove_entries-requires-clause-listed
 remove_entries-requires-clause-listed c loaded =
     let i = c.self.inside in
-    (loaded_all i.is_loading i.store.live c.leave.new.lists loaded (watch_put_back i.is_loading i.store.live i.lists c.leave.new.lists i.units i.roots i.assumptions c.leave.ensures.lists c.self.invariant.0).listed).each
+    grind (arith, loaded_all, watch_put_back)
 
 pub remove_entries-requires-clause-low : goal.remove_entries-requires-clause-low
 remove_entries-requires-clause-low c =
     let i = c.self.inside in
-    lists_low i.is_loading i.store.live i.lists c.self.invariant.0.listed c.args.slot
-    (sym (alive_alike i.store.live c.args.slot) ∙ ap (λ w. is_some (maps.get w.propagation.live c.args.slot)) c.self.view_is ∙ c.requires.alive)
+    grind (arith, lists_low, alive_alike)
 
 pub remove_entries-requires-clause-tautologies : goal.remove_entries-requires-clause-tautologies
 remove_entries-requires-clause-tautologies c =
