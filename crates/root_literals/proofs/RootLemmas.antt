@@ -1,15 +1,6 @@
 -- Root literals.
-pub mod Order
-pub mod Watched
 pub mod Reasons
-pub mod Uses
-pub mod History
+pub mod Watched
 pub mod Kept
-pub mod Closed
 pub mod Carried
-pub mod Grown
-pub mod Propagated
-pub mod Doubts
-pub mod Units
-pub mod Entered
 pub mod Unshared

@@ -135,10 +135,6 @@ module _ (s : View) (step : Step) (end : StepEnd) (offset : ℕ) (p : Proof) (re
 -- ---- A whole proof
 
 module _ (rule : Rule) (fault : Option Fault) (clauses : List Clause) (p : Proof) (reader : Reader) (rest : Suffix) (checked : Checked) (none : checked.refused ≡ None) (quiet : checked.literal_lost ≡ false) (tells : TellsFault fault p.fault checked) where
-  -- no verdict was answered, and nothing was read
-  pub LeavesProof-broken : (IsVerdict checked.status → ⊥) → LeavesProof rule fault clauses p reader reader rest checked
-  LeavesProof-broken broken = search (rules, none, TellsLoss-none)
-
   -- some clause is empty
   pub LeavesProof-empty : list_any is_empty clauses ≡ true → LeavesProof rule fault clauses p reader reader rest checked
   LeavesProof-empty empty = search rules
@@ -304,20 +300,15 @@ module _ (trace : Bool) (start now new : Standing) (first session : View) (accep
     pub Checking-fault : (end : Option StepEnd) (f : Fault) → Along now.stream new.stream (Gave (Err f) end step)
         → (f ≡ OutOfMemory → (r : Report) → Outcome checked.status lines.held last.held r) → ((f ≡ OutOfMemory → ⊥) → Outcome checked.status lines.held last.held (end_report (Some f)))
         → TellsOf f → Along start.stream new.stream (λ i j. Ended checked last i j)
-    Checking-fault end f gives memory other tells = Along-then _ _ _ _ _ _ so_far.run gives (λ i j k m p q. by f i j k p q memory other tells)
-      where
-        by : (f : Fault) (i j k : Suffix) → SoFar i j → Gave (Err f) end step j k
-            → (f ≡ OutOfMemory → (r : Report) → Outcome checked.status lines.held last.held r) → ((f ≡ OutOfMemory → ⊥) → Outcome checked.status lines.held last.held (end_report (Some f)))
-            → TellsOf f → Ended checked last i k
-        by OutOfMemory i j k p q memory other tells =
-            let some = Rest-some trace session.state so_far.count session.peak so_far.finite (now.to_come j) in
-            ended checked last i j k some.0 p some.1 (memory refl some.0)
-            (LeavesRest-broken session (now.to_come j) k checked none quiet (no_verdict checked.status lines.held last.held [] (memory refl (record { lines = []; status = Malformed })))
-            (record { malformed = λ m. absurd (tells.2 refl m); only = tells.1 }) q.1)
-        by f i j k p q memory other tells = let end = (now.to_come j).fault_end in
-            let e = IsFaulty-is f (now.to_come j) q.0.0 in
-            ended checked last i j k (end_report (Some f)) p (rw e (Rest-fault trace session.state so_far.count session.peak f end)) (other (λ e. cc))
-            (rw e (LeavesRest-none session (Some f) end k checked none quiet (record { malformed = tells.0; only = tells.1 }) (rw (← e) q.1)))
+    Checking-fault end OutOfMemory gives memory other tells = Along-then _ _ _ _ _ _ so_far.run gives (λ i j k m p q.
+        let some = Rest-some trace session.state so_far.count session.peak so_far.finite (now.to_come j) in
+        ended checked last i j k some.0 p some.1 (memory refl some.0)
+        (LeavesRest-broken session (now.to_come j) k checked none quiet (no_verdict checked.status lines.held last.held [] (memory refl (record { lines = []; status = Malformed })))
+        (record { malformed = λ m. absurd (tells.2 refl m); only = tells.1 }) q.1))
+    Checking-fault end f gives memory other tells = Along-then _ _ _ _ _ _ so_far.run gives (λ i j k m p q.
+        let end = (now.to_come j).fault_end in let e = IsFaulty-is f (now.to_come j) q.0.0 in
+        ended checked last i j k (end_report (Some f)) p (rw e (Rest-fault trace session.state so_far.count session.peak f end)) (other (λ e. cc))
+        (rw e (LeavesRest-none session (Some f) end k checked none quiet (record { malformed = tells.0; only = tells.1 }) (rw (← e) q.1))))
 
 -- what a call gave, by its answer's pattern
 pub step_told : (now new : Standing) (result answer : Result Bool Fault) (end : Option StepEnd) (s : Step)
@@ -365,24 +356,19 @@ module _ (rule : Rule) (trace : Bool) (to_come : ProofReading → Suffix → Pro
       × LeavesProof rule (formula_of i).fault (formula_of i).clauses (to_come x j) x.stream.reader last.reader k checked
       × ReadsNoFurtherThanFault i formula formula_new
 
-  pub reports_run : (reader : ProofReading) → reader ≡ fresh_reading source → (f : Seen formula formula_new)
+  -- a report by a rule is one by the rule that it is
+  pub reports_run : (other : Rule) → rule ≡ other → (reader : ProofReading) → reader ≡ fresh_reading source → (f : Seen formula formula_new)
       → Along reader.stream last (Did f reader)
-      → AllReports rule trace steps formula formula_new proof new checked was.held now.held
-  reports_run reader made f run =
+      → AllReports other trace steps formula formula_new proof new checked was.held now.held
+  reports_run other same reader made f run =
       let fresh : ProofReading = fresh_reading (unread_stream proof borrows) in
       let Q : Suffix → Suffix → Type 0 = λ j k. Did f fresh j k × (bytes_read proof last.reader + j.offset ≤ k.offset + 65536) in
       let begun : Along (unread_stream proof borrows) last (Did f fresh) = search (rules, made, is, run) in
       let within = Along-within (unread_stream proof borrows) last (Did f fresh) (omega arith) begun in
-      rw kept (record {
+      rw (kept, ← same) (record {
         first = f;
         second = Seen-run proof borrows last Q within;
         fact = λ i j s t. let seen = Seen-fact proof borrows last Q within j t in
             let did = seen.2.0 i s in
             rw (← all j) (did.0, reads_no_further rule i seen.0 (to_come fresh (from_start j)) proof last.reader checked did.1 seen.2.1, did.1.told, did.2);
       })
-
--- the same report by the same rule of the same steps
-pub reports_as : (rule other : Rule) (trace : Bool) (steps others : Input → Proof) (formula formula_new proof new : Reader) (checked : Checked) (was now : Sink) → rule ≡ other → ((j : Input) → steps j ≡ others j)
-    → AllReports rule trace steps formula formula_new proof new checked was.held now.held → AllReports other trace others formula formula_new proof new checked was.held now.held
-reports_as rule other trace steps others formula formula_new proof new checked was now is all reports =
-    grind arith

@@ -1,41 +1,50 @@
--- A formula is read, and loaded, clause by clause.
-use Rattle.std.proofs.Common.{Bool, List, None, Some, [], ap, append-nil, append_assoc, arith}
-use Rattle.std.proofs.Common.{false, length, length-append, max, refl, rules, suc, sym, true, zero}
-use Rattle.std.proofs.Common.{ℕ, ◌++◌, ◌+◌, ◌-◌, ◌||◌, ◌∙◌, ◌∷◌, ◌≡◌, ◌≤◌}
-use Rattle.std.proofs.lemmas.{List.Folds.list_any-append, List.Sums.sum_by-append, Option.none-some}
-use Rattle.std.specs.{FinMap.get-empty, Ordering.nat_cmp}
-use Rattle.std.specs.Prelude.{Err, Ok, Result, slice_get}
-use Rattle.std.specs.FinMap as maps
-use Rattle.cnf_base.proofs.SeenLemmas.{Seen-fact, Seen-nothing, Seen-run}
-use Rattle.cnf_base.proofs.SetLemmas.{same_itself}
+-- A formula is read, and loaded, clause by clause; what has no fault was read to its end.
+use Rattle.cnf_base.proofs.SeenLemmas.{Seen-fact}
+use Rattle.cnf_base.proofs.{SeenLemmas.Seen-nothing, SeenLemmas.Seen-run, SetLemmas.same_itself}
 use Rattle.cnf_base.proofs.StreamLemmas.{Along-map, Along-none, Along-then, Along-within}
-use Rattle.cnf_base.specs.{Code.Seen.OfSeen, Literals.Clause, Literals.same_clause, Literals.size}
-use Rattle.cnf_base.specs.Stream.{Along, Input, Reader, Stream, Suffix, bytes_read, from_start}
-use Rattle.cnf_base.specs.{Stream.unread_stream, declared.fault.Fault.Fault}
-use Rattle.cnf_base.specs.declared.{fault.Fault.TheVariants.OutOfMemory, place.Place.Place}
-use Rattle.dimacs.specs.Formula.{Body, Formula, ends_at, formula_at, formula_of, opened}
-use Rattle.dimacs.specs.Reading.{FormulaReading, GivesClause, GivesEnd, PassesNoEnd}
-use Rattle.dimacs.specs.Reading.{clauses_to_come, ends_to_come, unopened}
-use Rattle.dimacs.specs.declared.header.Header.{Header}
+use Rattle.cnf_base.specs.{Code.Seen.OfSeen, Grammar.word_lines, Literals.Clause, Literals.Literal}
+use Rattle.cnf_base.specs.{Literals.has, Literals.same_clause, Literals.size, Printing.input_of}
+use Rattle.cnf_base.specs.Stream.{Along, Input, Reader, Stream, Suffix}
+use Rattle.cnf_base.specs.{Stream.bytes_read, Stream.from_start, Stream.unread_stream, Text.Listed}
+use Rattle.cnf_base.specs.Text.{Listing, Spot, is_comment, lines_listing}
+use Rattle.cnf_base.specs.{Text.lines_of, Text.listing_of, declared.fault.Fault.Fault}
+use Rattle.cnf_base.specs.declared.fault.{Fault.TheVariants.OutOfMemory, TextFault.TextFault}
+use Rattle.cnf_base.specs.declared.input.Ending.{Ending, TheVariants.End, TheVariants.Failed}
+use Rattle.{cnf_base.specs.declared.place.Place.Place, dimacs.proofs.ModelGrammar.model_grammar}
+use Rattle.dimacs.specs.Claim.{IsConsistent, Said, claim_among, claim_of, nothing}
+use Rattle.dimacs.specs.Formula.{Body, Formula, body_among, body_on_word, ends_at}
+use Rattle.dimacs.specs.Formula.{formula_at, formula_of, formula_with, header_of, judged, opened}
+use Rattle.dimacs.specs.{Grammar.ModelText, Printing.IsModel, Reading.FormulaReading}
+use Rattle.dimacs.specs.Reading.{GivesClause, GivesEnd, PassesNoEnd, clauses_to_come}
+use Rattle.dimacs.specs.{Reading.ends_to_come, Reading.unopened, declared.header.Header.Header}
 use Rattle.{drat_steps.proofs.DratLemmas.Steps.none_listed, sat_check.specs.Code.Checking.IsLoaded}
 use Rattle.sat_check.specs.Code.{Checking.Loads, Checking.LoadsBody, FormulaReach.LeavesFault}
-use Rattle.sat_check.specs.FormulaReach.{ReadsNoFurtherThanFault}
+use Rattle.{sat_check.specs.FormulaReach.ReadsNoFurtherThanFault, std.proofs.Common.Bool}
+use Rattle.std.proofs.Common.{Err, List, None, Ok, Option, Result, Some, [], ap, append-nil}
+use Rattle.std.proofs.Common.{append_assoc, arith, false, length, length-append, max, refl, reverse}
+use Rattle.std.proofs.Common.{rules, subst, suc, sym, true, zero, ℕ, ◌++◌, ◌+◌, ◌-◌, ◌||◌, ◌∙◌}
+use Rattle.std.proofs.{Common.◌∷◌, Common.◌≡◌, Common.◌≤◌, lemmas.List.Folds.list_any-append}
+use Rattle.std.proofs.lemmas.List.Sorted.{IsPermutation-reverse, list_any-IsPermutation}
+use Rattle.std.proofs.lemmas.List.{Sums.sum_by-append, length_push, reverse-reverse}
+use Rattle.std.{proofs.lemmas.Option.none-some, specs.FinMap.get-empty, specs.Ordering.nat_cmp}
+use Rattle.std.specs.Prelude.{IfOk, slice_get}
 use Rattle.steps.specs.{ProofSession.View, Session.SessionState, Session.fresh, Session.view_of}
 use Rattle.theory.proofs.DratLemmas.Copies.{copies-cons, none_alive}
-use Rattle.theory.proofs.LawLemmas.{Existence.numbered_above, Rules.same_trans, Rules.sum_same}
-use Rattle.theory.proofs.LratLemmas.{LiveSets.SameClauses-eq, SameSets.with_same}
-use Rattle.theory.proofs.LratLemmas.{States.numbered_push, Sums.sum_with}
-use Rattle.theory.specs.Lrat.{lrat_start, numbered, with_clause}
-use Rattle.theory.specs.Rules.{Rule, Same, State, by_copies, by_ids, drat, lrat, rule_of, start}
-use Rattle.theory.specs.Rules.{sum_of, with_input}
+use Rattle.theory.proofs.LawLemmas.{Existence.numbered_above, Rules.same_trans}
+use Rattle.theory.proofs.{LawLemmas.Rules.sum_same, LratLemmas.LiveSets.SameClauses-eq}
+use Rattle.theory.proofs.LratLemmas.{SameSets.with_same, States.numbered_push}
+use Rattle.theory.{proofs.LratLemmas.Sums.sum_with, specs.Lrat.lrat_start, specs.Lrat.numbered}
+use Rattle.theory.specs.{Rules.Rule, Rules.Same, Rules.State, Rules.by_copies}
+use Rattle.theory.specs.Rules.{by_ids, drat, lrat, rule_of, start, sum_of, with_input}
 use Rattle.theory.specs.{Sizes.size_at, Sizes.sum_to, Sizes.total, Verdicts.is_empty}
+use Rattle.cnf_base.specs.declared.token.Token.TheVariants as token
+use Rattle.std.specs.FinMap as maps
 
 -- ---- A whole input
 
 -- nothing was read
 pub seen_nothing : (P : Input → Type 0) (old new : Reader) → old ≡ new → ((i : Input) → P i) → OfSeen old new P
-seen_nothing P old new same all =
-    rw (← same) (record { seen = Seen-nothing old; fact = λ i seen. all i })
+seen_nothing P old new same all = rw (← same) (grind (arith, Seen-nothing))
 
 -- a reader that was fresh was read: what was made of what follows, and with how many bytes read
 pub seen_within : (P : Place → Suffix → Suffix → Type 0) (old : Reader) (borrows : List ℕ) (source last : Stream) (new : Reader)
@@ -46,8 +55,7 @@ seen_within P old borrows source last new is kept run =
     let within : Along (unread_stream old borrows) last R = Along-within (unread_stream old borrows) last _ (omega arith) (rw is at run) in
     rw kept (record {
       seen = Seen-run old borrows last R within;
-      fact = λ i seen. let x = Seen-fact old borrows last R within i seen in
-          grind arith;
+      fact = grind (arith, Seen-fact);
     })
 
 -- another fact of what was seen
@@ -62,9 +70,6 @@ seen_run P old borrows source last new is kept run = seen_map old new _ _
     (seen_within (λ p i j. P p i) old borrows source last new is kept run) (λ i x. x.1)
 
 -- ---- A formula's clauses
-
-pub length_push : (cs : List Clause) (c : Clause) → length (cs ++ c ∷ []) ≡ length cs + 1
-length_push cs c = length-append cs (c ∷ [])
 
 abbrev pub with_clauses : List Clause → Body → Body
 with_clauses cs b = record { clauses = cs ++ b.clauses; fault = b.fault }
@@ -111,10 +116,6 @@ fault_left read old i k passed offset at =
     grind (arith, length-append) in
     later_left read old i k _ offset passed (omega (arith, all)) at
 
--- whatever was given, no end that was to come was passed
-pub none_passed : (result : Result Bool Fault) (before after : List ℕ) (rest : Suffix) → GivesEnd result before after rest → PassesNoEnd before rest
-none_passed result before after rest h = search rules
-
 -- after these clauses comes the fault; want of memory says nothing
 abbrev pub FaultAfter : List Clause → Fault → Body → Type 0
 FaultAfter cs OutOfMemory b = Unit {0}
@@ -141,11 +142,11 @@ module _ (old now new : FormulaReading) (clauses : List Clause) (so_far : Reads 
 
   pub Reads-done : Gave now new (Ok false) c
       → Along old.stream new.stream (λ i j. (clauses_to_come old i ≡ record { clauses = clauses; fault = None }) × NonePassed old clauses i j)
-  Reads-done gives = search (rules, Along-then, append-nil, none_passed, so_far.run)
+  Reads-done gives = search (rules, Along-then, append-nil, so_far.run)
 
   pub Reads-fault : (f : Fault) → Gave now new (Err f) c
       → Along old.stream new.stream (λ i j. FaultAfter clauses f (clauses_to_come old i) × NonePassed old clauses i j)
-  Reads-fault f gives = search (rules, Along-then, append-nil, none_passed, so_far.run)
+  Reads-fault f gives = search (rules, Along-then, append-nil, so_far.run)
 
 -- what a call gave, by its answer's pattern
 pub clause_told : (now new : FormulaReading) (result answer : Result Bool Fault) (c : Clause) → Gave now new result c → result ≡ answer → Gave now new answer c
@@ -175,8 +176,7 @@ sum_push rule cs c = search (rules, arith, total_push, sum_by-append)
 
 -- the next clause of a formula
 start_push : (rule : Rule) (cs : List Clause) (c : Clause) → Same (with_input (start rule cs) c) (start rule (cs ++ c ∷ []))
-start_push lrat cs c =
-    (SameClauses-eq (with_clause (numbered cs) (length cs + 1) c) (numbered (cs ++ c ∷ [])) (numbered_push cs c), sym (length_push cs c))
+start_push lrat cs c = grind (arith, SameClauses-eq, numbered_push, length_push)
 start_push (drat rules) cs c = search (rules, arith, copies-cons, sum_by-append)
 
 input_same : (s t : State) (c : Clause) → Same s t → Same (with_input s c) (with_input t c)
@@ -273,15 +273,9 @@ module _ (rule : Rule) (s : View) (left : Reader) (borrows : List ℕ) (source :
       (seen_within (Loaded result) left borrows source last new is kept run)
       (grind arith)
 
-  fault_loads : (f : Fault) (x : Formula) → x.fault ≡ Some f → Loads rule s (Err f) x
-  fault_loads f x h = search rules
-
-  body_fault : (f : Fault) (x : Formula) (h : Header) (b : Body) → x ≡ opened h b → LoadsBody rule s (Err f) b → Loads rule s (Err f) x
-  body_fault f x h b h2 h3 = search rules
-
   pub loads_fault : (f : Fault) (last : Stream) (new : Reader) → new ≡ last.reader
       → Along source last (λ i j. (formula_at source.place i ≡ unopened f) × PassesNoEnd (ends_at source.place i) j) → AllLoads rule s left new (Err f)
-  loads_fault f last new kept run = all_loads last new (Err f) kept (search (rules, Along-map, fault_loads))
+  loads_fault f last new kept run = all_loads last new (Err f) kept (grind (arith, Along-map))
 
   module _ (r : FormulaReading) (last : Stream) (new : Reader) (kept : new ≡ last.reader)
       (opens : Along source r.stream (λ i j. (formula_at source.place i ≡ opened r.header (clauses_to_come r j)) × (ends_at source.place i ≡ ends_to_come r j))) where
@@ -290,9 +284,115 @@ module _ (rule : Rule) (s : View) (left : Reader) (borrows : List ℕ) (source :
     Rest result = Along r.stream last (λ i j. LoadsBody rule s result (clauses_to_come r i) × LeavesFault (clauses_to_come r i).clauses (ends_to_come r i) j)
 
     pub loads_body : (h : Header) → h ≡ r.header → Rest (Ok tt) → AllLoads rule s left new (Ok h)
-    loads_body h same body = all_loads last new (Ok h) kept (search (rules, Along-then, same, opened_left))
+    loads_body h same body = all_loads last new (Ok h) kept (search (rules, Along-then, same))
 
     pub loads_body_fault : (f : Fault) (result : Result Header Fault) → result ≡ Err f → Rest (Err f)
         → AllLoads rule s left new result
     loads_body_fault f result is body =
-        rw is (all_loads last new (Err f) kept (search (rules, Along-then, body_fault, opened_left)))
+        rw is (all_loads last new (Err f) kept (grind (arith, Along-then, opened_left)))
+
+-- ---- What is left of a text ends as the text does
+
+listing_ending : (skips : Bool) (s : Spot) (lines : List (List ℕ)) (ending : Ending) →
+    (lines_listing skips s lines ending).ending ≡ ending
+listing_ending skips s [] ending = refl
+listing_ending skips s (line ∷ []) ending = refl
+listing_ending skips s (line ∷ next ∷ lines) ending =
+    listing_ending (is_comment next) _ (next ∷ lines) ending
+
+module _ (e : Ending) where
+  abbrev EndsSo : Listing → Type 0
+  EndsSo l = l.ending ≡ e
+
+  header_so : (l : Listing) → EndsSo l → IfOk (header_of l) (λ h. EndsSo h.1)
+  header_so l so = search rules
+
+-- ---- Formulas
+
+module _ (h : Header) (ts : List Listed) (p : Place) where
+  abbrev Later : ℕ → List Literal → Type 0
+  Later complete literals = (body_among h complete literals ts p Failed).fault ≡ None → ⊥
+
+  word_failed : (complete : ℕ) (literals : List Literal) (q : Place)
+      (r : Result (Option Literal) TextFault) →
+      ((complete : ℕ) (literals : List Literal) → Later complete literals)
+      → (body_on_word complete literals q r
+      (λ complete literals. body_among h complete literals ts p Failed)).fault ≡ None → ⊥
+  word_failed complete literals q r h h2 = search rules
+
+body_failed : (h : Header) (complete : ℕ) (literals : List Literal) (ts : List Listed) (p : Place)
+    → (body_among h complete literals ts p Failed).fault ≡ None → ⊥
+body_failed h complete literals [] p whole = cc
+body_failed h complete literals ((token.Word q w, offset) ∷ ts) p whole =
+    word_failed h ts p complete literals q (judged h complete w)
+    (λ complete literals. body_failed h complete literals ts p) whole
+body_failed h complete literals (t ∷ ts) p whole = body_failed h complete literals ts p whole
+
+-- a formula without a fault was read to its end
+pub formula_ends : (i : Input) → (formula_of i).fault ≡ None → i.ending ≡ End
+formula_ends i whole = by i.ending refl
+  where
+    of_header : (r : Result (Header × Listing) (Fault × List ℕ)) →
+        IfOk r (λ h. h.1.ending ≡ Failed) → (formula_with r).fault ≡ None → ⊥
+    of_header (Ok h) failed whole = search (rules, body_failed)
+    of_header (Err f) failed whole = cc
+
+    by : (e : Ending) → i.ending ≡ e → e ≡ End
+    by End is = refl
+    by Failed is = absurd (of_header (header_of (listing_of i))
+        (header_so Failed (listing_of i) (listing_ending _ _ (lines_of i.bytes) i.ending ∙ is))
+        whole)
+
+-- and it has a header
+pub formula_header : (i : Input) → (formula_of i).fault ≡ None → (h : Header) × (formula_of i ≡
+    record { header = Some h; clauses = (formula_of i).clauses; fault = None })
+formula_header i whole = by (header_of (listing_of i)) whole
+  where
+    by : (r : Result (Header × Listing) (Fault × List ℕ)) → (formula_with r).fault ≡ None
+        → (h : Header) × (formula_with r ≡
+        record { header = Some h; clauses = (formula_with r).clauses; fault = None })
+    by (Ok h) whole = search rules
+    by (Err f) whole = cc
+
+-- ---- Claims
+
+claim_failed : (s : Said) (ts : List Listed) (p : Place) (listed : List Literal) →
+    claim_among s ts p Failed ≡ Ok listed → ⊥
+claim_failed s [] p listed ok = cc
+claim_failed s (t ∷ ts) p listed ok = search (rules, (λ (r : Said). claim_failed r ts p listed))
+
+-- an output whose claim has no fault was read to its end
+pub claim_ends : (i : Input) (listed : List Literal) → claim_of i ≡ Ok listed → i.ending ≡ End
+claim_ends i listed ok = by i.ending refl
+  where
+    by : (e : Ending) → i.ending ≡ e → e ≡ End
+    by End is = refl
+    by Failed is = let P : Ending → Type 0 =
+        λ e. claim_among nothing (listing_of i).tokens (listing_of i).end e ≡ Ok listed in
+        absurd (claim_failed nothing (listing_of i).tokens (listing_of i).end listed
+        (subst P (listing_ending _ _ (lines_of i.bytes) i.ending ∙ is) ok))
+
+-- ---- The claim of a solver's output, as the grammar of the output has it
+
+-- the order of literals says nothing
+pub has_reverse : (ls : List Literal) (l : Literal) → has (reverse ls) l ≡ has ls l
+has_reverse ls l = sym (list_any-IsPermutation _ ls (reverse ls) (IsPermutation-reverse ls))
+
+-- the literals of a claim, in the order in which they are written
+pub claim_text : (bytes : List ℕ) (listed : List Literal) → claim_of (input_of bytes) ≡ Ok listed
+    → IsModel (reverse listed) × ModelText (word_lines bytes) (reverse listed)
+claim_text bytes listed ok = model_grammar.read_is_written bytes (reverse listed)
+    (grind (arith, reverse-reverse))
+
+-- a claim holds no complements
+pub claim_consistent : (i : Input) → IfOk (claim_of i) IsConsistent
+claim_consistent i = by (claim_of i) refl
+  where
+    of_listed : (listed : List Literal) → claim_of i ≡ Ok listed → IsConsistent listed
+    of_listed listed ok = let P : Input → Type 0 = λ x. claim_of x ≡ Ok listed in
+        let whole : claim_of (input_of i.bytes) ≡ Ok listed =
+        subst P (ap (λ e. record { bytes = i.bytes; ending = e }) (claim_ends i listed ok)) ok in
+        search (rules, has_reverse, (claim_text i.bytes listed whole))
+
+    by : (r : Result (List Literal) Fault) → claim_of i ≡ r → IfOk r IsConsistent
+    by r h = search (rules, arith, of_listed)

@@ -18,16 +18,16 @@ use Rattle.dimacs.specs.Reading.{FormulaReading, PassesNoEnd, clauses_to_come, e
 use Rattle.report.specs.Lines.{a_model, fault_line, fault_status}
 use Rattle.report.specs.declared.status.Status.{Status, TheVariants.Malformed}
 use Rattle.report.specs.declared.status.Status.TheVariants.{OutOfMemory as NoMemory, Verified}
-use Rattle.sat_check.proofs.EndingLemmas.{claim_consistent}
 use Rattle.sat_check.proofs.FormulaLemmas.{FaultAfter, Gave, NonePassed, Reads, Reads-clause}
-use Rattle.sat_check.proofs.FormulaLemmas.{Reads-done, Reads-fault, Reads-start, fault_left}
-use Rattle.sat_check.proofs.FormulaLemmas.{later_left, length_push, seen_map, seen_nothing}
-use Rattle.sat_check.proofs.FormulaLemmas.{seen_within, unread_fault}
+use Rattle.sat_check.proofs.FormulaLemmas.{Reads-done, Reads-fault, Reads-start, claim_consistent}
+use Rattle.sat_check.proofs.FormulaLemmas.{fault_left, later_left, seen_map, seen_nothing, seen_within}
+use Rattle.sat_check.proofs.{FormulaLemmas.unread_fault, OutcomeLemmas.both_told}
+use Rattle.sat_check.proofs.{OutcomeLemmas.written_model, ReportLemmas.fault_is_no_verdict}
+use Rattle.sat_check.proofs.ReportLemmas.{outcome_complete, outcome_verified}
+use Rattle.std.proofs.lemmas.List.{length_push}
 use Rattle.sat_check.specs.{Code.FormulaReach.LeavesFault, FormulaReach.ReadsNoFurtherThanFault}
 use Rattle.sat_check.specs.Code.Judging.{LeavesUnmet, Judges, ReadsToUnmet, judged_report, unmet_in}
 use Rattle.sat_check.specs.declared.judgement.Judgement.TheVariants.{Met, Unmet}
-use Rattle.sat_check.proofs.OutcomeLemmas.{both_told, written_model}
-use Rattle.sat_check.proofs.SoundLemmas.{fault_is_no_verdict, outcome_complete, outcome_verified}
 use Rattle.sat_check.specs.ModelReport.{ChecksModel, ModelConsequences, ReadsFormulaNoFurther}
 use Rattle.sat_check.specs.ModelReport.{Satisfies, TellsModelFault, TellsUnmet, claim_report}
 use Rattle.sat_check.specs.ModelReport.{first_unmet, meets, model_report}
@@ -175,10 +175,6 @@ judged_as listed j f h = search rules
 -- and the first clause that isn't met is the one that it has
 pub judged_unmet : (listed : List Literal) (j : Judgement) (f : Formula) → Judges listed (Ok j) f.clauses f.fault → unmet_in j ≡ first_unmet 1 listed f.clauses
 judged_unmet listed j f h = search rules
-
--- where the formula has a fault, each clause before it is met
-pub fault_unmet : (listed : List Literal) (e : Fault) (f : Formula) → Judges listed (Err e) f.clauses f.fault → (e ≡ OutOfMemory → ⊥) → first_unmet 1 listed f.clauses ≡ None
-fault_unmet listed e f j room = search rules
 
 -- a fault's lines, or want of memory
 abbrev pub WritesFault : List ℕ → Fault → Status → Sink → Sink → Type 0

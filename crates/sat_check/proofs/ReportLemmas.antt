@@ -1,32 +1,118 @@
--- A report: the rest of it, step by step, and the whole.
-use Rattle.std.proofs.Common.{Bool, Err, List, None, Ok, Option, Some, [], ap, arith, codes, cond}
-use Rattle.std.proofs.Common.{false, length, max, refl, rules, sym, true, ℕ, ◌++◌, ◌+◌, ◌∙◌, ◌∷◌}
-use Rattle.cnf_base.specs.{Literals.Clause, Printing.line_of, Stream.Input}
-use Rattle.cnf_base.specs.Text.{Listing, listing_of}
-use Rattle.cnf_base.specs.declared.fault.Fault.{Fault, TheVariants.OutOfMemory}
+-- A report: the rest of it, step by step, and what status 0 and a written `s VERIFIED` mean.
+use Rattle.cnf_base.specs.{Literals.Clause, Printing.line_of, Seen.OfBothSeen, Stream.Input}
+use Rattle.cnf_base.specs.{Stream.Reader, Text.Listing, Text.listing_of, declared.fault.Fault.Fault}
+use Rattle.cnf_base.specs.declared.fault.Fault.TheVariants.{OutOfMemory}
 use Rattle.dimacs.specs.Formula.{Formula, formula_of, formula_with, header_of}
-use Rattle.dimacs.specs.declared.header.Header.{Header}
-use Rattle.proofs.specs.Reading.{Proof, clean, with_step}
-use Rattle.proofs.specs.{Steps.Step, declared.step_end.StepEnd.StepEnd}
+use Rattle.{dimacs.specs.declared.header.Header.Header, proofs.specs.Reading.Proof}
+use Rattle.proofs.specs.{Reading.with_step, Steps.Step, declared.step_end.StepEnd.StepEnd}
 use Rattle.report.specs.Lines.{a_proof, fault_line, fault_status, formula_line, refusal_line, shown}
 use Rattle.report.specs.{Lines.steps_line, Lines.with_cause, declared.status.Status.Status}
 use Rattle.report.specs.declared.status.Status.TheVariants.{Malformed, NotVerified, Verified}
-use Rattle.sat_check.proofs.OutcomeLemmas.{Outcome-after, Outcome-line, Writes-all, no_verdict}
-use Rattle.sat_check.specs.Code.Checking.{IsLoaded, IsRefused, Loads, Rest, Stops, counted}
-use Rattle.sat_check.specs.Code.Checking.{end_report, is_memory, peak_of, traced}
-use Rattle.sat_check.specs.Code.Reach.{IsVerdict}
-use Rattle.sat_check.specs.Report.{Checks, Outcome, Report, Reports, ReportsFormula, bare_steps}
-use Rattle.sat_check.specs.Report.{concluded, proof_report, text_of, with_lines}
-use Rattle.std.{proofs.Common.◌≡◌, proofs.Common.◌≤◌, specs.Prelude.Result}
+use Rattle.sat_check.proofs.OutcomeLemmas.{Outcome-after, Outcome-line}
+use Rattle.sat_check.proofs.OutcomeLemmas.{Writes-all, both_told, no_verdict, written_verified}
+use Rattle.sat_check.specs.Code.Checking.{AllReports, IsLoaded, IsRefused, Loads, Rest, RunsInto}
+use Rattle.sat_check.specs.Code.Checking.{Stops, counted, end_report, is_memory, peak_of, traced}
+use Rattle.sat_check.specs.{Code.Reach.IsVerdict, FormulaReach.ReadsNoFurtherThanFault}
+use Rattle.sat_check.specs.{Reach.ReadsNoFurther, Reach.TellsWhy, Report.Checks, Report.ChecksProof}
+use Rattle.sat_check.specs.Report.{IsUnlessBroken, Outcome, ProofConsequences, Report}
+use Rattle.sat_check.specs.Report.{Reports, ReportsAreUnique, ReportsFormula, Verifies, bare_steps}
+use Rattle.sat_check.specs.Report.{concluded, proof_report, text_of}
+use Rattle.sat_check.specs.{Report.with_lines, Runs.RunsPlaced, declared.checked.Checked.Checked}
+use Rattle.std.proofs.Common.{Bool, Err, List, None, Ok, Option, Some, [], ap, arith, codes, cond}
+use Rattle.std.proofs.Common.{false, length, max, refl, rules, slice_get, true, ℕ, ◌++◌, ◌+◌, ◌∙◌}
+use Rattle.std.{proofs.Common.◌∷◌, proofs.Common.◌≡◌, proofs.Common.◌≤◌, specs.Prelude.Result}
 use Rattle.{steps.specs.ProofSession.View, theory.proofs.LawLemmas.Existence.after_finite}
 use Rattle.theory.proofs.LawLemmas.{Existence.same_finite, Existence.start_finite, Rules.after_same}
 use Rattle.theory.proofs.LawLemmas.{Rules.sum_same, Verdicts.ends_same, Verdicts.some_ending}
-use Rattle.theory.{proofs.LawLemmas.Verdicts.some_verdict, specs.Answers.UnlessOutOfMemory}
+use Rattle.theory.proofs.LawLemmas.Verdicts.{some_verdict, verdict_sound, verdict_unique}
+use Rattle.theory.specs.{Answers.UnlessOutOfMemory, Losses.LostBySteps, Models.HasModel}
 use Rattle.theory.specs.Rules.{Answers, IsFinite, Rule, Same, State, after, start, sum_of}
-use Rattle.theory.specs.Verdicts.{is_last, no_empty_clause, refused, system_of, verified}
+use Rattle.theory.specs.Verdicts.{is_last, refused, system_of, verified}
 use Rattle.theory.specs.declared.accepted.Accepted.{Accepted, TheVariants.Empty}
 use Rattle.theory.specs.declared.refusal.Refusal.{Refusal, TheVariants.OutOfMemory as RefusedMemory}
 use Rattle.writers.specs.Lines.{Sink, Writes}
+
+-- ---- What a report says
+
+-- no fault is a positive verdict
+pub fault_is_no_verdict : (f : Fault) → fault_status f ≡ Verified → ⊥
+fault_is_no_verdict f h = search rules
+
+-- a report of status 0 is that of a proof that verifies the formula
+pub report_verified : (rule : Rule) (trace : Bool) (i : Input) (p : Proof) (r : Report) → ReportsFormula (system_of rule) trace (formula_of i).header (formula_of i).clauses (formula_of i).fault p r → r.status ≡ Verified → Verifies (system_of rule) (formula_of i) p
+report_verified rule trace i p r reports is = by (formula_of i).header (formula_of i).fault refl reports
+  where
+    by : (header : Option Header) (fault : Option Fault) → (formula_of i).fault ≡ fault → ReportsFormula (system_of rule) trace header (formula_of i).clauses fault p r → Verifies (system_of rule) (formula_of i) p
+    by header fault whole e = search (rules, fault_is_no_verdict)
+
+-- and the report of such a proof has status 0
+pub verifies_reported : (rule : Rule) (trace : Bool) (i : Input) (p : Proof) (r : Report) → Verifies (system_of rule) (formula_of i) p → ReportsFormula (system_of rule) trace (formula_of i).header (formula_of i).clauses (formula_of i).fault p r → r.status ≡ Verified
+verifies_reported rule trace i p r v reports = by (formula_of i).header (formula_of i).fault v.whole reports
+  where
+    by : (header : Option Header) (fault : Option Fault) → fault ≡ None → ReportsFormula (system_of rule) trace header (formula_of i).clauses fault p r → r.status ≡ Verified
+    by header fault whole e = search (rules, verdict_unique)
+
+-- a formula that a proof verifies has no model
+pub verifies_sound : (rule : Rule) (f : Formula) (p : Proof) → Verifies (system_of rule) f p → ¬ HasModel (slice_get f.clauses)
+verifies_sound rule f p v = verdict_sound rule f.clauses (bare_steps p) v.words v.verdict
+
+-- status 0 is that of the report
+pub outcome_verified : (status : Status) (old new : Option (List ℕ)) (r : Report) → status ≡ Verified → Outcome status old new r → r.status ≡ Verified
+outcome_verified status old new r is o = search rules
+
+-- where the report has status 0, so has the run, unless memory or the writer failed
+pub outcome_complete : (status : Status) (old new : Option (List ℕ)) (r : Report) → r.status ≡ Verified → Outcome status old new r → IsUnlessBroken Verified status
+outcome_complete status old new r h h2 = search rules
+
+-- what follows from the report of a proof
+proof_consequences : (rule : Rule) (trace : Bool) (i : Input) (p : Proof) (old new : Option (List ℕ)) (status : Status) → Reports (system_of rule) trace i p old new status → ProofConsequences (system_of rule) i p old new status
+proof_consequences rule trace i p old new status x = record {
+  verified = search (rules, report_verified, outcome_verified);
+  complete = search (rules, outcome_complete, verifies_reported);
+  sound = λ is. refuted (grind (arith, outcome_verified));
+  written = λ w. refuted (grind (arith, written_verified));
+}
+  where
+    refuted : x.report.status ≡ Verified → ¬ HasModel (slice_get (formula_of i).clauses)
+    refuted is = verifies_sound rule (formula_of i) p (report_verified rule trace i p x.report x.reports is)
+
+-- all that is promised of a check of a proof
+pub checks_proof : (rule : Rule) (trace : Bool) (i : Input) (p : Proof) (old new : Option (List ℕ)) (status : Status) → Reports (system_of rule) trace i p old new status → ChecksProof (system_of rule) trace i p old new status
+checks_proof rule trace i p old new status x = search (rules, proof_consequences)
+
+-- and by all that was seen of the formula and of the proof
+abbrev AllChecks : Rule → Bool → (Input → Proof) → Reader → Reader → Reader → Reader → Checked → Option (List ℕ) → Option (List ℕ) → Type 0
+AllChecks rule trace steps formula formula_new proof proof_new checked old new =
+    OfBothSeen formula formula_new proof proof_new (λ i j. ChecksProof (system_of rule) trace i (steps j) old new checked.status
+    × ReadsNoFurther (system_of rule) (formula_of i) (steps j) proof proof_new × TellsWhy (system_of rule) (LostBySteps rule) (formula_of i).fault (formula_of i).clauses (steps j) checked
+    × ReadsNoFurtherThanFault i formula formula_new)
+
+both_check_proof : (rule : Rule) (trace : Bool) (steps : Input → Proof) (formula formula_new proof proof_new : Reader) (checked : Checked) (old new first last : Option (List ℕ)) → old ≡ first → new ≡ last
+    → AllReports rule trace steps formula formula_new proof proof_new checked old new → AllChecks rule trace steps formula formula_new proof proof_new checked first last
+both_check_proof rule trace steps formula formula_new proof proof_new checked old new first last before after =
+    both_told formula formula_new proof proof_new (λ x y i j. Reports (system_of rule) trace i (steps j) x y checked.status
+    × ReadsNoFurther (system_of rule) (formula_of i) (steps j) proof proof_new × TellsWhy (system_of rule) (LostBySteps rule) (formula_of i).fault (formula_of i).clauses (steps j) checked
+    × ReadsNoFurtherThanFault i formula formula_new)
+    _ old new first last before after (λ i j x. (checks_proof rule trace i (steps j) first last checked.status x.0, x.1, x.2, x.3))
+
+-- a run into lines over a writer, said of the writer
+pub runs_placed : (rule : Rule) (trace : Bool) (steps : Input → Proof) (formula formula_new proof proof_new : Reader) (checked : Checked) (was now : Sink) (old new : Option (List ℕ)) (had_failed has_failed is_flushed : Bool)
+    → was.held ≡ old → now.held ≡ new → was.has_failed ≡ had_failed → now.has_failed ≡ has_failed → now.is_flushed ≡ is_flushed
+    → RunsInto rule trace steps formula formula_new proof proof_new was now checked
+    → RunsPlaced (system_of rule) (LostBySteps rule) trace steps formula formula_new proof proof_new old new had_failed has_failed is_flushed checked
+runs_placed rule trace steps formula formula_new proof proof_new checked was now old new had_failed has_failed is_flushed before after had has flushed runs =
+    search (rules, (both_check_proof rule trace steps formula formula_new proof proof_new checked was.held now.held old new before after runs.report))
+
+-- ---- A formula and a proof have at most one report
+
+checks_unique : (rule : Rule) (trace : Bool) (h : Header) (clauses : List Clause) (p : Proof) (first second : Report)
+    → Checks (system_of rule) trace h clauses p first → Checks (system_of rule) trace h clauses p second → first ≡ second
+checks_unique rule trace h clauses p first second c d = search (rules, verdict_unique)
+
+pub reports_unique : ReportsAreUnique
+reports_unique rule trace f p first second a b = search (rules, checks_unique)
+
+-- ---- The rest of it
 
 shown_same : (m n : ℕ) → m ≡ counted n → shown m ≡ shown n
 shown_same m n e = search (rules, arith)
@@ -61,9 +147,6 @@ no_trace : (trace : Bool) (r : Report) → with_lines (cond trace [] []) r ≡ r
 no_trace trace r = search rules
 
 module _ (trace : Bool) (s : State) (n peak : ℕ) where
-  pub Rest-clean : Rest trace s n peak clean (end_report None)
-  Rest-clean = record { words = []; ending = no_empty_clause; verdict = refl; report = sym (no_trace trace (end_report None)) }
-
   pub Rest-fault : (f : Fault) (end : Option ℕ) → Rest trace s n peak (record { steps = []; fault = Some f; fault_end = end }) (end_report (Some f))
   Rest-fault f end = search rules
 
@@ -105,11 +188,6 @@ module _ (trace : Bool) (s : State) (n peak : ℕ) where
 
 -- ---- What a step that ends a check leaves of the report
 
--- an answer that isn't want of memory is the rule's
-pub given : (r : Refusal) (P : Type 0) → is_memory r ≡ false → UnlessOutOfMemory (Err r) P → P
-given RefusedMemory P h x = absurd (let e : true ≡ false = h in cc)
-given _ P h x = x
-
 pub last_word : (w : Accepted) → is_last w ≡ true → w ≡ Empty
 last_word w h = search rules
 
@@ -118,26 +196,17 @@ module _ (trace : Bool) (number : ℕ) (old : View) (step : Step) (was now : Sin
   pub Stops-refused : (status : Status) (r : Refusal) → (is_memory r ≡ true → (x : Report) → Outcome status was.held now.held x)
       → (is_memory r ≡ false → Outcome status was.held now.held (concluded a_proof (refusal_line number r) NotVerified))
       → UnlessOutOfMemory (Err r) (Answers old.state step (Err r)) → Stops trace number old step was now status
-  Stops-refused status r memory shown answers n offset end p is least finite = by (is_memory r) refl
-    where
-      by : (v : Bool) → is_memory r ≡ v → (x : Report) × Rest trace old.state n old.peak (with_step step end offset p) x × Outcome status was.held now.held x
-      by true e =
-          let some = Rest-some trace old.state n old.peak finite (with_step step end offset p) in
-          (some.0, some.1, memory e some.0)
-      by false e = (
-        _,
-        Rest-refused trace old.state n old.peak step end offset p r (given r _ e answers),
-        rw (← refusal_same number (n + 1) r is) (shown e),
-      )
+  Stops-refused status RefusedMemory memory shown answers n offset end p is least finite =
+      let some = Rest-some trace old.state n old.peak finite (with_step step end offset p) in
+      (some.0, some.1, memory refl some.0)
+  Stops-refused status r memory shown answers n offset end p is least finite =
+      (_, Rest-refused trace old.state n old.peak step end offset p r answers, rw (← refusal_same number (n + 1) r is) (shown refl))
 
   -- a step is refused, if there was memory
   pub was_refused : (status : Status) (r : Refusal) → (is_memory r ≡ true → (x : Report) → Outcome status was.held now.held x)
       → UnlessOutOfMemory (Err r) (Answers old.state step (Err r)) → IsVerdict status → IsRefused old.state step
-  was_refused status r memory answers v = by (is_memory r) refl
-    where
-      by : (b : Bool) → is_memory r ≡ b → IsRefused old.state step
-      by true e = absurd (no_verdict status was.held now.held [] (memory e (record { lines = []; status = Malformed })) v)
-      by false e = (r, given r _ e answers)
+  was_refused status RefusedMemory memory answers v = absurd (no_verdict status was.held now.held [] (memory refl (record { lines = []; status = Malformed })) v)
+  was_refused status r memory answers v = (r, answers)
 
   module _ (new : View) (word : Accepted) (answers : Answers old.state step (Ok word))
       (same : Same new.state (after old.state step word))

@@ -1,3 +1,4 @@
 pub mod LratLemmas
 pub mod NamingLemmas
 pub mod SessionLemmas
+pub mod StateLemmas

@@ -1,13 +1,12 @@
 -- What holds of a session under either rule.
-use Rattle.std.proofs.Common.{◌≡◌, IfOk, OnOk, arith, rules}
+use Rattle.{cnf_base.proofs.MapLemmas.sum_empty, proofs.specs.Steps.Step, std.proofs.Common.IfOk}
+use Rattle.std.proofs.Common.{OnOk, arith, rules}
+use Rattle.{std.proofs.Common.◌≡◌, steps.specs.Session.Held, steps.specs.Session.state_of}
+use Rattle.theory.proofs.{LawLemmas.Rules.keeps, LratLemmas.States.has_model_copies}
+use Rattle.theory.{proofs.LratLemmas.States.has_model_same, specs.Answers.StepAnswer}
+use Rattle.theory.specs.{Answers.UnlessOutOfMemory, Rules.Answers, Rules.IsSatisfiable, Rules.Same}
+use Rattle.theory.specs.Rules.{State, after, literals_of}
 use Rattle.std.specs.FinMap as maps
-use Rattle.cnf_base.proofs.MapLemmas.{sum_empty}
-use Rattle.theory.specs.Rules.{State, Same, IsSatisfiable, literals_of, Answers, after}
-use Rattle.theory.specs.Answers.{StepAnswer, UnlessOutOfMemory}
-use Rattle.theory.proofs.LawLemmas.Rules.{keeps}
-use Rattle.theory.proofs.LratLemmas.States.{has_model_same, has_model_copies}
-use Rattle.proofs.specs.Steps.{Step}
-use Rattle.steps.specs.Session.{Held, state_of}
 
 -- where no clause is alive, there are no literals
 pub none_held : (held : Held) → held.live ≡ maps.empty → held.top ≡ 0 → literals_of (state_of held) ≡ 0

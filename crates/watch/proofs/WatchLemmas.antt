@@ -1,10 +1,4 @@
 -- Watched literals.
-pub mod Shown
+pub mod State
 pub mod Visits
 pub mod Moves
-pub mod Follow
-pub mod Visited
-pub mod Arrange
-pub mod Assumed
-pub mod State
-pub mod Reordered

@@ -1,17 +1,149 @@
--- Literals that follow from their reasons.
-use Rattle.std.proofs.Common.{◌≡◌, ◌≢◌, ℕ, Bool, true, Option, Some, is_some, List, [], ◌∷◌, ◌++◌}
-use Rattle.std.proofs.Common.{length, take, sym, ap, ◌∙◌, subst, arith, inl, inr, ◌≤◌}
-use Rattle.std.proofs.lemmas.{Bool.cases_eq, Bool.cases_lt, List.length-append, List.length-take}
-use Rattle.std.proofs.lemmas.{List.take-append-le, List.take-take, List.take_all, Option.same_Some}
-use Rattle.cnf_base.specs.Literals.{Literal, complement, Clause, has}
-use Rattle.cnf_base.proofs.SetLemmas.{has_append_left, has_append_right, has_head}
-use Rattle.cnf_base.proofs.MemberLemmas.{place_in_front}
-use Rattle.theory.specs.Propagation.{Live, Forced}
-use Rattle.propagation.specs.Assumptions.{HasAt}
-use Rattle.trail.specs.Trail.{HasNoVariableTwice}
+-- Clauses in order are the same sets, and literals follow from their reasons.
+use Rattle.clause_db.specs.Store.{IsTouchedAt, literals_in}
+use Rattle.cnf_base.proofs.{LiteralLemmas.complement-complement, MapLemmas.get_insert}
+use Rattle.cnf_base.proofs.MapLemmas.{get_remove, inserted_is, remove_here, remove_other}
+use Rattle.cnf_base.proofs.{MapLemmas.same_maps, MemberLemmas.place_in_front, SetLemmas.both_pass}
+use Rattle.cnf_base.proofs.SetLemmas.{complements_has, filter_has, has-complements, has-filter}
+use Rattle.cnf_base.proofs.SetLemmas.{has_append_left, has_append_right, has_cases, has_head}
+use Rattle.cnf_base.{proofs.SetLemmas.same_from, proofs.SizeLemmas.size_same, specs.Literals.Clause}
+use Rattle.cnf_base.specs.Literals.{Literal, complement, complements}
+use Rattle.cnf_base.specs.{Literals.has, Literals.same_clause, Literals.size, Maps.sum_over}
+use Rattle.{propagation.specs.Assumptions.HasAt, root_literals.proofs.RootLemmas.Watched.front_part}
+use Rattle.root_literals.specs.Order.{each_in_order, in_order}
+use Rattle.root_literals.specs.{Order.set_of, Roots.AreReasoned, Roots.FollowsReasons}
+use Rattle.root_literals.specs.{Roots.IsReasonAt, Uses.AreCounted, Uses.clause_in, Uses.is_in}
+use Rattle.root_literals.specs.{Uses.times, Uses.uses_of, declared.uses.Uses.Uses}
+use Rattle.std.proofs.Common.{Bool, List, Option, Some, T, [], ap, arith, cond, eqb, eqb-true}
+use Rattle.std.proofs.Common.{false, filter, get_or, inl, inr, is_lt, is_some, length, map, nat_cmp}
+use Rattle.std.proofs.Common.{option_map, refl, rules, subst, suc, sum_by, sym, take, take-take}
+use Rattle.std.proofs.Common.{true, zero, ℕ, ◌++◌, ◌+◌, ◌<◌, ◌||◌, ◌∙◌, ◌∷◌, ◌≡◌, ◌≢◌, ◌≤◌}
+use Rattle.std.proofs.lemmas.Bool.{Decides.nat_tests, cases_eq, cases_lt, false≢true, or_right}
+use Rattle.std.proofs.{Common.true≢false, lemmas.Grind.common_steps, lemmas.List.Edits.length-remove}
+use Rattle.std.proofs.{lemmas.List.Sums.sum_by-cons, Common.length-append, Common.length-take, lemmas.List.take-append-le}
+use Rattle.std.proofs.{Common.take-take, Common.take_all, lemmas.List.take_more, lemmas.Option.none-some}
+use Rattle.std.{proofs.lemmas.Option.same_Some, specs.Cmp.nat_cmp_total}
+use Rattle.std.specs.FinMap.{Entries.below_all, FinMap, find, is_sorted}
+use Rattle.std.{specs.List.list_any, proofs.Common.remove, specs.Ordering.eq_by_cmp, proofs.Common.nat_cmp}
+use Rattle.theory.specs.Propagation.{Forced, Live}
 use Rattle.trail.proofs.TrailLemmas.{Longer.pushed_each, Truth.places_apart}
-use Rattle.root_literals.specs.Roots.{AreReasoned, FollowsReasons, IsReasonAt}
-use Rattle.root_literals.proofs.RootLemmas.Watched.{front_part}
+use Rattle.trail.{proofs.TrailLemmas.Without.none_left, specs.Trail.HasNoVariableTwice}
+use Rattle.std.specs.FinMap as maps
+
+tie_back : (k q : ℕ) → eq_by_cmp nat_cmp k q ≡ eqb q k
+tie_back = grind (arith, nat_tests)
+
+-- ---- One clause
+
+in_set : (c : Clause) (l : Literal) → is_some (maps.get (set_of c) l) ≡ has c l
+in_set [] l = ap is_some (maps.get-empty nat_cmp l)
+in_set (k ∷ c) l = ap is_some (maps.get-insert nat_cmp_total (set_of c) k tt l)
+    ∙ by_test (eq_by_cmp nat_cmp l k) (eqb k l) (tie_back l k) (maps.get (set_of c) l) (in_set c l)
+  where
+    by_test : (a b : Bool) → a ≡ b → (o : Option Unit) → is_some o ≡ has c l → is_some (cond a (Some tt) o) ≡ (b || has c l)
+    by_test a b h o h2 = grind (arith, true≢false)
+
+-- the same literals
+pub has-in_order : (c : Clause) (l : Literal) → has (in_order c) l ≡ has c l
+has-in_order c l =
+    ap (λ p. list_any p (in_order c)) (λ i k. sym (tie_back l k) i) ∙ sym (maps.contains_key-keys (set_of c) l) ∙ in_set c l
+
+pub same-in_order : (c : Clause) → same_clause (in_order c) c ≡ true
+same-in_order = grind (arith, same_from, has-in_order)
+
+pub size-in_order : (c : Clause) → size (in_order c) ≡ size c
+size-in_order = grind (arith, size_same, has-in_order)
+
+-- clauses with the same literals are shown alike
+pub alike_in_order : (c d : Clause) → ((l : Literal) → has c l ≡ has d l) → in_order c ≡ in_order d
+alike_in_order c d alike = ap maps.keys (same_maps _ _ (λ l. one_value _ _ (in_set c l ∙ alike l ∙ sym (in_set d l))))
+  where
+    one_value : (o p : Option Unit) → is_some o ≡ is_some p → o ≡ p
+    one_value o p h = grind (arith, true≢false)
+
+-- ---- All clauses
+
+abbrev ordered : List (ℕ × Clause) → List (ℕ × Clause)
+ordered es = map (λ e. (e.0, in_order e.1)) es
+
+below_ordered : (k : ℕ) (es : List (ℕ × Clause)) → below_all nat_cmp k (ordered es) ≡ below_all nat_cmp k es
+below_ordered k [] = refl
+below_ordered k (e ∷ es) = grind (arith, is_lt, below_ordered k es)
+
+sorted_ordered : (es : List (ℕ × Clause)) → is_sorted nat_cmp (ordered es) ≡ is_sorted nat_cmp es
+sorted_ordered [] = refl
+sorted_ordered (e ∷ es) = grind (arith, below_ordered, sorted_ordered es)
+
+find_ordered : (q : ℕ) (es : List (ℕ × Clause)) → find nat_cmp q (ordered es) ≡ option_map in_order (find nat_cmp q es)
+find_ordered q [] = refl
+find_ordered q (e ∷ es) = grind (arith, find_ordered q es)
+
+weights_ordered : (w v : Clause → ℕ) → ((c : Clause) → w (in_order c) ≡ v c) → (es : List (ℕ × Clause)) → sum_by w (map (λ e. e.1) (ordered es)) ≡ sum_by v (map (λ e. e.1) es)
+weights_ordered w v alike [] = refl
+weights_ordered w v alike (e ∷ es) = grind (arith, sum_by-cons, weights_ordered w v alike es)
+
+still_sorted : (live : FinMap nat_cmp Clause) → T (is_sorted nat_cmp (ordered (maps.entries live)))
+still_sorted live = subst T (sym (sorted_ordered (maps.entries live))) (maps.entries_sorted live)
+
+pub get_ordered : (live : FinMap nat_cmp Clause) (s : ℕ) → maps.get (each_in_order live) s ≡ option_map in_order (maps.get live s)
+unfolding each_in_order
+get_ordered = grind (arith, maps.get-from_sorted, still_sorted, find_ordered, option_map, maps.get-entries)
+
+pub sum_ordered : (w v : Clause → ℕ) → ((c : Clause) → w (in_order c) ≡ v c) → (live : FinMap nat_cmp Clause) → sum_over w (each_in_order live) ≡ sum_over v live
+unfolding each_in_order
+sum_ordered = grind (arith, sum_by, map, maps.entries-from_sorted, still_sorted, weights_ordered)
+
+pub literals_ordered : (live : FinMap nat_cmp Clause) → literals_in (each_in_order live) ≡ literals_in live
+literals_ordered = sum_ordered size size size-in_order
+
+-- ---- Changes
+
+pub ordered_remove : (live : FinMap nat_cmp Clause) (s : ℕ) → each_in_order (maps.remove live s) ≡ maps.remove (each_in_order live) s
+ordered_remove = grind (arith, same_maps, get_ordered, get_remove)
+
+pub ordered_empty : each_in_order maps.empty ≡ maps.empty
+ordered_empty = grind (arith, same_maps, get_ordered, option_map, maps.get-empty)
+
+-- a clause that is put in the place of one with the same literals isn't seen
+pub ordered_same : (live : FinMap nat_cmp Clause) (s : ℕ) (c d : Clause) → maps.get live s ≡ Some c → ((l : Literal) → has d l ≡ has c l) → each_in_order (maps.insert live s d) ≡ each_in_order live
+ordered_same = grind (arith, same_maps, get_ordered, get_insert, eqb-true, alike_in_order)
+
+-- ---- Look-ups
+
+pub seen_there : (live : FinMap nat_cmp Clause) (s : ℕ) (c : Clause) → maps.get live s ≡ Some c → maps.get (each_in_order live) s ≡ Some (in_order c)
+seen_there = grind (arith, get_ordered)
+
+pub there_seen : (live : FinMap nat_cmp Clause) (s : ℕ) (d : Clause) → maps.get (each_in_order live) s ≡ Some d → (c : Clause) × (maps.get live s ≡ Some c) × ((l : Literal) → has d l ≡ has c l)
+there_seen = grind (arith, get_ordered, none-some, same_Some, has-in_order)
+
+pub alive_alike : (live : FinMap nat_cmp Clause) (s : ℕ) → is_some (maps.get (each_in_order live) s) ≡ is_some (maps.get live s)
+alive_alike = grind (arith, get_ordered)
+
+pub alive_clause : (live : FinMap nat_cmp Clause) (s : ℕ) → is_some (maps.get live s) ≡ true → (c : Clause) × (maps.get live s ≡ Some c)
+alive_clause = search rules
+
+pub seen_has_at : (live : FinMap nat_cmp Clause) (l : Literal) (s : ℕ) → HasAt (maps.get (each_in_order live)) l s → HasAt (maps.get live) l s
+seen_has_at = search (rules, there_seen)
+
+pub touched_seen : (live : FinMap nat_cmp Clause) (lits : List Literal) (s : ℕ) → IsTouchedAt live lits s → IsTouchedAt (each_in_order live) lits s
+touched_seen live lits s h = search (rules, seen_there, has-in_order)
+
+pub seen_touched : (live : FinMap nat_cmp Clause) (lits : List Literal) (s : ℕ) → IsTouchedAt (each_in_order live) lits s → IsTouchedAt live lits s
+seen_touched = search (rules, there_seen)
+
+-- the literals of the clause in a slot were put in another order
+pub ordered_alike : (live after : FinMap nat_cmp Clause) (slot : ℕ) (c d : Clause) → maps.get live slot ≡ Some c → maps.get after slot ≡ Some d → ((l : Literal) → has d l ≡ has c l) → ((s : ℕ) → s ≢ slot → maps.get after s ≡ maps.get live s) → each_in_order after ≡ each_in_order live
+ordered_alike live after slot c d here there alike others = ap each_in_order (grind (arith, inserted_is)) ∙ ordered_same _ _ _ _ here alike
+
+-- ---- Parts
+
+pub part_alike : (keeps : Literal → Bool) (c d : Clause) → ((l : Literal) → has c l ≡ has d l) → (l : Literal) → has (complements (filter keeps c)) l ≡ has (complements (filter keeps d)) l
+part_alike keeps c d alike l = both_pass _ _ (there c d alike l) (there d c (λ k. sym (alike k)) l)
+  where
+    there : (c d : Clause) → ((l : Literal) → has c l ≡ has d l) → (l : Literal) → has (complements (filter keeps c)) l ≡ true → has (complements (filter keeps d)) l ≡ true
+    there c d alike l h =
+        cc (complement-complement l, has-complements (filter keeps d) (complement l) (has-filter keeps d (complement l) (sym (alike (complement l)) ∙ (filter_has keeps c (complement l) (complements_has (filter keeps c) l h)).0) (filter_has keeps c (complement l) (complements_has (filter keeps c) l h)).1))
+
+-- ---- Literals that follow from their reasons
 
 -- the literals pass where the complements of the others of each reason let its literal pass
 abbrev AllPass : Live → (Literal → Option ℕ) → (Literal → Bool) → List Literal → Type 0
@@ -24,7 +156,7 @@ module _ (live : Live) (reason_of : Literal → Option ℕ) (lits : List Literal
 
   pub reasoned_forced : (l : Literal) → has lits l ≡ true → Forced live [] l
   reasoned_forced l member =
-      record { in_each = λ passes closed start. in_all passes (λ k s c there is at others. closed.unit s c at k (grind (arith, are.has_it k s there is)) others) l member }
+      record { in_each = λ passes closed start. in_all _ (λ k s c there is at others. closed.unit s c at k (grind (arith, are.has_it k s there is)) others) _ member }
 
   -- each has one
   pub reasoned_some : (l : Literal) → has lits l ≡ true → is_some (reason_of l) ≡ true
@@ -41,13 +173,13 @@ module _ (live : Live) (reason_of : Literal → Option ℕ) (lits : List Literal
   pub reasoned_among : (after : Live) → ((l : Literal) (s : ℕ) (c : Clause) → has lits l ≡ true → reason_of l ≡ Some s → live s ≡ Some c → after s ≡ Some c) → AreReasoned after reason_of lits
   reasoned_among after among = record {
     has_it = λ l s member is. let w = are.has_it l s member is in record { clause = w.clause; at = among l s w.clause member is w.at; member = w.member };
-    in_each = λ n passes follows. are.in_each n passes (λ l s c member is at. follows l s c member is (among l s c (front_part n lits l member) is at));
+    in_each = λ n passes follows. are.in_each n passes (grind (arith, front_part));
   }
 
   -- the first of them
   pub reasoned_cut : (place : ℕ) → AreReasoned live reason_of (take place lits)
   reasoned_cut place = record {
-    has_it = λ l s member. are.has_it l s (front_part place lits l member);
+    has_it = grind (arith, front_part);
     in_each = λ n passes. elim (cases_lt n place) [
       | inl low ↦ rw (take-take n place lits (omega (arith, low))) (are.in_each n passes)
       | inr past ↦ rw (take_all n (take place lits) (grind (arith, length-take))) (are.in_each place passes)
@@ -80,8 +212,7 @@ module _ (live : Live) (reason_of : Literal → Option ℕ) (lits : List Literal
   -- another clause makes a literal true, by those that stand before it
   module _ (reason_now : Literal → Option ℕ) (m : Literal) (slot : ℕ) (apart : HasNoVariableTwice lits) (by : IsReasonAt live slot lits m) (set : reason_now m ≡ Some slot) (same : (l : Literal) → l ≢ m → reason_now l ≡ reason_of l) where
     not_before : (n : ℕ) → n ≤ by.place → has (take n lits) m ≡ true → ⊥
-    not_before n low member =
-        let w = place_in_front lits n m member in
+    not_before n low member = let w = place_in_front lits n m member in
         places_apart lits apart w.0 by.place (grind arith) by.inside (grind arith)
 
     from_front : (n : ℕ) (passes : Literal → Bool) → FollowsReasons live reason_now (take n lits) passes → has (take n lits) m ≡ true → passes m ≡ true
@@ -93,5 +224,157 @@ module _ (live : Live) (reason_of : Literal → Option ℕ) (lits : List Literal
     pub reasoned_instead : AreReasoned live reason_now lits
     reasoned_instead = record {
       has_it = grind (arith, cases_eq, same_Some);
-      in_each = λ n passes follows. are.in_each n passes (λ l s d member is at others. grind (arith, cases_eq l m, from_front n passes follows, follows l s d, same l));
+      in_each = λ n passes follows. are.in_each n passes (λ l s d member is at others. grind (arith, cases_eq l m, from_front _ _ follows, follows l s d, same l));
     }
+
+-- ---- How many of the literals have a reason with a literal
+
+-- one, if the clause has the literal
+abbrev pub one : Option Clause → Literal → ℕ
+one o k = cond (is_in o k) 1 0
+
+-- ---- A list of literals
+
+-- the same literals, whose reasons have no other literals than before
+pub uses_at_most : (before after : Live) (r s : Literal → Option ℕ) (k : Literal) (lits : List Literal) → ((l : Literal) → has lits l ≡ true → is_in (clause_in after (s l)) k ≡ true → is_in (clause_in before (r l)) k ≡ true) →
+    uses_of after s lits k ≤ uses_of before r lits k
+uses_at_most before after r s k [] among = omega arith
+uses_at_most before after r s k (l ∷ lits) among = search (
+  rules,
+  or_right,
+  has_head,
+  false≢true,
+  (uses_at_most before after r s k lits (grind (arith, or_right))),
+)
+
+module _ (live : Live) (r : Literal → Option ℕ) (k : Literal) where
+  -- one literal more
+  pub uses_more : (lits : List Literal) (l : Literal) → uses_of live r (lits ++ l ∷ []) k ≡ uses_of live r lits k + one (clause_in live (r l)) k
+  uses_more [] l = omega arith
+  uses_more (m ∷ lits) l = let rest = uses_more lits l in omega (arith, rest)
+
+  -- none of them
+  pub uses_none : (lits : List Literal) → uses_of live r lits k ≡ 0 → (l : Literal) → has lits l ≡ true → is_in (clause_in live (r l)) k ≡ false
+  uses_none [] none l h = absurd (false≢true h)
+  uses_none (m ∷ lits) none l h =
+      grind (arith, has_cases m lits l h, uses_none lits (omega (arith, none)) l)
+
+  -- one of them is taken out
+  pub uses_out : (lits : List Literal) (n place : ℕ) → place ≤ n → n < length lits → uses_of live r (take n (remove lits place)) k + one (clause_in live (r (get_or lits place 0))) k ≡ uses_of live r (take (suc n) lits) k
+  uses_out (l ∷ lits) (suc n) (suc place) low within = let rest = uses_out lits n place (omega (arith, low)) (omega (arith, within)) in omega (arith, rest)
+  uses_out lits n place h h2 = search (rules, arith)
+
+-- those before the one that is taken out
+take_before : (lits : List Literal) (n place : ℕ) → n ≤ place → take n (remove lits place) ≡ take n lits
+take_before lits zero place low = refl
+take_before [] (suc n) zero low = refl
+take_before [] (suc n) (suc place) low = refl
+take_before (l ∷ lits) (suc n) zero low = grind arith
+take_before (l ∷ lits) (suc n) (suc place) low = ap (λ ls. l ∷ ls) (take_before lits n place (omega (arith, low)))
+
+-- ---- What is counted
+
+-- nothing
+pub counted_none : (live : Live) (r : Literal → Option ℕ) (lits : List Literal) (uses : Uses) → uses.counted ≡ 0 → AreCounted live r lits uses
+counted_none = search rules
+
+-- the same reasons, or others that have no other literals
+pub counted_among : (before after : Live) (r s : Literal → Option ℕ) (lits : List Literal) (uses : Uses) → AreCounted before r lits uses →
+    ((k l : Literal) → has lits l ≡ true → is_in (clause_in after (s l)) k ≡ true → is_in (clause_in before (r l)) k ≡ true) → AreCounted after s lits uses
+counted_among = grind (arith, uses_at_most, front_part)
+
+-- the same counts
+pub counted_same : (live : Live) (r : Literal → Option ℕ) (lits : List Literal) (uses now : Uses) → now.counted ≡ uses.counted → ((k : Literal) → times now k ≡ times uses k) → AreCounted live r lits uses → AreCounted live r lits now
+counted_same = search rules
+
+-- more literals
+pub counted_longer : (live : Live) (r : Literal → Option ℕ) (lits more : List Literal) (uses : Uses) → take (length lits) more ≡ lits → length lits ≤ length more → AreCounted live r lits uses → AreCounted live r more uses
+counted_longer = search (rules, take-take)
+
+-- ---- A place
+
+module _ (lits : List Literal) (place : ℕ) (l : Literal) (inside : place < length lits) (stands : get_or lits place 0 ≡ l) (different : HasNoVariableTwice lits) where
+  not_before_place : (n : ℕ) → n ≤ place → (m : Literal) → has (take n lits) m ≡ true → m ≢ l
+  not_before_place n low m h e = let w = place_in_front lits n m h in
+      places_apart lits different w.0 place (omega arith) inside (grind arith)
+
+  not_left : (n : ℕ) (m : Literal) → has (take n (remove lits place)) m ≡ true → m ≢ l
+  not_left = grind (arith, false≢true, none_left, front_part)
+
+  -- another reason
+  pub counted_instead : (live : Live) (r s : Literal → Option ℕ) (uses now : Uses) (before after : Clause) → clause_in live (r l) ≡ Some before → clause_in live (s l) ≡ Some after → ((m : Literal) → m ≢ l → s m ≡ r m) →
+      (now.counted ≢ 0 → now.counted ≡ uses.counted) → (now.counted ≢ 0 → place < uses.counted → (k : Literal) → times uses k + cond (has after k) 1 0 ≤ times now k + cond (has before k) 1 0) → (uses.counted ≤ place → now ≡ uses) →
+      AreCounted live r lits uses → AreCounted live s lits now
+  counted_instead live r s uses now before after was is same counted exchanged stays are =
+      grind (arith, cases_eq, counted_none, cases_lt, behind, unchanged)
+    where
+      unchanged : uses.counted ≤ place → (k : Literal) → uses_of live s (take uses.counted lits) k ≤ times uses k
+      unchanged past k =
+          let fewer = uses_at_most live live r s k (take uses.counted lits) (λ m h. grind (arith, same m, not_before_place uses.counted past m h)) in
+          let enough = are.enough k in omega (arith, fewer, enough)
+
+      first_is : (t : Literal → Option ℕ) (c : Clause) → clause_in live (t l) ≡ Some c → (k : Literal) → one (clause_in live (t (get_or lits place 0))) k ≡ cond (has c k) 1 0
+      first_is t c e k = simp (stands, e)
+
+      behind : now.counted ≢ 0 → place < uses.counted → (k : Literal) → uses_of live s (take now.counted lits) k ≤ times now k
+      behind some low k = by_count uses.counted refl
+        where
+          by_count : (n : ℕ) → uses.counted ≡ n → uses_of live s (take now.counted lits) k ≤ times now k
+          by_count zero e = absurd (omega arith)
+          by_count (suc n) e = let within = are.inside in
+              let fewer = uses_at_most live live r s k (take n (remove lits place)) (λ m h. grind (arith, same m, not_left n m h)) in
+              let split = uses_out live r k lits n place (omega arith) (omega arith) in
+              let split_now = uses_out live s k lits n place (omega arith) (omega arith) in
+              grind (arith, counted some, exchanged some low k, first_is, are.enough k)
+
+  -- the literal is taken back, whose reason has no other
+  pub counted_out : (live rest : Live) (r : Literal → Option ℕ) (uses now : Uses) → clause_in live (r l) ≡ Some (l ∷ []) → ((k m : Literal) → is_in (clause_in rest (r m)) k ≡ true → is_in (clause_in live (r m)) k ≡ true) →
+      (place < uses.counted → now.counted + 1 ≡ uses.counted) → ((k : Literal) → times uses k ≤ times now k + cond (eqb k l) 1 0) → (uses.counted ≤ place → now ≡ uses) → AreCounted live r lits uses → AreCounted rest r (remove lits place) now
+  counted_out live rest r uses now unit among fewer less stays are =
+      grind (arith, cases_lt, length-remove, behind, uses_at_most, take_before)
+    where
+      has_it : (k : Literal) (b : Bool) → eqb k l ≡ b → cond {A = ℕ} b 1 0 ≤ cond (has (l ∷ []) k) 1 0
+      has_it k true e = let there : cond {A = ℕ} (has (l ∷ []) k) 1 0 ≡ 1 = ap (λ b. cond {A = ℕ} b 1 0) (subst (λ x. has (l ∷ []) x ≡ true) (sym (eqb-true k l e)) (has_head l [])) in omega (arith, there)
+      has_it k false e = omega arith
+
+      behind : place < uses.counted → (k : Literal) → uses_of rest r (take now.counted (remove lits place)) k ≤ times now k
+      behind low k = let e = fewer low in let within = are.inside in
+          let most = uses_at_most live rest r r k (take now.counted (remove lits place)) (λ m _. among k m) in
+          let split = uses_out live r k lits now.counted place (omega (arith, low, e)) (omega (arith, within, e)) in
+          let first : one (clause_in live (r (get_or lits place 0))) k ≡ cond (has (l ∷ []) k) 1 0 = ap (λ x. one (clause_in live (r x)) k) stands ∙ ap (λ o. one o k) unit in
+          let next : suc now.counted ≡ uses.counted = omega (arith, e) in grind arith
+
+-- ---- Clauses
+
+module _ (live : FinMap nat_cmp Clause) (slot : ℕ) where
+  -- one clause fewer
+  pub in_rest : (k : Literal) (o : Option ℕ) → is_in (clause_in (maps.get (maps.remove live slot)) o) k ≡ true → is_in (clause_in (maps.get live) o) k ≡ true
+  in_rest = grind (arith, cases_eq, false≢true, remove_here, remove_other)
+
+  pub in_rest_too : (k : Literal) (o : Option ℕ) → o ≢ Some slot → is_in (clause_in (maps.get live) o) k ≡ true → is_in (clause_in (maps.get (maps.remove live slot)) o) k ≡ true
+  in_rest_too = search (rules, remove_other)
+
+-- the order of literals in a clause is nothing to it
+in_ordered : (live : FinMap nat_cmp Clause) (k : Literal) (o : Option ℕ) → is_in (clause_in (maps.get (each_in_order live)) o) k ≡ is_in (clause_in (maps.get live) o) k
+in_ordered = grind (arith, get_ordered, has-in_order)
+
+pub counted_in_order : (a b : FinMap nat_cmp Clause) (r s : Literal → Option ℕ) (lits : List Literal) (uses : Uses) → each_in_order b ≡ each_in_order a → ((l : Literal) → has lits l ≡ true → s l ≡ r l) → AreCounted (maps.get a) r lits uses → AreCounted (maps.get b) s lits uses
+counted_in_order a b r s lits uses same reasons are = counted_among _ _ _ _ _ _ are (λ k l h there.
+    sym (in_ordered _ _ _) ∙ ap (λ m. is_in (clause_in (maps.get m) (r l)) k) (sym same) ∙ in_ordered _ _ _ ∙ ap (λ o. is_in (clause_in (maps.get b) o) k) (sym (reasons l h)) ∙ there)
+
+-- ---- One reason more or less is counted
+
+module _ (live : Live) (r : Literal → Option ℕ) (lits : List Literal) (uses now : Uses) (are : AreCounted live r lits uses) where
+  -- the next one
+  pub counted_more : uses.counted < length lits → now.counted ≡ uses.counted + 1 → ((k : Literal) → times uses k + one (clause_in live (r (get_or lits uses.counted 0))) k ≤ times now k) → AreCounted live r lits now
+  counted_more inside next more = record {
+    inside = omega (arith, inside, next);
+    enough = λ k.
+        let so_far = are.enough k in let step = more k in
+        let split = ap (λ ls. uses_of live r ls k) (take_more lits uses.counted 0 inside) ∙ uses_more live r k (take uses.counted lits) (get_or lits uses.counted 0) in
+        subst (λ n. uses_of live r (take n lits) k ≤ times now k) (sym next) (omega (arith, so_far, step, split));
+  }
+
+  -- the last one no longer
+  pub counted_less : now.counted + 1 ≡ uses.counted → ((k : Literal) → times uses k ≤ times now k + one (clause_in live (r (get_or lits now.counted 0))) k) → AreCounted live r lits now
+  counted_less = grind (arith, common_steps, nat_tests, take_more, uses_more)

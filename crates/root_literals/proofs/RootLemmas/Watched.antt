@@ -1,51 +1,221 @@
--- Clauses of which a literal is true.
-use Rattle.std.proofs.Common.{◌≡◌, ℕ, Bool, true, false, cond, Some, None, List, [], ◌∷◌, ◌++◌}
-use Rattle.std.proofs.Common.{take, drop, sym, ap, ◌∙◌, arith, rules}
-use Rattle.std.proofs.lemmas.{Bool.true≢false, List.take-append-drop, Grind.common_steps}
-use Rattle.std.proofs.lemmas.{Bool.Decides.nat_tests}
-use Rattle.cnf_base.specs.Literals.{Literal, complement, Clause, has}
+-- Clauses of which a literal is true, and when the literals that are kept were propagated.
 use Rattle.cnf_base.proofs.{LiteralLemmas.complement-complement, SetLemmas.has_append_left}
-use Rattle.theory.specs.Propagation.{Live}
-use Rattle.root_literals.specs.History.{sure_of}
-use Rattle.root_literals.specs.Watched.{IsPart, IsMet, IsWatched, HasUnit}
-use Rattle.watch_lists.specs.Watched.{watches}
-use Rattle.trail.proofs.TrailLemmas.Longer.{pushed_each}
+use Rattle.cnf_base.proofs.SetLemmas.{has_append_right, has_head}
+use Rattle.cnf_base.specs.Literals.{Clause, Literal, complement, has}
+use Rattle.root_literals.specs.Code.{Doubts.AreSettled, Propagated.AreFalse, Propagated.IsUnit}
+use Rattle.root_literals.specs.History.{IsHistory, IsRewound, sure_of, trues_at, visits}
+use Rattle.root_literals.specs.Watched.{HasUnit, IsMet, IsPart, IsWatched}
+use Rattle.{root_literals.specs.declared.history.History.History, std.proofs.Common.Bool}
+use Rattle.std.proofs.Common.{List, None, Option, Some, [], ap, arith, cond, drop, eq-eqb, false}
+use Rattle.std.proofs.Common.{get_or, get_or-take, inl, inr, length, length-append, length-take-le}
+use Rattle.std.proofs.Common.{not, refl, rules, sym, take, true, ℕ, ◌++◌, ◌+◌, ◌<◌, ◌∙◌, ◌∷◌}
+use Rattle.std.proofs.{Common.◌≡◌, Common.◌≢◌, Common.◌≤◌, Common.◌⊎◌, Math.Seq.get_or-append_seam}
+use Rattle.std.proofs.lemmas.Bool.{Decides.nat_tests, cases_eq, cases_lt}
+use Rattle.std.proofs.{lemmas.Bool.false≢true, lemmas.Bool.not-false, Common.true≢false, lemmas.Grind.common_steps}
+use Rattle.std.proofs.{lemmas.List.Sums.get_or-le-sum_by, lemmas.List.get_or_append_left, Common.take-append-drop}
+use Rattle.std.proofs.{Common.take-take, Common.take_all, lemmas.List.take_more, lemmas.Option.same_Some}
+use Rattle.theory.proofs.PropagationLemmas.Open.{open_cases, open_has}
+use Rattle.theory.specs.Propagation.{Live, open_literals}
+use Rattle.trail.proofs.TrailLemmas.{Left.nothing_is, Left.one_is, Longer.pushed_each}
+use Rattle.trail.specs.{Left.how_many, declared.left.Left.TheVariants.Nothing}
+use Rattle.trail.specs.declared.left.Left.TheVariants.{One}
+use Rattle.watch_lists.{proofs.WatchListsLemmas.Entries.has_times, specs.Watched.IsUnitList}
+use Rattle.watch_lists.specs.Watched.{is_unit_or_empty, unit_for, watches}
 
 pub met_more : (c : Clause) (l : Literal) (first second : List Literal) → IsPart first second → IsMet c l first → IsMet c l second
-met_more c l first second part met there = let w = met there in (w.0, w.1, part w.0 w.2)
+met_more = grind arith
 
 pub met_unwatched : (c : Clause) (l : Literal) (trues : List Literal) → watches c l ≡ false → IsMet c l trues
-met_unwatched c l trues e there = absurd (true≢false (sym there ∙ e))
+met_unwatched = grind (arith, true≢false)
 
 pub unit_more : (c : Clause) (first second : List Literal) → IsPart first second → HasUnit c first → HasUnit c second
-unit_more c first second h h2 = search rules
+unit_more = search rules
 
 pub front_part : (n : ℕ) (trues : List Literal) → IsPart (take n trues) trues
 front_part n trues l h = ap (λ ls. has ls l) (sym (take-append-drop n trues)) ∙ has_append_left (take n trues) (drop n trues) l h
 
 -- one more literal is propagated
 pub watched_more : (live : Live) (done trues : List Literal) (p : Literal) → IsWatched live done trues → ((s : ℕ) (c : Clause) → live s ≡ Some c → IsMet c (complement p) trues) → IsWatched live (done ++ p ∷ []) trues
-watched_more live done trues p watched partners =
-    grind (arith, common_steps, nat_tests, pushed_each, complement-complement)
+watched_more = grind (arith, common_steps, nat_tests, pushed_each, complement-complement)
 
 pub watched_grown : (live : Live) (done trues more : List Literal) → IsPart trues more → IsWatched live done trues → IsWatched live done more
-watched_grown live done trues more part watched = search rules
+watched_grown = search rules
 
 pub watched_done : (live : Live) (done other trues : List Literal) → other ≡ done → IsWatched live done trues → IsWatched live other trues
-watched_done live done other trues same watched = search rules
+watched_done = search rules
 
 -- ---- Clauses that are not doubtful
 
 pub sure_is : (doubts : List ℕ) (live : Live) (s : ℕ) (c : Clause) → sure_of doubts live s ≡ Some c → (live s ≡ Some c) × (has doubts s ≡ false)
-sure_is doubts live s c is = search rules
+sure_is = search rules
 
 pub sure_by : (doubts : List ℕ) (live : Live) (s : ℕ) (c : Clause) → live s ≡ Some c → has doubts s ≡ false → sure_of doubts live s ≡ Some c
-sure_by doubts live s c is sure = ap (λ b. cond b None (live s)) sure ∙ is
+sure_by = grind arith
 
 pub watched_all : (live : Live) (doubts : List ℕ) (done trues : List Literal) → IsWatched live done trues → IsWatched (sure_of doubts live) done trues
-watched_all live doubts done trues watched = search rules
+watched_all = search rules
 
 -- after a cut or not
 pub watched_most : (live : Live) (doubts : List ℕ) (lacks_units : Bool) (done trues : List Literal) → IsWatched (sure_of (cond lacks_units doubts []) live) done trues → IsWatched (sure_of doubts live) done trues
 watched_most live doubts true done trues watched = watched
-watched_most live doubts false done trues watched = watched_all live doubts done trues watched
+watched_most live doubts false done trues watched = grind (arith, watched_all)
+
+-- ---- Fewer propagated literals
+
+pub watched_nothing : (live : Live) (done trues : List Literal) → done ≡ [] → IsWatched live done trues
+watched_nothing = search rules
+
+pub watched_part : (live : Live) (done other trues more : List Literal) → IsPart other done → IsPart trues more → IsWatched live done trues → IsWatched live other more
+watched_part = search rules
+
+pub front_in_front : (lits : List Literal) (d n : ℕ) → d ≤ n → IsPart (take d lits) (take n lits)
+front_in_front lits d n low l h = front_part d (take n lits) l (rw take-take h)
+
+-- ---- No visits
+
+pub history_none : (live : Live) (history : History) (lits : List Literal) → visits history ≡ 0 → IsHistory live history lits
+history_none = search rules
+
+pub watched_none : (live : Live) (history : History) (lits : List Literal) → visits history ≡ 0 → IsWatched live (take (visits history) lits) lits
+watched_none = search rules
+
+-- ---- Other clauses
+
+-- the same visits among other clauses, where what they are known to have propagated is, or no cut is told of
+pub history_noted : (live after : Live) (history noted : History) (lits : List Literal) → noted.visited ≡ history.visited →
+    ((noted.floor ≡ history.floor) × ((d p : ℕ) → IsWatched live (take d lits) (take p lits) → IsWatched after (take d lits) (take p lits))) ⊎ (noted.floor ≡ length lits) → IsHistory live history lits → IsHistory after noted lits
+history_noted live after history noted lits visited either is = record {
+  inside = grind arith;
+  began = λ d low. grind (arith, is.began d);
+  before = λ d p low at_most above inside. grind (arith, is.before d p);
+}
+
+-- ---- More literals
+
+-- where the literals before each visit are propagated among them
+history_on : (live : Live) (history : History) (lits more : List Literal) → take (length lits) more ≡ lits → length lits ≤ length more → ((d p : ℕ) → d < visits history → length lits < p → IsWatched live (take d more) (take p more)) → IsHistory live history lits → IsHistory live history more
+history_on live history lits more begins longer past is = record {
+  inside = grind arith;
+  began = is.began;
+  before = λ d p low at_most above inside. elim (cases_lt (length lits) p) [
+    | inl far ↦ past d p low far
+    | inr within ↦ rw (front d (omega (arith, low, is.inside)), front p within) (is.before d p low at_most above within)
+  ];
+}
+  where
+    front : (k : ℕ) → k ≤ length lits → take k more ≡ take k lits
+    front k low = grind (arith, take-take)
+
+-- where the literals before the last visit are propagated among all
+pub history_longer : (live : Live) (history : History) (lits more : List Literal) (n : ℕ) → take (length lits) more ≡ lits → length lits ≤ length more → visits history ≤ n + 1 → IsWatched live (take n lits) lits → IsHistory live history lits → IsHistory live history more
+history_longer live history lits more n begins longer all watched is =
+    history_on live history lits more begins longer
+    (λ d p low past. watched_part live (take n lits) (take d more) lits (take p more) (part d low) (λ l h. front_in_front more (length lits) p (omega (arith, past)) l (ap (λ ls. has ls l) begins ∙ h)) watched) is
+  where
+    part : (d : ℕ) → d < visits history → IsPart (take d more) (take n lits)
+    part d low l h = front_in_front lits d n (omega (arith, low, all)) l
+        (ap (λ ls. has ls l) (sym (sym (take-take d (length lits) more (omega (arith, low, is.inside))) ∙ ap (take d) begins)) ∙ h)
+
+-- one literal more, where those before the last visit are propagated with it
+pub history_one_more : (live : Live) (history : History) (lits more : List Literal) → length more ≡ length lits + 1 → take (length lits) more ≡ lits → IsWatched live (take (visits history) more) more → IsHistory live history lits → IsHistory live history more
+history_one_more live history lits more longer begins watched is =
+    history_on _ _ _ _ begins (omega (arith, longer))
+    (grind (arith, watched_part, front_in_front, take_all)) is
+
+-- the next visit begins, where those before are propagated among so many literals already, and among more
+pub history_begun : (live : Live) (history begun : History) (lits : List Literal) (trues : ℕ) → visits history < length lits → visits history < trues → begun.visited.items ≡ history.visited.items ++ trues ∷ [] → begun.floor ≡ history.floor →
+    ((p : ℕ) → trues ≤ p → p ≤ length lits → IsWatched live (take (visits history) lits) (take p lits)) → IsHistory live history lits → IsHistory live begun lits
+history_begun live history begun lits trues fits low_enough pushed floor_is watched is = record {
+  inside = omega (arith, one_more, fits);
+  began = λ d low. grind (arith, cases_eq d (visits history), one_more, last d, earlier d, is.began d);
+  before = λ d p low at_most above inside. grind (arith, cases_eq d (visits history), one_more, last d, earlier d, is.before d p, watched p);
+}
+  where
+    one_more : visits begun ≡ visits history + 1
+    one_more = ap length pushed ∙ length-append history.visited.items (trues ∷ [])
+
+    earlier : (d : ℕ) → d < visits history → trues_at begun d ≡ trues_at history d
+    earlier d low = grind (arith, get_or_append_left)
+
+    last : (d : ℕ) → d ≡ visits history → trues_at begun d ≡ trues
+    last d e = ap (λ k. get_or begun.visited.items k 0) e ∙ ap (λ ns. get_or ns (visits history) 0) pushed ∙ get_or-append_seam history.visited.items trues [] 0
+
+-- ---- Fewer literals
+
+pub rewound_none : {history now : History} → IsRewound history now 0 → visits now ≡ 0
+rewound_none = search rules
+
+module _ (live : Live) (history now : History) (lits : List Literal) (place : ℕ) (is : IsHistory live history lits) (rewound : IsRewound history now place) (inside : place ≤ length lits) where
+  long : length (take place lits) ≡ place
+  long = grind (arith, length-take-le)
+
+  -- a visit that is left came before the one that is made again
+  below : visits now ≢ 0 → visits now < place
+  below = search rules
+
+  pub history_cut : IsHistory live now (take place lits)
+  history_cut = grind (arith, cases_eq, history_none, below, long, get_or-take, take-take)
+
+  pub watched_cut : IsWatched live (take (visits now) (take place lits)) (take place lits)
+  watched_cut = grind (arith, watched_none, below, take-take, cases_eq (visits now) 0)
+
+-- ---- One clause
+
+pub only_literal : (c : Clause) (l : Literal) → c ≡ l ∷ [] → (k : Literal) → has c k ≡ true → l ≡ k
+only_literal = grind arith
+
+unit_long : (c : Clause) (trues : List Literal) → is_unit_or_empty c ≡ false → HasUnit c trues
+unit_long = grind (arith, true≢false)
+
+-- a literal that is set where it was open is true
+pub set_by : (before after : List Literal) (l : Literal) (is_open : Bool) → is_open ≡ not (has before l) → after ≡ cond is_open (before ++ l ∷ []) before → has after l ≡ true
+set_by = grind (arith, has_append_right, has_head, not-false)
+
+-- ---- The list
+
+module _ (live : Live) (slots : List ℕ) (listed : IsUnitList live slots) where
+  pub units_alive : (place : ℕ) → place < length slots → (c : Clause) × (live (get_or slots place 0) ≡ Some c) × (is_unit_or_empty c ≡ true)
+  units_alive place inside = grind (arith, get_or-le-sum_by, eq-eqb, by_clause)
+    where
+      by_length : (c : Clause) (b : Bool) → is_unit_or_empty c ≡ b → 0 < cond {A = ℕ} b 1 0 → is_unit_or_empty c ≡ true
+      by_length c true e h = e
+      by_length c false e h = absurd (omega (arith, h))
+
+      by_clause : (o : Option Clause) → live (get_or slots place 0) ≡ o → 0 < unit_for o → (c : Clause) × (live (get_or slots place 0) ≡ Some c) × (is_unit_or_empty c ≡ true)
+      by_clause None is h = absurd (omega (arith, h))
+      by_clause (Some c) is h = (grind arith)
+
+  pub all_units : (trues : List Literal) (place : ℕ) → length slots ≤ place → ((s : ℕ) → has (take place slots) s ≡ true → (c : Clause) → live s ≡ Some c → HasUnit c trues) →
+      (s : ℕ) (c : Clause) → live s ≡ Some c → HasUnit c trues
+  all_units trues place past set s c is = by_length (is_unit_or_empty c) refl
+    where
+      by_length : (b : Bool) → is_unit_or_empty c ≡ b → HasUnit c trues
+      by_length true e = set s (grind (arith, take_all, has_times)) c is
+      by_length false e = unit_long _ _ e
+
+-- one more unit is set
+pub units_more : (live : Live) (slots : List ℕ) (place : ℕ) (trues more : List Literal) → place < length slots → IsPart trues more → (l : Literal) → live (get_or slots place 0) ≡ Some (l ∷ []) → has more l ≡ true →
+    ((s : ℕ) → has (take place slots) s ≡ true → (c : Clause) → live s ≡ Some c → HasUnit c trues) → (s : ℕ) → has (take (place + 1) slots) s ≡ true → (c : Clause) → live s ≡ Some c → HasUnit c more
+units_more live slots place trues more inside part l here set_l set s there =
+    pushed_each (λ x. (c : Clause) → live x ≡ Some c → HasUnit c more) (take place slots) (get_or slots place 0) (grind (arith, unit_more))
+    (grind (arith, same_Some)) s (grind (arith, take_more))
+
+-- ---- Looks at doubtful clauses
+
+-- what is left of a clause
+pub left_unit : (ls : List Literal) (c : Clause) (m : Literal) → One m ≡ how_many (open_literals ls c) → IsUnit ls c m
+left_unit ls c m e =
+    let alone = one_is (open_literals ls c) m (sym e) in grind (arith, open_has, open_cases)
+
+pub left_false : (ls : List Literal) (c : Clause) → Nothing ≡ how_many (open_literals ls c) → AreFalse ls c
+left_false ls c e k h = elim (open_cases ls c k h) [
+  | inl left ↦ grind (arith, false≢true, nothing_is)
+  | inr is_false ↦ is_false
+]
+
+-- one more slot
+pub settled_more : (live : Live) (slots : List ℕ) (place : ℕ) → place < length slots → (first before now : List Literal) → IsPart first before → IsPart before now → AreSettled live (take place slots) first before →
+    AreSettled live (get_or slots place 0 ∷ []) before now → AreSettled live (take (place + 1) slots) first now
+settled_more live slots place inside first before now within more so_far last s among c is l h =
+    pushed_each (λ x. (d : Clause) → live x ≡ Some d → IsMet d l now) (take place slots) (get_or slots place 0) (λ x g d there. met_more d l before now more (so_far x g d there l h))
+    (λ d there. last (get_or slots place 0) (has_head (get_or slots place 0) []) d there l (within (complement l) h)) s (ap (λ xs. has xs s) (sym (take_more slots place 0 inside)) ∙ among) c is

@@ -1,39 +1,42 @@
--- A clause that watches another literal.
-use Rattle.std.proofs.Common.{◌≡◌, ◌≢◌, ℕ, ◌+◌, ◌<◌, ◌≤◌, Bool, true, false, cond, eqb, eq-eqb}
-use Rattle.std.proofs.Common.{ne_eqb, ◌||◌, ◌&&◌, Option, Some, None, List, [], ◌∷◌, ◌++◌, length}
-use Rattle.std.proofs.Common.{get_or, set, swap, not, refl, sym, ap, ◌∙◌, subst, arith, inl, inr}
-use Rattle.std.proofs.{Common.rules, Common.nat_le, lemmas.Bool.cases_eq, lemmas.Bool.true≢false}
-use Rattle.std.specs.{Ordering.nat_cmp, FinMap.FinMap}
-use Rattle.std.proofs.lemmas.{Grind.get_or_default_zero, Grind.same_number_lists, Option.same_Some}
-use Rattle.std.proofs.lemmas.List.Edits.{length-swap, swapped_from_swap}
-use Rattle.std.proofs.lemmas.List.Sums.{sum_by_push, sum_by-set, get_or-le-sum_by}
+-- Clauses whose literals change places: one that watches another literal, one whose first two literals
+-- stay, perhaps in the other order, and one whose literals that are not false come to the front.
+use Rattle.{clause_db.specs.Store.is_tautology, watch_lists.specs.declared.watcher.Watcher.Watcher}
+use Rattle.{cnf_base.proofs.MapLemmas.insert_twice, propagation.specs.Assumptions.AssumptionsState}
+use Rattle.cnf_base.proofs.{MapLemmas.insert_here, MemberLemmas.has_front, MemberLemmas.has_place}
+use Rattle.cnf_base.proofs.{MemberLemmas.place_of, SizeLemmas.distinct_before, SizeLemmas.size_same}
+use Rattle.cnf_base.specs.Literals.{Clause, Literal, complement, has, size}
+use Rattle.{root_literals.specs.Code.Propagated.PropagatesTo, theory.specs.Propagation.Live}
+use Rattle.root_literals.proofs.RootLemmas.{Carried.extends_none, Reasons.ordered_same}
+use Rattle.{cnf_base.proofs.MapLemmas.insert_other, std.proofs.lemmas.List.Sums.get_or-le-sum_by}
+use Rattle.root_literals.specs.{Roots.IsArranged, Roots.IsBrought, Watched.IsMet}
+use Rattle.std.proofs.Common.{List, [], ap, arith, eq-eqb, eqb, false, inl, swap, sym, ◌+◌, ◌≡◌}
+use Rattle.std.proofs.Common.{Option, get_or, nat_cmp, set, subst, suc, true, ◌&&◌, ◌<◌, ◌∙◌, ◌≤◌}
+use Rattle.std.proofs.Common.{Some, cond, inr, length, not, refl, zero, ℕ, ◌++◌, ◌-◌, ◌||◌, ◌≢◌}
+use Rattle.std.proofs.{Common.true≢false, Math.Bool.or_comm, lemmas.List.Edits.swapped_from_swap}
+use Rattle.std.proofs.{Common.ne_eqb, lemmas.Bool.Decides.nat_tests, lemmas.Bool.false≢true}
+use Rattle.std.proofs.lemmas.{List.Edits.length-swap, List.Sums.sum_by_push, Option.same_Some}
+use Rattle.std.proofs.lemmas.Grind.{get_or_default_zero, same_number_lists}
+use Rattle.{cnf_base.proofs.MapLemmas.insert_same, watch.specs.declared.visit.Exchange.Exchange}
+use Rattle.{root_literals.proofs.RootLemmas.Watched.sure_by, std.proofs.lemmas.List.Sums.sum_by-set}
+use Rattle.{std.proofs.Common.◌∷◌, std.specs.FinMap.FinMap, watch.specs.Code.Visits.IsExchangeAt}
+use Rattle.trail.specs.declared.left.Left.TheVariants.{More, Nothing, One}
+use Rattle.{clause_db.proofs.StoreLemmas.Swap.has_swapped, watch.specs.Code.Visits.IsExchange}
+use Rattle.{std.proofs.lemmas.Bool.cases_eq, theory.proofs.PropagationLemmas.Forced.forced_assumed}
+use Rattle.watch_lists.proofs.WatchListsLemmas.{Lists.unfit_alike, Lists.unfit_none, Made.and_false}
+use Rattle.watch_lists.proofs.WatchListsLemmas.{Lists.entry_fits, Lists.unfit_pushed, Made.and_true}
+use Rattle.watch_lists.proofs.WatchListsLemmas.{Lists.eqb_turned, Watched.watches_first}
+use Rattle.watch_lists.specs.{Lists.entries_of, Lists.fits, Watched.entries_for, Watched.is_first}
+use Rattle.watch_lists.specs.{Lists.unfit_entries, Watched.is_unit_or_empty, Watched.watches}
+use Rattle.watch_lists.{proofs.WatchListsLemmas.Watched.tautology_alike, specs.Watched.IsListed}
 use Rattle.std.specs.FinMap as maps
-use Rattle.cnf_base.specs.Literals.{Literal, complement, Clause, has, size}
-use Rattle.cnf_base.proofs.{MemberLemmas.has_front, SizeLemmas.distinct_before}
-use Rattle.cnf_base.proofs.MapLemmas.{insert_here, insert_other, insert_same, insert_twice}
-use Rattle.root_literals.specs.{Code.Propagated.PropagatesTo, Watched.IsMet}
-use Rattle.root_literals.proofs.RootLemmas.{Order.ordered_same, Watched.sure_by, Watched.sure_is}
-use Rattle.root_literals.proofs.RootLemmas.Propagated.{extends_none}
-use Rattle.theory.{proofs.PropagationLemmas.Forced.forced_assumed, specs.Propagation.Live}
-use Rattle.propagation.specs.Assumptions.{AssumptionsState}
-use Rattle.watch_lists.specs.Lists.{entries_of, fits, unfit_entries}
-use Rattle.watch_lists.specs.Watched.{watches, is_first, is_unit_or_empty, entries_for, IsListed}
-use Rattle.watch_lists.proofs.WatchListsLemmas.Made.{and_false, and_true}
-use Rattle.watch_lists.proofs.WatchListsLemmas.Watched.{tautology_alike, watches_first}
-use Rattle.watch_lists.proofs.WatchListsLemmas.Lists.{entry_fits, eqb_turned, unfit_alike}
-use Rattle.watch_lists.proofs.WatchListsLemmas.Lists.{unfit_none, unfit_pushed}
-use Rattle.watch_lists.specs.declared.watcher.Watcher.{Watcher}
-use Rattle.clause_db.{specs.Store.is_tautology, proofs.StoreLemmas.Swap.has_swapped}
 
 -- three literals, two of which differ from the third
 one_moved : (a b m x : Literal) → a ≢ b → a ≢ m → cond (eqb a x || eqb m x) 1 0 + cond {A = ℕ} (eqb x b) 1 0 ≡ cond (eqb a x || eqb b x) 1 0 + cond {A = ℕ} (eqb x m) 1 0
-one_moved a b m x other apart = grind arith
+one_moved = grind arith
 
 -- the first two
 pub first_is : (c : Clause) (x : Literal) → 2 ≤ length c → is_first c x ≡ (eqb (get_or c 0 0) x || eqb (get_or c 1 0) x)
-first_is [] x long = absurd (omega (arith, long))
-first_is (a ∷ []) x long = absurd (omega (arith, long))
-first_is (a ∷ b ∷ c) x long = refl
+first_is = grind arith
 
 -- literals at two places of a clause that repeats none
 pub places_apart : (c : Clause) (i j : ℕ) (l m : Literal) → size c ≡ length c → i < j → j < length c → get_or c i 0 ≡ l → get_or c j 0 ≡ m → l ≢ m
@@ -44,12 +47,9 @@ places_apart c i j l m different low inside l_is m_is same =
 -- the second literal, l, is exchanged with a later one, m
 pub entries_moved : (l m : Literal) (c : Clause) (to : ℕ) → is_tautology c ≡ false → size c ≡ length c → get_or c 1 0 ≡ l → 2 ≤ to → to < length c → get_or c to 0 ≡ m → (x : Literal) →
     cond (watches (swap c 1 to) x) 1 0 + cond {A = ℕ} (eqb x l) 1 0 ≡ cond (watches c x) 1 0 + cond {A = ℕ} (eqb x m) 1 0
-entries_moved l m c to apart different there past inside to_is x =
-    let d = swap c 1 to in
-    let a = get_or c 0 0 in
-    let second : 1 < length c = omega (arith, past, inside) in
-    let w = swapped_from_swap c d 1 to 0 second inside refl in
-    let len = length-swap c 1 to in
+entries_moved l m c to apart different there past inside to_is x = let d = swap c 1 to in
+    let a = get_or c 0 0 in let second : 1 < length c = omega (arith, past, inside) in
+    let w = swapped_from_swap c d 1 to 0 second inside refl in let len = length-swap c 1 to in
     let was : watches c x ≡ (eqb a x || eqb l x) = grind (arith, watches_first, first_is) in
     let now : watches d x ≡ (eqb a x || eqb m x) =
     watches_first d x (tautology_alike c d (has_swapped c d 1 to second inside refl) ∙ apart) ∙ first_is d x (omega (arith, len, second))
@@ -68,30 +68,18 @@ module _ (lists after : Literal → List Watcher) (l m : ℕ) (w : Watcher) (oth
   is k = cond (eqb k l) left (after k)
 
   put_times : (x s : ℕ) → entries_of s (after x) ≡ entries_of s (lists x) + cond (eqb x m && eqb s w.slot) 1 0
-  put_times x s = ap (entries_of s) (pushed x) ∙ by_test (eqb x m)
-    where
-      by_test : (b : Bool) → entries_of s (cond b (lists x ++ w ∷ []) (lists x)) ≡ entries_of s (lists x) + cond (b && eqb s w.slot) 1 0
-      by_test true = sum_by_push (λ y. cond (eqb y.slot s) 1 0) (lists x) w ∙ ap (λ b. entries_of s (lists x) + cond b 1 0) (eqb_turned w.slot s)
-      by_test false = omega arith
+  put_times = grind (arith, sum_by_push, eqb_turned)
 
   pub times_moved : (x s : ℕ) → entries_of s (is x) + cond (eqb x l && eqb s w.slot) 1 0 ≡ entries_of s (was x) + cond (eqb x m && eqb s w.slot) 1 0
-  times_moved x s = elim (cases_eq x l) [
-    | inl e ↦ grind (arith, eq-eqb, ne_eqb)
-    | inr ne ↦ grind (arith, put_times, ne_eqb)
-  ]
+  times_moved = grind (arith, cases_eq, eq-eqb, ne_eqb, put_times)
 
   -- where the entry fits the clause
   pub unfit_moved : (c : Clause) → fits c m w.blocking w.is_binary ≡ true → ((s x : ℕ) (e : Clause) → unfit_entries s e x left ≤ unfit_entries s e x list) → (x s : ℕ) (e : Clause) → (s ≡ w.slot → e ≡ c) → unfit_entries s e x (is x) ≤ unfit_entries s e x (was x)
-  unfit_moved c fitting fewer x s e same = elim (cases_eq x l) [
-    | inl y ↦ simp (eq-eqb x l y) (fewer s x e)
-    | inr ne ↦ grind (arith, ne_eqb, cases_eq, eq-eqb, unfit_pushed)
-  ]
+  unfit_moved = grind (arith, cases_eq, eq-eqb, ne_eqb, unfit_pushed)
 
 -- two literals that were exchanged twice
 pub swap_back : (c : Clause) (a b : ℕ) → a < length c → b < length c → swap (swap c a b) b a ≡ c
-swap_back c a b low inside =
-    let d = swap c a b in
-    let len = length-swap c a b in
+swap_back c a b low inside = let d = swap c a b in let len = length-swap c a b in
     let first = swapped_from_swap c d a b 0 low inside refl in
     let second = swapped_from_swap d (swap d b a) b a 0 (omega (arith, len, inside)) (omega (arith, len, low)) refl in
     grind (arith, same_number_lists, swap, length-swap, cases_eq)
@@ -102,22 +90,17 @@ pub exchanged_back : (live after back : FinMap nat_cmp Clause) (slot from to : �
 exchanged_back live after back slot from to c here low inside moved again =
     let d = swap c from to in
     again d (grind (arith, insert_here)) ∙ ap (λ m. maps.insert m slot (swap d to from)) moved
-    ∙ ap (maps.insert (maps.insert live slot d) slot) (swap_back c from to low inside) ∙ insert_twice live slot d c ∙ insert_same live slot c here
+    ∙ ap (maps.insert (maps.insert live slot d) slot) (swap_back _ _ _ low inside) ∙ insert_twice _ _ _ _ ∙ insert_same _ _ _ here
 
 -- a clause is as long as another one
 units_as_long : (c d : Clause) → length d ≡ length c → is_unit_or_empty d ≡ is_unit_or_empty c
-units_as_long c d same = units_are d ∙ ap (λ n. not (nat_le 2 n)) same ∙ sym (units_are c)
-  where
-    units_are : (x : Clause) → is_unit_or_empty x ≡ not (nat_le 2 (length x))
-    units_are [] = refl
-    units_are (a ∷ []) = refl
-    units_are (a ∷ b ∷ x) = search rules
+units_as_long = grind arith
 
 -- a clause with the same literals takes the place of another one; of the literals that are watched, l may give way to m
 module _ (live : FinMap nat_cmp Clause) (slot : ℕ) (c d : Clause) (here : maps.get live slot ≡ Some c) (alike : (k : Literal) → has d k ≡ has c k) (as_long : length d ≡ length c) (l m : Literal)
     (entries : (x : Literal) → cond (watches d x) 1 0 + cond {A = ℕ} (eqb x l) 1 0 ≡ cond (watches c x) 1 0 + cond {A = ℕ} (eqb x m) 1 0) where
   at_slot : maps.get (maps.insert live slot d) slot ≡ Some d
-  at_slot = insert_here live slot slot d refl
+  at_slot = grind (arith, insert_here)
 
   at_others : (s : ℕ) → s ≢ slot → maps.get (maps.insert live slot d) s ≡ maps.get live s
   at_others s ne = insert_other live slot s d ne
@@ -126,10 +109,7 @@ module _ (live : FinMap nat_cmp Clause) (slot : ℕ) (c d : Clause) (here : maps
       ((x s : ℕ) → entries_of s (after x) + cond (eqb x l && eqb s slot) 1 0 ≡ entries_of s (lists x) + cond (eqb x m && eqb s slot) 1 0) →
       ((x s : ℕ) (e : Clause) → (s ≡ slot → e ≡ c) → unfit_entries s e x (after x) ≤ unfit_entries s e x (lists x)) → IsListed (maps.get (maps.insert live slot d)) after
   listed_moved lists after listed times fewer = record {
-    watched = λ x s. elim (cases_eq s slot) [
-      | inl e ↦ grind (arith, eq-eqb, and_true, at_slot)
-      | inr ne ↦ grind (arith, ne_eqb, and_false, at_others)
-    ];
+    watched = grind (arith, cases_eq, eq-eqb, and_true, at_slot, ne_eqb, and_false, at_others);
     low = grind (arith, cases_eq, at_others);
     fitting = λ x s e is. elim (cases_eq s slot) [
       | inl same ↦
@@ -144,15 +124,14 @@ module _ (live : FinMap nat_cmp Clause) (slot : ℕ) (c d : Clause) (here : maps
   pub propagates_exchanged : (held : AssumptionsState) (reason_of : Literal → Option ℕ) → ((x : Literal) → has held.trail.lits (complement x) ≡ true → watches d x ≡ true → watches c x ≡ true) →
       PropagatesTo live (maps.insert live slot d) held held reason_of reason_of
   propagates_exchanged held reason_of still = record {
-    same = ordered_same live slot c d here alike;
+    same = ordered_same _ _ _ _ here alike;
     units = grind (arith, cases_eq, at_slot, units_as_long, at_others);
     kept = λ doubts done trues p q watched. record {
       each = λ s e is x h.
-          let now = sure_is doubts (maps.get (maps.insert live slot d)) s e is in
           elim (cases_eq s slot) [
             | inl same ↦
-                subst (λ y. IsMet y x trues) (same_Some d e (sym at_slot ∙ ap (maps.get (maps.insert live slot d)) (sym same) ∙ now.0)) (λ there.
-                let met = watched.each slot c (sure_by doubts (maps.get live) slot c here (ap (has doubts) (sym same) ∙ now.1)) x h (still x (p (complement x) h) there) in
+                subst (λ y. IsMet y x trues) (grind (arith, same_Some, at_slot)) (λ there.
+                let met = watched.each slot c (grind (arith, sure_by)) x h (still x (p (complement x) h) there) in
                 (met.0, alike met.0 ∙ met.1, met.2))
             | inr ne ↦ grind (arith, sure_by, at_others)
           ];
@@ -168,36 +147,24 @@ module _ (live : FinMap nat_cmp Clause) (slot : ℕ) (c d : Clause) (here : maps
 
 slot_alive : (live : Live) (lists : Literal → List Watcher) (l : Literal) (list : List Watcher) → IsListed live (λ k. cond (eqb k l) list (lists k)) → (place : ℕ) (d : Watcher) → place < length list →
     (c : Clause) × (live (get_or list place d).slot ≡ Some c) × (watches c l ≡ true) × (unfit_entries (get_or list place d).slot c l list ≡ 0)
-slot_alive live lists l list listed place d inside =
-    let s = (get_or list place d).slot in
+slot_alive live lists l list listed place d inside = let s = (get_or list place d).slot in
     let one = get_or-le-sum_by (λ w. cond (eqb w.slot s) 1 0) list place d inside in
     let here : cond {A = ℕ} (eqb s s) 1 0 ≡ 1 = ap (λ b. cond {A = ℕ} b 1 0) (eq-eqb s s refl) in
     let count : entries_of s list ≡ entries_for (live s) l = grind (arith, eq-eqb) in
-    grind arith
-  where
-    by_watch : (c : Clause) (b : Bool) → watches c l ≡ b → 0 < cond {A = ℕ} b 1 0 → watches c l ≡ true
-    by_watch c true e h = e
-    by_watch c false e h = absurd (omega (arith, h))
-
-    by_clause : (o : Option Clause) → live (get_or list place d).slot ≡ o → 0 < entries_for o l →
-        (c : Clause) × (live (get_or list place d).slot ≡ Some c) × (watches c l ≡ true) × (unfit_entries (get_or list place d).slot c l list ≡ 0)
-    by_clause None is h = absurd (omega (arith, h))
-    by_clause (Some c) is h =
-        (c, is, by_watch c (watches c l) refl h, ap (λ b. unfit_entries (get_or list place d).slot c l (cond b list (lists l))) (sym (eq-eqb l l refl)) ∙ listed.fitting l (get_or list place d).slot c is)
+    grind (arith, get_or-le-sum_by, eq-eqb)
 
 -- its clause, which the entry fits
 pub entry_alive : (live : Live) (lists : Literal → List Watcher) (l : Literal) (list : List Watcher) → IsListed live (λ k. cond (eqb k l) list (lists k)) → (place : ℕ) (e : Watcher) → place < length list → e ≡ get_or list place e →
     (c : Clause) × (live e.slot ≡ Some c) × (watches c l ≡ true) × (fits c l e.blocking e.is_binary ≡ true)
 entry_alive live lists l list listed place e inside is =
-    let w = slot_alive live lists l list listed place e inside in
-    grind (arith, entry_fits)
+    let w = slot_alive live lists l list listed place e inside in grind (arith, entry_fits)
 
 -- an entry with another literal of its clause
 pub listed_written : (live : Live) (lists : Literal → List Watcher) (l : Literal) (list : List Watcher) → IsListed live (λ k. cond (eqb k l) list (lists k)) → (place : ℕ) (e entry : Watcher) → place < length list → e ≡ get_or list place e → entry.slot ≡ e.slot →
     ((c : Clause) → live e.slot ≡ Some c → fits c l entry.blocking entry.is_binary ≡ true) → IsListed live (λ k. cond (eqb k l) (set list place entry) (lists k))
 listed_written live lists l list listed place e entry inside is same fitting = record {
   watched = λ k s. elim (cases_eq k l) [
-    | inl y ↦ simp (eq-eqb k l y) (as_many s ∙ (simp (eq-eqb k l y) at (listed.watched k s)))
+    | inl y ↦ simp (eq-eqb k l y) (as_many s ∙ (grind (arith, eq-eqb)))
     | inr ne ↦ grind (arith, ne_eqb)
   ];
   low = listed.low;
@@ -211,13 +178,151 @@ listed_written live lists l list listed place e entry inside is same fitting = r
 }
   where
     as_many : (s : ℕ) → entries_of s (set list place entry) ≡ entries_of s list
-    as_many s =
-        let put = sum_by-set (λ w. cond (eqb w.slot s) 1 0) list place entry e inside in
+    as_many s = let put = sum_by-set (λ w. cond (eqb w.slot s) 1 0) list place entry e inside in
         let alike : cond {A = ℕ} (eqb entry.slot s) 1 0 ≡ cond (eqb (get_or list place e).slot s) 1 0 = ap (λ n. cond {A = ℕ} (eqb n s) 1 0) (same ∙ ap (λ x. x.slot) is) in
         omega (arith, put, alike)
 
     fewer : (k : Literal) → k ≡ l → (s : ℕ) (c : Clause) → live s ≡ Some c → unfit_entries s c k (set list place entry) ≤ unfit_entries s c k list
     fewer k of_l s c there =
         let put = sum_by-set (λ w. cond (eqb w.slot s && not (fits c k w.blocking w.is_binary)) 1 0) list place entry e inside in
-        let none = unfit_none s k c entry (λ y. ap (λ x. fits c x entry.blocking entry.is_binary) of_l ∙ fitting c (ap live (sym same ∙ sym y) ∙ there)) in
-        omega (arith, put, none)
+        let none = unfit_none s k c entry (grind arith) in omega (arith, put, none)
+
+-- ---- A clause whose first two literals stay, perhaps in the other order, and one whose second is
+
+module _ (live : FinMap nat_cmp Clause) (slot : ℕ) (c d : Clause) (here : maps.get live slot ≡ Some c) (alike : (l : Literal) → has d l ≡ has c l) (as_long : length d ≡ length c) (first : (l : Literal) → is_first d l ≡ is_first c l) where
+  same_watches : (x : Literal) → watches d x ≡ watches c x
+  same_watches = grind (arith, tautology_alike)
+
+  same_entries : (x : Literal) → cond (watches d x) 1 0 + cond {A = ℕ} (eqb x 0) 1 0 ≡ cond (watches c x) 1 0 + cond {A = ℕ} (eqb x 0) 1 0
+  same_entries = grind (arith, same_watches)
+
+  -- the lists are as they should
+  pub listed_reordered : (lists : Literal → List Watcher) → IsListed (maps.get live) lists → IsListed (maps.get (maps.insert live slot d)) lists
+  listed_reordered lists listed = listed_moved live slot c d here alike as_long 0 0 same_entries lists lists listed (λ x s. refl) (λ x s e same. omega arith)
+
+  pub propagates_reordered : (held : AssumptionsState) (reason_of : Literal → Option ℕ) → PropagatesTo live (maps.insert live slot d) held held reason_of reason_of
+  propagates_reordered held reason_of = propagates_exchanged live slot c d here alike as_long 0 0 same_entries held reason_of (λ x _ there. sym (same_watches x) ∙ there)
+
+-- ---- The second literal, which is false, is exchanged with a later one, which isn't
+
+pub propagates_moved : (live : FinMap nat_cmp Clause) (held : AssumptionsState) (slot : ℕ) (c : Clause) → maps.get live slot ≡ Some c → (to : ℕ) (l m : Literal) → is_tautology c ≡ false → size c ≡ length c →
+    get_or c 1 0 ≡ l → 2 ≤ to → to < length c → get_or c to 0 ≡ m → has held.trail.lits (complement m) ≡ false →
+    (reason_of : Literal → Option ℕ) → PropagatesTo live (maps.insert live slot (swap c 1 to)) held held reason_of reason_of
+propagates_moved live held slot c here to l m apart different there past inside to_is m_open reason_of =
+    let d = swap c 1 to in
+    let moved = entries_moved l m c to apart different there past inside to_is in
+    propagates_exchanged live slot c d here (grind (arith, has_swapped)) (length-swap c 1 to) l m moved held reason_of (grind (arith, false≢true, moved, nat_tests))
+
+-- ---- The first two are put in the order in which a given one is the second
+
+-- the literal that stood at `from` is the second
+abbrev pub turned : Clause → ℕ → Clause
+turned c from = swap c 0 (1 - from)
+
+pub turned_front : (c : Clause) (from : ℕ) → from < 2 → 2 ≤ length c → (get_or (turned c from) 1 0 ≡ get_or c from 0) × ((x : Literal) → is_first (turned c from) x ≡ is_first c x)
+turned_front [] from low long = absurd (omega (arith, long))
+turned_front (a ∷ []) from low long = absurd (omega (arith, long))
+turned_front (a ∷ b ∷ c) zero low long = grind (arith, or_comm)
+turned_front (a ∷ b ∷ c) (suc zero) low long = (refl, λ x. refl)
+turned_front (a ∷ b ∷ c) (suc (suc from)) low long = absurd (omega (arith, low))
+
+module _ {c : Clause} {l : Literal} {x : Exchange} (w : IsExchange c l x) where
+  pub exchange_long : 2 ≤ length c
+  exchange_long = grind arith
+
+  pub exchange_member : has c x.other ≡ true
+  exchange_member = grind (arith, has_place)
+
+  pub turned_has : (k : Literal) → has (turned c w.from) k ≡ has c k
+  turned_has = grind (arith, has_swapped)
+
+  pub turned_as_long : length (turned c w.from) ≡ length c
+  turned_as_long = length-swap c 0 (1 - w.from)
+
+  turned_first : (k : Literal) → is_first (turned c w.from) k ≡ is_first c k
+  turned_first = grind (arith, turned_front, exchange_long)
+
+  abbrev exchange_turned : IsExchange (turned c w.from) l x
+  exchange_turned = let long = exchange_long in let past = w.to_high in
+      let places = swapped_from_swap c (turned c w.from) 0 (1 - w.from) 0 (omega (arith, long)) (omega (arith, long)) refl in record {
+        from = 1;
+        from_low = omega arith;
+        from_is = (turned_front c w.from w.from_low long).0 ∙ w.from_is;
+        other_is = places.0 ∙ w.other_is;
+        to_high = past;
+        to_inside = let len = turned_as_long in let inside = w.to_inside in omega (arith, len, inside);
+        to_is = places.2 x.to (λ e. omega (arith, past, e)) (λ e. omega (arith, past, e)) ∙ w.to_is;
+      }
+
+-- of the clause in the slot
+module _ {live : FinMap nat_cmp Clause} {slot : ℕ} {l : Literal} {x : Exchange} (w : IsExchangeAt live slot l x) where
+  abbrev pub turned_clause : Clause
+  turned_clause = turned w.clause w.exchange.from
+
+  abbrev pub turned_live : FinMap nat_cmp Clause
+  turned_live = maps.insert live slot turned_clause
+
+  abbrev pub turned_at : IsExchangeAt turned_live slot l x
+  turned_at = record {
+    clause = turned_clause;
+    at = insert_here live slot slot turned_clause refl;
+    different = size_same turned_clause w.clause (λ k h. sym (turned_has w.exchange k) ∙ h) (λ k h. turned_has w.exchange k ∙ h) ∙ w.different ∙ sym (turned_as_long w.exchange);
+    apart = tautology_alike w.clause turned_clause (turned_has w.exchange) ∙ w.apart;
+    exchange = exchange_turned w.exchange;
+  }
+
+  pub turned_listed : (lists : Literal → List Watcher) → IsListed (maps.get live) lists → IsListed (maps.get turned_live) lists
+  turned_listed = listed_reordered live slot w.clause turned_clause w.at (turned_has w.exchange) (turned_as_long w.exchange) (turned_first w.exchange)
+
+  pub turned_propagates : (held : AssumptionsState) (reason_of : Literal → Option ℕ) → PropagatesTo live turned_live held held reason_of reason_of
+  turned_propagates = propagates_reordered live slot w.clause turned_clause w.at (turned_has w.exchange) (turned_as_long w.exchange) (turned_first w.exchange)
+
+  -- the clause after both
+  abbrev pub exchanged : Clause
+  exchanged = swap turned_clause 1 x.to
+
+  -- both are written at once
+  module _ (after : FinMap nat_cmp Clause) (k : ℕ) (of_slot : k ≡ slot)
+      (is : (d : Clause) (from : ℕ) → maps.get live k ≡ Some d → from < 2 → get_or d from 0 ≡ l
+      → get_or d (1 - from) 0 ≡ x.other
+      → after ≡ maps.insert live k (swap (swap d 0 (1 - from)) 1 x.to)) where
+    pub moved : after ≡ maps.insert turned_live slot exchanged
+    moved = grind (arith, insert_twice)
+
+    pub moved_there : maps.get after k ≡ Some exchanged
+    moved_there = grind (arith, moved, insert_here)
+
+  -- it has a place for the other one
+  pub to_inside : x.to < length exchanged
+  to_inside = grind (arith, length-swap)
+
+  pub second_inside : 1 < length exchanged
+  second_inside = grind (arith, to_inside)
+
+-- ---- Clauses whose literals that are not false are brought to the front
+
+module _ (live : FinMap nat_cmp Clause) (slot : ℕ) (trues : List Literal) (place : ℕ) (c : Clause) (here : maps.get live slot ≡ Some c) where
+  pub brought : (after : FinMap nat_cmp Clause) (found : ℕ) → place ≤ found → found < length c → has trues (complement (get_or c found 0)) ≡ false → after ≡ maps.insert live slot (swap c place found) →
+      (d : Clause) → maps.get live slot ≡ Some d → (e : Clause) × (maps.get after slot ≡ Some e) × IsBrought trues d e place true
+  brought after found low inside is_open is d there =
+      let w = swapped_from_swap c (swap c place found) place found 0 (omega (arith, low, inside)) inside refl in grind (arith, swap, insert_here, has_swapped, length-swap, true≢false)
+
+  pub not_brought : ((k : ℕ) → place ≤ k → k < length c → has trues (complement (get_or c k 0)) ≡ true) →
+      (d : Clause) → maps.get live slot ≡ Some d → (e : Clause) × (maps.get live slot ≡ Some e) × IsBrought trues d e place false
+  not_brought = grind (arith, same_Some, false≢true)
+
+pub arranged_nothing : (trues : List Literal) (c d : Clause) → IsBrought trues c d 0 false → IsArranged trues d Nothing
+arranged_nothing = grind (arith, place_of)
+
+module _ (trues : List Literal) (c d e : Clause) (first : IsBrought trues c d 0 true) where
+  pub first_there : has d (get_or d 0 0) ≡ true
+  first_there = grind (arith, has_place)
+
+  pub arranged_more : IsBrought trues d e 1 true → IsArranged trues e More
+  arranged_more = grind arith
+
+  pub arranged_one : IsBrought trues d e 1 false → (l : Literal) → get_or e 0 0 ≡ l → IsArranged trues e (One l)
+  arranged_one = grind (arith, first_there, place_of, cases_eq)
+
+  pub one_inside : IsBrought trues d e 1 false → 0 < length e
+  one_inside = grind (arith, place_of, first_there)

@@ -1,7 +1,6 @@
-use Rattle.std.proofs.Common.{take}
+use Rattle.root_literals.specs.Code.{Doubts.AreSettled, Propagated.PropagatesTo}
+use Rattle.{std.proofs.Common.take, tables.specs.Filled.at}
 use Rattle.std.specs.FinMap as maps
-use Rattle.tables.specs.Filled.{at}
-use Rattle.root_literals.specs.Code.{Propagated.PropagatesTo, Doubts.AreSettled}
 use Rattle.root_literals.proofs.doubts.look_at.Given as goal
 
 abbrev pub invariant-loop-place : goal.invariant-loop-place

@@ -1,5 +1,5 @@
-use Rattle.root_literals.proofs.RootLemmas.History.{front_in_front}
-use Rattle.std.proofs.{Common.arith, lemmas.Bool.true≢false}
+use Rattle.std.proofs.Common.{arith, true≢false}
+use Rattle.root_literals.proofs.RootLemmas.Watched.{front_in_front}
 use Rattle.root_literals.proofs.places.place_of.Goals as goal
 
 pub returns-clause-literal : goal.returns-clause-literal

@@ -1,11 +1,10 @@
-use Rattle.std.proofs.Common.{rules, [], true, sym, ap, ◌∙◌, arith}
+use Rattle.std.proofs.Common.{[], ap, arith, rules, sym, true, ◌∙◌}
+use Rattle.root_literals.proofs.RootLemmas.Carried.{can_set_on, clashes, propagates_on, room_for}
+use Rattle.{tables.specs.Filled.at, trail.proofs.TrailLemmas.Longer.has_begun}
+use Rattle.cnf_base.{proofs.SetLemmas.has_head, specs.Literals.has}
+use Rattle.root_literals.proofs.RootLemmas.Watched.{only_literal, set_by, units_alive, units_more}
+use Rattle.root_literals.proofs.RootLemmas.{Carried.propagates_unit, Watched.all_units}
 use Rattle.std.specs.FinMap as maps
-use Rattle.tables.specs.Filled.{at}
-use Rattle.cnf_base.{specs.Literals.has, proofs.SetLemmas.has_head}
-use Rattle.trail.proofs.TrailLemmas.Longer.{has_begun}
-use Rattle.root_literals.proofs.RootLemmas.Propagated.{propagates_on, propagates_unit, clashes}
-use Rattle.root_literals.proofs.RootLemmas.{Carried.can_set_on, Carried.room_for, Units.set_by}
-use Rattle.root_literals.proofs.RootLemmas.Units.{all_units, only_literal, units_alive, units_more}
 use Rattle.root_literals.proofs.units.set_units.Goals as goal
 
 pub returns-in_default-clause-clash : goal.returns-in_default-clause-clash
@@ -15,15 +14,13 @@ pub returns-then-is_false-clause-clash : goal.returns-then-is_false-clause-clash
 returns-then-is_false-clause-clash c = search (rules, clashes, only_literal)
 
 pub set_by-requires : goal.set_by-requires
-set_by-requires c =
-    let d = c.clause-clause.result.now in let l = c.in-Some.l in
+set_by-requires c = let l = c.in-Some.l in
     let member = ap (λ x. has x l) c.in-Some.ensures.one ∙ has_head l [] in
-    let room = room_for (can_set_on c.requires.can c.loop-place.invariant.propagates) c.at.result d (sym c.clause-clause.ensures.clause) l member in
+    let room = room_for (can_set_on c.requires.can c.loop-place.invariant.propagates) _ _ (sym c.clause-clause.ensures.clause) _ member in
     record { reserved = room.0; not_false = search rules; noted = room.1 }
 
 pub loop-place-preserved : goal.loop-place-preserved
-loop-place-preserved c =
-    let live = c.args.store.now.live in let d = c.clause-clause.result.now in
+loop-place-preserved c = let live = c.args.store.now.live in let d = c.clause-clause.result.now in
     let state = c.loop-place.assumptions in let so_far = c.loop-place.invariant in
     let e = c.set_by.ensures in let l = c.in-Some.l in
     let step = propagates_unit live state c.at.result d (sym c.clause-clause.ensures.clause) l (grind (arith, has_head l [])) (grind (arith, only_literal d l)) c.set_by.new.assumptions c.set_by.result e.was_open e.lits e.reserved e.assumptions e.starts
@@ -37,5 +34,4 @@ pub returns-clause-units : goal.returns-clause-units
 returns-clause-units c = search (rules, all_units)
 
 pub clause-clause-requires : goal.clause-clause-requires
-clause-clause-requires c =
-    grind (arith, units_alive (maps.get c.args.store.now.live) c.args.slots.now c.requires.listed c.loop-place.place c.loop-place-test.true)
+clause-clause-requires c = grind (arith, units_alive _ _ c.requires.listed _ c.loop-place-test.true)

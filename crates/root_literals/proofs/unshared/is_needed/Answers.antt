@@ -1,7 +1,6 @@
-use Rattle.std.proofs.Common.{arith, inl, inr}
-use Rattle.tables.specs.Filled.{at}
 use Rattle.root_literals.proofs.RootLemmas.Unshared.{unneeded_none, unneeded_unused}
-use Rattle.std.proofs.lemmas.{Grind.get_or_default_zero, Bool.cases_lt}
+use Rattle.std.proofs.{Common.arith, Common.inl, Common.inr, lemmas.Bool.cases_lt}
+use Rattle.{std.proofs.lemmas.Grind.get_or_default_zero, tables.specs.Filled.at}
 use Rattle.root_literals.proofs.unshared.is_needed.Goals as goal
 
 pub returns-then-count_with-eq0-clause-unneeded : goal.returns-then-count_with-eq0-clause-unneeded
@@ -21,6 +20,5 @@ loop-behind-preserved c = record {
 }
 
 pub returns-clause-unneeded : goal.returns-clause-unneeded
-returns-clause-unneeded c _ q s d low high is there =
-    let end = c.loop-behind-test.false in
+returns-clause-unneeded c _ q s d low high is there = let end = c.loop-behind-test.false in
     c.loop-behind.invariant.unneeded q s d low (omega (arith, end, high)) is there

@@ -1,6 +1,5 @@
-use Rattle.std.proofs.Common.{ℕ, ◌+◌, ◌≤◌, cond, take, unwrap_or}
-use Rattle.cnf_base.specs.Literals.{has}
-use Rattle.tables.specs.Filled.{at}
+use Rattle.{cnf_base.specs.Literals.has, std.proofs.Common.unwrap_or, tables.specs.Filled.at}
+use Rattle.std.proofs.Common.{cond, take, ℕ, ◌+◌, ◌≤◌}
 use Rattle.root_literals.proofs.uses.count_all.Given as goal
 
 abbrev pub invariant-loop-l : goal.invariant-loop-l

@@ -1,11 +1,10 @@
 -- The formula was loaded, or it has a fault.
-use Rattle.std.proofs.Common.{arith, [], sym, ◌∙◌, ◌≡◌}
-use Rattle.cnf_base.proofs.SeenLemmas.{seen_is_some}
 use Rattle.cnf_base.proofs.StreamLemmas.{Along-map, Along-none}
 use Rattle.report.specs.declared.status.Status.TheVariants.{Malformed, OutOfMemory as NoMemory}
-use Rattle.sat_check.proofs.{CheckLemmas.LeavesProof-fault, OutcomeLemmas.no_verdict}
+use Rattle.{cnf_base.proofs.SeenLemmas.seen_is_some, sat_check.proofs.CheckLemmas.LeavesProof-fault}
+use Rattle.std.proofs.Common.{[], arith, sym, ◌∙◌, ◌≡◌}
 use Rattle.sat_check.proofs.ReportLemmas.{err_report, reports_checked}
-use Rattle.theory.specs.Rules.{rule_of}
+use Rattle.{sat_check.proofs.OutcomeLemmas.no_verdict, theory.specs.Rules.rule_of}
 use Rattle.sat_check.proofs.check.check.Goals as goal
 
 pub check_loaded-requires-clause-loaded : goal.check_loaded-requires-clause-loaded

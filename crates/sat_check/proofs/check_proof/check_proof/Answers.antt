@@ -1,13 +1,12 @@
 -- A step, the end, or a fault.
-use Rattle.report.specs.{Lines.end_line, declared.status.Status.TheVariants.Malformed}
-use Rattle.report.specs.declared.status.Status.TheVariants.{NotVerified, OutOfMemory as NoMemory}
-use Rattle.sat_check.proofs.CheckLemmas.{Checking-end, Checking-fault, Checking-start}
-use Rattle.sat_check.proofs.CheckLemmas.{Checking-step, Checking-stop, TellsFault-none}
-use Rattle.sat_check.proofs.CheckLemmas.{concluded_not, step_told, told_not}
+use Rattle.sat_check.proofs.CheckLemmas.{Checking-fault, Checking-start, TellsFault-none, told_not}
+use Rattle.{sat_check.proofs.CheckLemmas.Checking-step, std.proofs.Common.ap, std.specs.Prelude.Ok}
+use Rattle.sat_check.proofs.CheckLemmas.{Checking-end, Checking-stop, concluded_not, step_told}
+use Rattle.report.specs.{Lines.end_line, declared.status.Status.TheVariants.OutOfMemory as NoMemory}
+use Rattle.report.specs.declared.status.Status.TheVariants.{Malformed, NotVerified}
+use Rattle.{sat_check.specs.declared.checked.Checked.Checked, std.proofs.Common.sym}
 use Rattle.sat_check.specs.Code.Checking.{Standing, counted}
-use Rattle.sat_check.specs.declared.checked.Checked.{Checked}
-use Rattle.std.proofs.Common.{None, ap, arith, false, rules, sym, true, ◌+◌, ◌∙◌, ◌≡◌}
-use Rattle.std.specs.Prelude.{Ok}
+use Rattle.std.proofs.Common.{None, arith, false, rules, true, ◌+◌, ◌∙◌, ◌≡◌}
 use Rattle.sat_check.proofs.check_proof.check_proof.Goals as goal
 
 pub loop-number-init : goal.loop-number-init

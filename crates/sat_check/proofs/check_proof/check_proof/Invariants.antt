@@ -1,6 +1,5 @@
 -- The steps so far were accepted, and the check goes on.
-use Rattle.cnf_base.specs.Stream.{most_to_come}
-use Rattle.sat_check.proofs.CheckLemmas.{Checking}
+use Rattle.{cnf_base.specs.Stream.most_to_come, sat_check.proofs.CheckLemmas.Checking}
 use Rattle.sat_check.proofs.check_proof.check_proof.Given as goal
 
 abbrev pub invariant-loop-number : goal.invariant-loop-number

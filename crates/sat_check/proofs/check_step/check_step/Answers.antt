@@ -1,6 +1,6 @@
 -- The step was refused, its line broke off, it is the last one, or the check goes on.
-use Rattle.sat_check.proofs.OutcomeLemmas.{no_verdict}
-use Rattle.sat_check.proofs.ReportLemmas.{Stops-refused, Stops-traced, Stops-verified, was_refused}
+use Rattle.sat_check.proofs.{OutcomeLemmas.no_verdict, ReportLemmas.Stops-refused}
+use Rattle.sat_check.proofs.ReportLemmas.{Stops-traced, Stops-verified, was_refused}
 use Rattle.std.proofs.Common.{inl, inr, rules}
 use Rattle.sat_check.proofs.check_step.check_step.Goals as goal
 

@@ -1,6 +1,5 @@
-use Rattle.std.proofs.Common.{rules}
-use Rattle.report.specs.Lines.{trace_line}
-use Rattle.sat_check.proofs.OutcomeLemmas.{Writes-line, on_ok}
+use Rattle.{report.specs.Lines.trace_line, sat_check.proofs.OutcomeLemmas.Writes-line}
+use Rattle.{sat_check.proofs.OutcomeLemmas.on_ok, std.proofs.Common.rules}
 use Rattle.sat_check.proofs.check_step.write_trace_line.Goals as goal
 
 pub returns : goal.returns

@@ -1,8 +1,7 @@
 -- Two lines in turn, and a flush.
-use Rattle.std.proofs.Common.{◌≡◌, rules}
-use Rattle.report.specs.Subjects.{certificate_of}
-use Rattle.sat_check.proofs.OutcomeLemmas.{concluded-first, concluded-second, concluded-flush}
-use Rattle.sat_check.proofs.OutcomeLemmas.{concluded-whole}
+use Rattle.{report.specs.Subjects.certificate_of, sat_check.proofs.OutcomeLemmas.concluded-first}
+use Rattle.sat_check.proofs.OutcomeLemmas.{concluded-flush, concluded-second, concluded-whole}
+use Rattle.std.proofs.Common.{rules, ◌≡◌}
 use Rattle.sat_check.proofs.conclude.conclude.Goals as goal
 
 pub returns-then-is_err-clause-outcome : goal.returns-then-is_err-clause-outcome

@@ -1,8 +1,7 @@
 -- Want of memory, or the check in the form that was asked for.
-use Rattle.std.proofs.Common.{ap, refl, rules, sym, arith}
-use Rattle.proofs.specs.{Binary.binary_steps, Code.Binary.binary_to_come, Code.Drat.drat_to_come}
-use Rattle.proofs.specs.Drat.{drat_steps}
-use Rattle.sat_check.proofs.CheckLemmas.{reports_as, reports_run, runs_nothing}
+use Rattle.std.proofs.Common.{ap, rules, sym, arith}
+use Rattle.proofs.specs.Code.{Binary.binary_to_come, Drat.drat_to_come}
+use Rattle.sat_check.proofs.CheckLemmas.{reports_run, runs_nothing}
 use Rattle.sat_check.{proofs.FormulaLemmas.unused, specs.Report.drat_proof, specs.Report.rules_of}
 use Rattle.{steps.specs.Session.view_of, theory.specs.Rules.drat, theory.specs.Rules.rule_of}
 use Rattle.sat_check.proofs.drat.check_with.Goals as goal
@@ -18,10 +17,9 @@ check-checked-requires-else-options-clause-unused g c = unused (drat (rules_of c
 
 pub returns-then-options : goal.returns-then-options
 returns-then-options g c = record {
-  report = reports_as (rule_of (view_of c.args.session.now).state) (drat (rules_of c.args.options)) c.args.options.trace binary_steps (drat_proof c.args.options.binary) _ _ _ _ c.check-checked.result c.args.lines.now c.check-checked.new.lines (ap (λ s. rule_of (view_of s).state) c.requires.fresh)
+  report = reports_run (rule_of (view_of c.args.session.now).state) c.args.options.trace binary_to_come (drat_proof c.args.options.binary) _ _ _ _ c.over.result _ _ c.check-checked.result c.args.lines.now c.check-checked.new.lines c.over.ensures (search rules)
       (λ j. ap (λ b. drat_proof b j) (sym c.if-options.true))
-      (reports_run (rule_of (view_of c.args.session.now).state) c.args.options.trace binary_to_come binary_steps _ _ _ _ c.over.result _ _ c.check-checked.result c.args.lines.now c.check-checked.new.lines c.over.ensures (search rules) (λ j. refl)
-      c.new-reader.result c.new-reader.ensures c.check-checked.ensures.report.0 c.check-checked.ensures.report.1);
+      _ (ap (λ s. rule_of (view_of s).state) c.requires.fresh) c.new-reader.result c.new-reader.ensures c.check-checked.ensures.report.0 c.check-checked.ensures.report.1;
   read_failed = search rules;
   write_failed = c.check-checked.ensures.write_failed;
   writer = c.check-checked.ensures.writer;
@@ -29,10 +27,9 @@ returns-then-options g c = record {
 
 pub returns-else-options : goal.returns-else-options
 returns-else-options g c = record {
-  report = reports_as (rule_of (view_of c.args.session.now).state) (drat (rules_of c.args.options)) c.args.options.trace drat_steps (drat_proof c.args.options.binary) _ _ _ _ c.check-checked-else-options.result c.args.lines.now c.check-checked-else-options.new.lines (ap (λ s. rule_of (view_of s).state) c.requires.fresh)
+  report = reports_run (rule_of (view_of c.args.session.now).state) c.args.options.trace drat_to_come (drat_proof c.args.options.binary) _ _ _ _ c.over-else-options.result _ _ c.check-checked-else-options.result c.args.lines.now c.check-checked-else-options.new.lines c.over-else-options.ensures (search rules)
       (λ j. ap (λ b. drat_proof b j) (sym c.if-options.false))
-      (reports_run (rule_of (view_of c.args.session.now).state) c.args.options.trace drat_to_come drat_steps _ _ _ _ c.over-else-options.result _ _ c.check-checked-else-options.result c.args.lines.now c.check-checked-else-options.new.lines c.over-else-options.ensures (search rules) (λ j. refl)
-      c.new-reader-else-options.result c.new-reader-else-options.ensures c.check-checked-else-options.ensures.report.0 c.check-checked-else-options.ensures.report.1);
+      _ (ap (λ s. rule_of (view_of s).state) c.requires.fresh) c.new-reader-else-options.result c.new-reader-else-options.ensures c.check-checked-else-options.ensures.report.0 c.check-checked-else-options.ensures.report.1;
   read_failed = search rules;
   write_failed = c.check-checked-else-options.ensures.write_failed;
   writer = c.check-checked-else-options.ensures.writer;

@@ -1,8 +1,7 @@
 -- The check without why it ended so, and what its report means for the bytes.
-use Rattle.sat_check.proofs.SoundLemmas.{drat_reported, weakened}
-use Rattle.sat_check.proofs.TheoremLemmas.{drat_read, shows_steps, shows_unsatisfiable}
+use Rattle.{sat_check.proofs.TheoremLemmas.drat_reported, theory.specs.Rules.drat}
+use Rattle.sat_check.proofs.TheoremLemmas.{drat_read, shows_steps, shows_unsatisfiable, weakened}
 use Rattle.sat_check.specs.{Report.drat_proof, Report.rules_of, Runs.IsDratProof}
-use Rattle.theory.specs.Rules.{drat}
 use Rattle.sat_check.proofs.drat.run_drat.Goals as goal
 
 pub returns-clause-runs : goal.returns-clause-runs

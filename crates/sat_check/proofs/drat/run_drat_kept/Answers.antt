@@ -1,7 +1,7 @@
 -- What the lines hold is what the writer holds: those of the check, or none where memory ran out.
 use Rattle.std.proofs.Common.{refl, rules}
-use Rattle.sat_check.proofs.{CheckLemmas.runs_nothing, SoundLemmas.drat_placed}
-use Rattle.sat_check.{proofs.SoundLemmas.runs_placed, specs.Report.drat_proof, specs.Report.rules_of}
+use Rattle.sat_check.proofs.{CheckLemmas.runs_nothing, TheoremLemmas.drat_placed}
+use Rattle.sat_check.{proofs.ReportLemmas.runs_placed, specs.Report.drat_proof, specs.Report.rules_of}
 use Rattle.sat_check.proofs.drat.run_drat_kept.Goals.{in-Some, in-None}
 use Rattle.theory.specs.Rules.{drat}
 use Rattle.sat_check.proofs.drat.run_drat_kept.Goals as goal

@@ -1,9 +1,8 @@
 -- What the lines hold is what the writer holds, without the place, and what that means for the bytes.
-use Rattle.std.proofs.Common.{rules}
-use Rattle.sat_check.specs.{Report.drat_proof, Report.rules_of, Runs.IsDratProof}
-use Rattle.sat_check.proofs.SoundLemmas.{drat_placed, drat_reported, runs_placed, weakened}
-use Rattle.sat_check.proofs.TheoremLemmas.{drat_read, shows_steps, shows_unsatisfiable}
-use Rattle.theory.specs.Rules.{drat}
+use Rattle.sat_check.proofs.{ReportLemmas.runs_placed, TheoremLemmas.shows_unsatisfiable}
+use Rattle.sat_check.proofs.TheoremLemmas.{drat_placed, drat_reported, shows_steps, weakened}
+use Rattle.sat_check.{proofs.TheoremLemmas.drat_read, specs.Report.rules_of, specs.Runs.IsDratProof}
+use Rattle.{sat_check.specs.Report.drat_proof, std.proofs.Common.rules, theory.specs.Rules.drat}
 use Rattle.sat_check.proofs.drat.run_drat_with.Goals as goal
 
 pub returns-clause-runs : goal.returns-clause-runs

@@ -1,9 +1,8 @@
 -- A clause is met, it is the first that isn't, none is left, or there is a fault.
-use Rattle.std.proofs.Common.{arith, rules}
+use Rattle.sat_check.proofs.{FormulaLemmas.clause_told, ModelLemmas.Judging-clause}
+use Rattle.sat_check.proofs.ModelLemmas.{Judging-done, Judging-fault, Judging-start, Judging-unmet}
+use Rattle.{sat_check.specs.ModelReport.meets, std.proofs.Common.arith, std.proofs.Common.false}
 use Rattle.std.{proofs.Common.rules, proofs.Common.true, proofs.Common.◌≡◌, specs.Prelude.Ok}
-use Rattle.sat_check.proofs.ModelLemmas.{Judging-clause, Judging-done, Judging-fault, Judging-start}
-use Rattle.sat_check.proofs.{ModelLemmas.Judging-unmet, FormulaLemmas.clause_told}
-use Rattle.{sat_check.specs.ModelReport.meets, std.proofs.Common.false}
 use Rattle.sat_check.proofs.judge.judge_clauses.Goals as goal
 
 pub loop-clause-init : goal.loop-clause-init

@@ -1,8 +1,6 @@
 -- The check without why it ended so, and what its report means for the bytes.
-use Rattle.proofs.specs.{Grammar.IsLratText, Lrat.lrat_steps}
-use Rattle.sat_check.proofs.SoundLemmas.{weakened}
-use Rattle.sat_check.proofs.TheoremLemmas.{lrat_read, shows_steps, shows_unsatisfiable}
-use Rattle.theory.specs.Rules.{lrat}
+use Rattle.sat_check.proofs.TheoremLemmas.{lrat_read, shows_steps, shows_unsatisfiable, weakened}
+use Rattle.{proofs.specs.Grammar.IsLratText, proofs.specs.Lrat.lrat_steps, theory.specs.Rules.lrat}
 use Rattle.sat_check.proofs.lrat.run_lrat.Goals as goal
 
 pub returns-clause-runs : goal.returns-clause-runs

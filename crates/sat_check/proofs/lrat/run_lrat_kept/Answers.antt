@@ -1,9 +1,8 @@
 -- What the lines hold is what the writer holds: those of the check, or none where memory ran out.
-use Rattle.std.proofs.Common.{refl, rules}
-use Rattle.proofs.specs.Lrat.{lrat_steps}
-use Rattle.theory.specs.Rules.{lrat}
-use Rattle.sat_check.proofs.{CheckLemmas.runs_nothing, SoundLemmas.runs_placed}
-use Rattle.sat_check.proofs.lrat.run_lrat_kept.Goals.{in-Some, in-None}
+use Rattle.{proofs.specs.Lrat.lrat_steps, sat_check.proofs.CheckLemmas.runs_nothing}
+use Rattle.sat_check.proofs.{ReportLemmas.runs_placed, lrat.run_lrat_kept.Goals.in-None}
+use Rattle.{sat_check.proofs.lrat.run_lrat_kept.Goals.in-Some, std.proofs.Common.refl}
+use Rattle.{std.proofs.Common.rules, theory.specs.Rules.lrat}
 use Rattle.sat_check.proofs.lrat.run_lrat_kept.Goals as goal
 
 pub returns : goal.returns

@@ -1,9 +1,8 @@
 -- The formula was judged, or it has a fault.
-use Rattle.std.proofs.Common.{arith, None, ap, rules, subst, sym, ◌∙◌}
-use Rattle.dimacs.specs.Formula.{formula_of}
-use Rattle.sat_check.proofs.{CheckLemmas.TellsFault-none}
+use Rattle.{dimacs.specs.Formula.formula_of, sat_check.proofs.CheckLemmas.TellsFault-none}
 use Rattle.sat_check.proofs.ModelLemmas.{formula_fault, formula_tells, judged_as, judged_unmet}
 use Rattle.sat_check.specs.{Report.Outcome, Report.Report, declared.checked.Checked.Checked}
+use Rattle.std.proofs.Common.{None, ap, arith, rules, subst, sym, ◌∙◌}
 use Rattle.sat_check.proofs.model.check_formula.Goals as goal
 
 pub returns-in-Ok-clause-report : goal.returns-in-Ok-clause-report

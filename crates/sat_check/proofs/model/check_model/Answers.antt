@@ -1,11 +1,10 @@
 -- The formula is checked, or the output has a fault.
-use Rattle.std.proofs.Common.{arith, ◌∙◌, sym, codes}
-use Rattle.cnf_base.proofs.SeenLemmas.{Seen-nothing}
-use Rattle.dimacs.specs.{Claim.claim_of, Formula.formula_of}
-use Rattle.sat_check.specs.Report.{Report, Outcome}
-use Rattle.sat_check.proofs.ModelLemmas.{claimed_report, claimed_consistent, formula_left}
-use Rattle.sat_check.proofs.ModelLemmas.{formula_needed, output_fault, fault_unverified}
-use Rattle.sat_check.proofs.ModelLemmas.{claimed_tells, output_tells}
+use Rattle.{cnf_base.proofs.SeenLemmas.Seen-nothing, dimacs.specs.Claim.claim_of}
+use Rattle.{dimacs.specs.Formula.formula_of, sat_check.proofs.ModelLemmas.claimed_consistent}
+use Rattle.sat_check.proofs.ModelLemmas.{claimed_report, claimed_tells, fault_unverified}
+use Rattle.sat_check.proofs.ModelLemmas.{formula_left, formula_needed, output_fault, output_tells}
+use Rattle.{sat_check.specs.Report.Outcome, sat_check.specs.Report.Report, std.proofs.Common.arith}
+use Rattle.std.proofs.Common.{codes, sym, ◌∙◌}
 use Rattle.sat_check.proofs.model.check_model.Goals as goal
 
 pub returns-in-Ok-clause-report : goal.returns-in-Ok-clause-report

@@ -1,5 +1,5 @@
 -- The placed check, without what is wrong with an input.
-use Rattle.sat_check.proofs.SoundLemmas.{weakened}
+use Rattle.sat_check.proofs.TheoremLemmas.{weakened}
 use Rattle.sat_check.proofs.model.run_model.Goals as goal
 
 pub returns-clause-runs : goal.returns-clause-runs

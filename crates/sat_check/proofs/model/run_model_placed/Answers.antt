@@ -1,8 +1,7 @@
 -- What the lines hold is what the writer holds, and what that means for the bytes.
-use Rattle.std.proofs.Common.{rules}
 use Rattle.dimacs.specs.{Claim.claim_of, Formula.formula_of}
-use Rattle.sat_check.specs.ModelReport.{TellsModelFault}
 use Rattle.sat_check.proofs.{ModelLemmas.both_check_model, TheoremLemmas.lines_satisfied}
+use Rattle.{sat_check.specs.ModelReport.TellsModelFault, std.proofs.Common.rules}
 use Rattle.sat_check.proofs.model.run_model_placed.Goals as goal
 
 pub returns-clause-runs : goal.returns-clause-runs

@@ -1,9 +1,7 @@
 -- The options are those that the words ask for.
-use Rattle.std.proofs.Common.{arith}
-use Rattle.sat_check.proofs.SoundLemmas.{drat_reported}
-use Rattle.sat_check.proofs.TheoremLemmas.{drat_read, shows_steps, shows_unsatisfiable}
-use Rattle.sat_check.specs.{Report.drat_proof, Report.rules_of, Runs.IsDratProof}
-use Rattle.theory.specs.Rules.{drat}
+use Rattle.{sat_check.specs.Report.drat_proof, std.proofs.Common.arith, theory.specs.Rules.drat}
+use Rattle.sat_check.proofs.TheoremLemmas.{drat_reported, shows_steps, shows_unsatisfiable}
+use Rattle.sat_check.{proofs.TheoremLemmas.drat_read, specs.Report.rules_of, specs.Runs.IsDratProof}
 use Rattle.sat_check.proofs.tools.drat_forward.Goals as goal
 
 pub returns-clause-runs : goal.returns-clause-runs

@@ -1,7 +1,6 @@
 -- The options are those that the words ask for.
-use Rattle.proofs.specs.{Grammar.IsLratText, Lrat.lrat_steps}
-use Rattle.theory.specs.Rules.{lrat}
-use Rattle.sat_check.proofs.TheoremLemmas.{shows_unsatisfiable, shows_steps, lrat_read}
+use Rattle.sat_check.proofs.TheoremLemmas.{lrat_read, shows_steps, shows_unsatisfiable}
+use Rattle.{proofs.specs.Grammar.IsLratText, proofs.specs.Lrat.lrat_steps, theory.specs.Rules.lrat}
 use Rattle.sat_check.proofs.tools.lrat_check.Goals as goal
 
 pub returns-clause-runs : goal.returns-clause-runs

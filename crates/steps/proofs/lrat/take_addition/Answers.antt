@@ -3,7 +3,7 @@ use Rattle.std.specs.FinMap as maps
 use Rattle.cnf_base.specs.Literals.{complements}
 use Rattle.theory.specs.Answers.{StepAnswer, UnlessOutOfMemory}
 use Rattle.theory.specs.Lrat.{AnswersChain, chain, groups_of, units_of}
-use Rattle.steps.proofs.LratLemmas.{Ending.chain_never, Rooms.ready_with}
+use Rattle.steps.proofs.LratLemmas.{chain_never, ready_with}
 use Rattle.steps.proofs.lrat.take_addition.Goals as goal
 
 pub returns-clause-ready : goal.returns-clause-ready

@@ -1,5 +1,5 @@
-use Rattle.std.proofs.Common.{arith}
-use Rattle.steps.proofs.NamingLemmas.Steps.{inputs, on_ok}
+use Rattle.{std.proofs.Common.arith, steps.proofs.LratLemmas.on_ok}
+use Rattle.steps.proofs.NamingLemmas.{inputs}
 use Rattle.steps.proofs.named.input_numbered.Goals as goal
 
 pub returns-clause-given : goal.returns-clause-given

@@ -1,10 +1,9 @@
-use Rattle.std.proofs.Common.{◌⊎◌, ◌↔◌, IfOk, IsTrue, sym, ◌∙◌, subst, arith}
-use Rattle.theory.specs.{Answers.UnlessOutOfMemory, Losses.StepLoses}
-use Rattle.theory.specs.Rules.{Answers, Same, after}
-use Rattle.steps.specs.Code.Naming.{answer_with, named_state, with_lits}
-use Rattle.steps.specs.{Session.state_of}
-use Rattle.steps.proofs.NamingLemmas.Steps.{Steps, steps, lost_named}
-use Rattle.steps.proofs.named.step_numbered.Given.{Over}
+use Rattle.std.proofs.Common.{IfOk, IsTrue, arith, subst, sym, ◌↔◌, ◌∙◌, ◌⊎◌}
+use Rattle.steps.proofs.NamingLemmas.{Steps, lost_named, steps}
+use Rattle.steps.{proofs.named.step_numbered.Given.Over, specs.Code.Naming.answer_with}
+use Rattle.steps.specs.{Code.Naming.named_state, Code.Naming.with_lits, Session.state_of}
+use Rattle.theory.specs.{Answers.UnlessOutOfMemory, Losses.StepLoses, Rules.Answers, Rules.Same}
+use Rattle.theory.specs.Rules.{after}
 use Rattle.steps.proofs.named.step_numbered.Goals as goal
 
 module _ (g : Over) (c : goal.After-with_pivot g) where

@@ -1,14 +1,11 @@
-use Rattle.std.proofs.Common.{arith, sym, ◌∙◌, subst}
-use Rattle.std.proofs.lemmas.{Grind.get_or_default_zero, Option.same_Some}
-use Rattle.root_literals.{specs.Roots.IsBrought, proofs.RootLemmas.Order.alive_clause}
-use Rattle.watch.proofs.WatchLemmas.Arrange.{arranged_more, arranged_nothing, arranged_one}
-use Rattle.watch.proofs.WatchLemmas.Arrange.{one_inside}
+use Rattle.watch.proofs.WatchLemmas.Moves.{arranged_more, arranged_nothing, arranged_one}
+use Rattle.{std.proofs.lemmas.Grind.get_or_default_zero, watch.proofs.WatchLemmas.Moves.one_inside}
+use Rattle.std.proofs.{Common.arith, Common.subst, Common.◌∙◌, lemmas.Option.same_Some}
+use Rattle.root_literals.{proofs.RootLemmas.Reasons.alive_clause, specs.Roots.IsBrought}
 use Rattle.watch.proofs.arrange.put_non_false_first.Goals as goal
 
 pub returns-then-not-bring-clause-arranged : goal.returns-then-not-bring-clause-arranged
-returns-then-not-bring-clause-arranged c clause there =
-    let d = c.bring.ensures.brought clause there in
-    grind (arith, arranged_nothing)
+returns-then-not-bring-clause-arranged c clause there = grind (arith, arranged_nothing)
 
 pub returns-then-is_more-clause-arranged : goal.returns-then-is_more-clause-arranged
 returns-then-is_more-clause-arranged c clause there =
@@ -18,14 +15,10 @@ returns-then-is_more-clause-arranged c clause there =
     (e.0, e.1, λ l. e.2.alike l ∙ d.2.alike l, arranged_more trues clause d.0 e.0 (subst (IsBrought trues clause d.0 0) c.if-not-bring.false d.2) (subst (IsBrought trues d.0 e.0 1) c.if-is_more.true e.2))
 
 pub bounds-clause-0 : goal.bounds-clause-0
-bounds-clause-0 c =
-    let trues = c.args.trail.now.lits in
-    grind (arith, alive_clause, same_Some, one_inside)
+bounds-clause-0 c = grind (arith, alive_clause, same_Some, one_inside)
 
 pub returns-else-is_more-clause-arranged : goal.returns-else-is_more-clause-arranged
-returns-else-is_more-clause-arranged c clause there =
-    let trues = c.args.trail.now.lits in
+returns-else-is_more-clause-arranged c clause there = let trues = c.args.trail.now.lits in
     let d = c.bring.ensures.brought clause there in
     let e = c.bring-is_more.ensures.brought d.0 d.1 in
-    let same = same_Some e.0 c.clause-else-is_more.result.now (sym e.1 ∙ sym c.clause-else-is_more.ensures.clause) in
     (e.0, e.1, λ l. e.2.alike l ∙ d.2.alike l, arranged_one trues clause d.0 e.0 (grind arith) (grind arith) c.index-clause-0.result (grind (arith, get_or_default_zero, one_inside)))

@@ -1,24 +1,19 @@
-use Rattle.std.proofs.Common.{arith, [], cond, eq-eqb, refl, ap, ◌∙◌}
-use Rattle.std.specs.FinMap as maps
+use Rattle.std.proofs.Common.{[], ap, arith, cond, eq-eqb, refl, ◌∙◌}
+use Rattle.watch.proofs.WatchLemmas.Visits.{followed_none, hand_taken, listed_alike, none_met}
 use Rattle.watch_lists.specs.Lists.{list_at}
-use Rattle.watch.{specs.Code.Visits.with_list, proofs.WatchLemmas.Visited.followed_none}
-use Rattle.watch.proofs.WatchLemmas.Follow.{none_met, hand_taken, listed_alike}
+use Rattle.std.specs.FinMap as maps
 use Rattle.watch.proofs.follow.follow.Goals as goal
 
 pub visit_all-found-requires : goal.visit_all-found-requires
-visit_all-found-requires c =
-    let l = c.args.l in
-    let lists = list_at c.args.lists.now in
-    let taken = c.take_out.new.self in
-    let list = c.take_out.result.items in
-    let e = c.take_out.ensures in
-    record {
+visit_all-found-requires c = let l = c.args.l in let lists = list_at c.args.lists.now in
+    let taken = c.take_out.new.self in let list = c.take_out.result.items in
+    let e = c.take_out.ensures in record {
       front = c.over-cursor.ensures.visited;
       can = simp c.over-cursor.ensures.entries (record {
         hand = record {
           known = e.known l ∙ c.has_list.ensures.yes c.if-not-has_list.false;
           taken = e.others l ∙ ap (λ b. cond b [] (lists l)) (eq-eqb l l refl);
-          listed = listed_alike (maps.get c.args.store.now.live) lists (with_list taken l list) (hand_taken lists (list_at taken) l list e.list e.others) c.requires.can.listed;
+          listed = listed_alike _ _ _ (hand_taken _ _ _ _ e.list e.others) c.requires.can.listed;
         };
         is_false = c.requires.is_false;
         can_set = c.requires.can.can_set;
@@ -27,12 +22,11 @@ visit_all-found-requires c =
 
 pub returns-then-not-has_list-clause-met : goal.returns-then-not-has_list-clause-met
 returns-then-not-has_list-clause-met c =
-    none_met (maps.get c.args.store.now.live) (list_at c.args.lists.now) c.args.l (c.has_list.ensures.no c.if-not-has_list.true) c.requires.can.listed c.args.assumptions.now.trail.lits
+    none_met _ _ _ (c.has_list.ensures.no c.if-not-has_list.true) c.requires.can.listed c.args.assumptions.now.trail.lits
 
 pub returns-then-not-has_list-clause-followed : goal.returns-then-not-has_list-clause-followed
 returns-then-not-has_list-clause-followed c = followed_none c.requires.can
 
 pub returns-clause-followed : goal.returns-clause-followed
-returns-clause-followed c =
-    let visited = c.visit_all-found.ensures.visited in
+returns-clause-followed c = let visited = c.visit_all-found.ensures.visited in
     grind (arith, listed_alike)

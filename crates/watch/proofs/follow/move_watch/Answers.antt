@@ -1,20 +1,18 @@
-use Rattle.std.proofs.Common.{◌+◌, ◌++◌, ◌∷◌, [], cond, eqb, false, ne_eqb, refl, ap, ◌∙◌}
-use Rattle.std.{proofs.Common.length, proofs.Common.arith, specs.List.remove, specs.List.swap}
-use Rattle.std.proofs.lemmas.List.Edits.{length-remove, length-swap}
-use Rattle.std.specs.FinMap as maps
-use Rattle.clause_db.proofs.StoreLemmas.Swap.{has_swapped}
-use Rattle.cnf_base.{proofs.MapLemmas.insert_other, specs.Literals.Literal}
-use Rattle.watch_lists.specs.{Lists.list_at, declared.watcher.Watcher.Watcher}
+use Rattle.{std.proofs.lemmas.List.Edits.length-swap, watch.specs.Code.Visits.IsInHand}
+use Rattle.{root_literals.proofs.RootLemmas.Carried.propagates_on, std.proofs.Common.arith}
+use Rattle.{cnf_base.specs.Literals.Literal, watch_lists.specs.declared.watcher.Watcher.Watcher}
+use Rattle.std.proofs.Common.{[], ap, cond, eqb, false, length, ne_eqb, swap, ◌++◌, ◌+◌, ◌∷◌}
+use Rattle.std.proofs.{Common.refl, Common.remove, Common.◌∙◌, lemmas.List.Edits.length-remove}
+use Rattle.{watch.specs.Code.Visits.with_list, watch_lists.specs.Lists.list_at}
+use Rattle.watch.proofs.WatchLemmas.Moves.{moved, propagates_moved, second_inside, turned_at}
+use Rattle.watch.proofs.WatchLemmas.Moves.{entries_moved, listed_moved, to_inside, turned_live}
+use Rattle.watch.proofs.WatchLemmas.Moves.{exchanged_back, turned_clause, turned_propagates}
+use Rattle.{clause_db.proofs.StoreLemmas.Swap.has_swapped, cnf_base.proofs.MapLemmas.insert_other}
+use Rattle.watch.proofs.WatchLemmas.{Moves.turned_listed, Visits.longer_fits, Visits.same_cursor}
+use Rattle.watch.proofs.WatchLemmas.Moves.{exchange_member, exchanged, moved_there, unfit_moved}
 use Rattle.watch_lists.proofs.WatchListsLemmas.Lists.{entries_removed, unfit_removed}
-use Rattle.watch.specs.Code.Visits.{IsInHand, with_list}
-use Rattle.watch.proofs.WatchLemmas.{Follow.same_cursor, Follow.listed_alike, Visits.longer_fits}
-use Rattle.watch.proofs.WatchLemmas.Moves.{entries_moved, exchanged_back, listed_moved}
-use Rattle.watch.proofs.WatchLemmas.Moves.{places_apart, times_moved, unfit_moved}
-use Rattle.watch.proofs.WatchLemmas.Reordered.{exchange_member, second_inside, to_inside}
-use Rattle.watch.proofs.WatchLemmas.Reordered.{exchanged, moved, moved_there, propagates_moved}
-use Rattle.watch.proofs.WatchLemmas.Reordered.{turned_at, turned_clause, turned_listed, turned_live}
-use Rattle.watch.proofs.WatchLemmas.Reordered.{turned_propagates}
-use Rattle.root_literals.proofs.RootLemmas.Propagated.{propagates_on}
+use Rattle.watch.proofs.WatchLemmas.{Moves.places_apart, Moves.times_moved, Visits.listed_alike}
+use Rattle.std.specs.FinMap as maps
 use Rattle.watch.proofs.follow.move_watch.Goals as goal
 
 pub rewatch-requires : goal.rewatch-requires
@@ -26,7 +24,7 @@ rewatch-requires c =
 pub swap-requires : goal.swap-requires
 swap-requires c =
     let was = c.requires.exchange in
-    (exchanged was, moved_there was c.rewatch.new.self.live c.at-at.result c.at-at.ensures c.rewatch.ensures.live, to_inside was, second_inside was)
+    (exchanged was, moved_there was _ _ c.at-at.ensures c.rewatch.ensures.live, to_inside was, second_inside was)
 
 pub returns-in-Ok : goal.returns-in-Ok
 returns-in-Ok c =

@@ -1,9 +1,7 @@
-use Rattle.std.proofs.Common.{refl, sym, ap, ◌∙◌, arith}
-use Rattle.std.proofs.lemmas.{Bool.and_parts, Option.same_Some}
-use Rattle.cnf_base.specs.Literals.{has}
-use Rattle.watch.proofs.WatchLemmas.Follow.{kept_fewer, kept_met, put_same}
-use Rattle.watch.proofs.WatchLemmas.Visited.{next_entry}
-use Rattle.watch_lists.proofs.WatchListsLemmas.Lists.{entry_at}
+use Rattle.{std.proofs.lemmas.Option.same_Some, watch_lists.proofs.WatchListsLemmas.Lists.entry_at}
+use Rattle.{cnf_base.specs.Literals.has, std.proofs.Common.arith, std.proofs.Common.sym}
+use Rattle.watch.proofs.WatchLemmas.Visits.{kept_fewer, kept_met, next_entry, put_same}
+use Rattle.std.proofs.{Common.ap, Common.refl, Common.◌∙◌, lemmas.Bool.and_parts}
 use Rattle.watch.proofs.follow.next_unblocked.Goals as goal
 
 pub loop-entry-preserved : goal.loop-entry-preserved

@@ -1,4 +1,4 @@
-use Rattle.std.{proofs.Common.◌≡◌, proofs.Common.◌≤◌, specs.FinMap.FinMap, specs.Ordering.nat_cmp}
+use Rattle.std.{proofs.Common.◌≡◌, proofs.Common.◌≤◌, specs.FinMap.FinMap, proofs.Common.nat_cmp}
 use Rattle.cnf_base.specs.Literals.{Clause, Literal}
 use Rattle.watch.specs.Code.Visits.{AreMet, IsInHand, entries_left}
 use Rattle.watch_lists.specs.declared.lists.WatchLists.{WatchLists}

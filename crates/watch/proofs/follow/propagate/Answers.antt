@@ -1,18 +1,15 @@
-use Rattle.std.proofs.Common.{◌<◌, length, refl, ap, ◌∙◌, arith}
-use Rattle.tables.specs.Filled.{at}
-use Rattle.trail.proofs.TrailLemmas.MakesFalse.{no_conflict}
-use Rattle.root_literals.proofs.RootLemmas.Grown.{visited_more}
-use Rattle.watch.proofs.WatchLemmas.Visited.{can_follow_on, false_at, fits_on, followed_none}
-use Rattle.watch.proofs.WatchLemmas.Visited.{followed_on, read_at}
+use Rattle.{root_literals.proofs.RootLemmas.Carried.visited_more, std.proofs.Common.ap}
+use Rattle.std.proofs.Common.{arith, length, refl, ◌<◌, ◌∙◌}
+use Rattle.{tables.specs.Filled.at, trail.proofs.TrailLemmas.MakesFalse.no_conflict}
+use Rattle.watch.proofs.WatchLemmas.Visits.{can_follow_on}
+use Rattle.watch.proofs.WatchLemmas.Visits.{false_at, fits_on, followed_none, followed_on, read_at}
 use Rattle.watch.proofs.follow.propagate.Goals as goal
 
 pub follow-requires-clause-is_false : goal.follow-requires-clause-is_false
-follow-requires-clause-is_false c =
-    let inside : c.loop-done.done < length c.loop-done.assumptions.trail.lits = grind arith in
-    grind (arith, false_at)
+follow-requires-clause-is_false c = grind (arith, false_at)
 
 pub follow-requires-clause-can : goal.follow-requires-clause-can
-follow-requires-clause-can c = can_follow_on c.requires.can c.loop-done.invariant.followed
+follow-requires-clause-can c = grind (arith, can_follow_on)
 
 pub loop-done-init : goal.loop-done-init
 loop-done-init c = record { inside = c.requires.from; watched = c.requires.watched; followed = followed_none c.requires.can; slots = refl }
@@ -29,13 +26,9 @@ loop-done-smaller c =
     grind arith
 
 pub loop-done-preserved : goal.loop-done-preserved
-loop-done-preserved c =
-    let before = c.loop-done in
-    let so_far = before.invariant in
-    let trues = before.assumptions.trail.lits in
-    let after = c.follow.new.assumptions.trail.lits in
-    let e = c.in_ok-slot.ensures in
-    let step = e.followed.propagates in
+loop-done-preserved c = let before = c.loop-done in let so_far = before.invariant in
+    let trues = before.assumptions.trail.lits in let after = c.follow.new.assumptions.trail.lits in
+    let e = c.in_ok-slot.ensures in let step = e.followed.propagates in
     let shown = c.lits.ensures.value ∙ ap (λ t. t.lits) c.trail-in-loop-done.ensures in
     let inside : c.loop-done.done < length c.loop-done.assumptions.trail.lits = let low = c.loop-done-test.true in let n = c.len.ensures.value ∙ ap (λ t. length t.lits) c.trail.ensures in omega arith in
     let read = read_at trues inside shown c.index-lits-done.is in

@@ -1,8 +1,7 @@
-use Rattle.std.proofs.Common.{◌≡◌, ◌-◌, ◌≤◌, length, take}
+use Rattle.{root_literals.specs.Watched.IsWatched, std.proofs.Common.length, std.proofs.Common.take}
+use Rattle.std.proofs.Common.{◌-◌, ◌≡◌}
+use Rattle.{std.proofs.Common.◌≤◌, tables.specs.Filled.at, watch.specs.Code.Visits.Followed}
 use Rattle.std.specs.FinMap as maps
-use Rattle.tables.specs.Filled.{at}
-use Rattle.root_literals.specs.Watched.{IsWatched}
-use Rattle.watch.specs.Code.Visits.{Followed}
 use Rattle.watch.proofs.follow.propagate.Given as goal
 
 abbrev pub invariant-loop-done : goal.invariant-loop-done

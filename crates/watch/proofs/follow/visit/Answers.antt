@@ -1,23 +1,19 @@
-use Rattle.std.proofs.Common.{arith, set, length, refl, sym, ap, ◌∙◌, ◌+◌}
-use Rattle.std.proofs.lemmas.{List.length-set, Option.same_Some}
-use Rattle.std.specs.FinMap as maps
-use Rattle.cnf_base.specs.Literals.{has}
-use Rattle.watch_lists.specs.Lists.{entries_in, fits, list_at}
-use Rattle.watch_lists.specs.declared.watcher.Watcher.{Watcher}
-use Rattle.watch_lists.proofs.WatchListsLemmas.Watched.{watched_apart}
+use Rattle.{cnf_base.specs.Literals.has, root_literals.proofs.RootLemmas.Carried.propagates_none}
+use Rattle.std.proofs.Common.{ap, arith, length, length-set, refl, set, sym, ◌+◌, ◌∙◌}
+use Rattle.{std.proofs.lemmas.Option.same_Some, watch.proofs.WatchLemmas.Moves.listed_written}
+use Rattle.watch.proofs.WatchLemmas.Visits.{found_at, front_apart, kept_fewer, kept_fits, kept_met}
+use Rattle.watch.proofs.WatchLemmas.Visits.{next_entry, taken_fewer, taken_met, visited_none}
 use Rattle.watch_lists.proofs.WatchListsLemmas.Lists.{entry_at, slot_is}
-use Rattle.watch.proofs.WatchLemmas.{Visits.kept_fits, Follow.front_apart, Moves.listed_written}
-use Rattle.watch.proofs.WatchLemmas.Follow.{kept_fewer, kept_met, taken_fewer, taken_met}
-use Rattle.watch.proofs.WatchLemmas.Visited.{found_at, next_entry, visited_none}
-use Rattle.root_literals.proofs.RootLemmas.Propagated.{propagates_none}
+use Rattle.watch_lists.{proofs.WatchListsLemmas.Watched.watched_apart, specs.Lists.entries_in}
+use Rattle.watch_lists.specs.{Lists.fits, Lists.list_at, declared.watcher.Watcher.Watcher}
+use Rattle.std.specs.FinMap as maps
 use Rattle.watch.proofs.follow.visit.Goals as goal
 
 pub look_at-requires-clause-entry : goal.look_at-requires-clause-entry
 look_at-requires-clause-entry g c = next_entry c.args.cursor.now c.args.entry c.requires.next c.requires.can.hand
 
 pub move_watch-requires-clause-next : goal.move_watch-requires-clause-next
-move_watch-requires-clause-next g c =
-    let cursor = c.args.cursor.now in
+move_watch-requires-clause-next g c = let cursor = c.args.cursor.now in
     let e = entry_at cursor.entries cursor.visited c.args.entry c.requires.next in
     grind (arith, slot_is)
 
@@ -37,30 +33,22 @@ returns-in_err-move_watch-in-Moves-clause-visited g c held reason_of same =
     c.move_watch.ensures.visited held reason_of (grind arith)
 
 pub returns-in_ok-move_watch-in-Moves-clause-met : goal.returns-in_ok-move_watch-in-Moves-clause-met
-returns-in_ok-move_watch-in-Moves-clause-met g c =
-    let cursor = c.args.cursor.now in
-    let live = c.args.store.now.live in
-    let e = entry_at cursor.entries cursor.visited c.args.entry c.requires.next in
-    let trues = (g.A.Assignment.trail_of c.args.assignment.now).lits in
-    taken_met live c.move_watch.new.store.live c.args.l trues trues (λ l h. h) cursor c.move_watch.new.cursor c.slot.result e.0 c.requires.can.met c.move_watch.ensures.others
+returns-in_ok-move_watch-in-Moves-clause-met g c = let e = entry_at _ _ _ c.requires.next in
+    taken_met _ _ _ _ _ (λ l h. h) _ _ _ e.0 c.requires.can.met c.move_watch.ensures.others
     c.in_ok-move_watch-in-Moves.ensures.taken
-    (λ s there same. front_apart (maps.get live) (list_at c.args.lists.now) c.args.l cursor.entries c.requires.can.hand.listed cursor.visited s c.args.entry e.0 there (same ∙ c.slot.ensures.value ∙ ap (λ x. x.slot) e.1))
+    (λ s there same. front_apart _ _ _ _ c.requires.can.hand.listed _ _ _ e.0 there (same ∙ c.slot.ensures.value ∙ ap (λ x. x.slot) e.1))
 
 pub returns-in_ok-move_watch-in-Moves-clause-fewer : goal.returns-in_ok-move_watch-in-Moves-clause-fewer
-returns-in_ok-move_watch-in-Moves-clause-fewer g c =
-    let cursor = c.args.cursor.now in
+returns-in_ok-move_watch-in-Moves-clause-fewer g c = let cursor = c.args.cursor.now in
     let e = entry_at cursor.entries cursor.visited c.args.entry c.requires.next in
     grind (arith, taken_fewer)
 
 pub keep-requires : goal.keep-requires
-keep-requires g c = let cursor = c.args.cursor.now in (entry_at cursor.entries cursor.visited c.args.entry c.requires.next).0
+keep-requires g c = (entry_at _ _ _ c.requires.next).0
 
 pub returns-in-Stays : goal.returns-in-Stays
-returns-in-Stays g c =
-    let live = maps.get c.args.store.now.live in
-    let cursor = c.args.cursor.now in
-    let list = cursor.entries in
-    let e = c.args.entry in
+returns-in-Stays g c = let live = maps.get c.args.store.now.live in
+    let cursor = c.args.cursor.now in let list = cursor.entries in let e = c.args.entry in
     let r = entry_at list cursor.visited e c.requires.next in
     let w = next_entry cursor e c.requires.next c.requires.can.hand in
     let other = c.in-Stays.blocking in
@@ -90,10 +78,10 @@ returns-in-Stays g c =
     }
 
 pub returns-in-Unit-clause-visited : goal.returns-in-Unit-clause-visited
-returns-in-Unit-clause-visited g c held reason_of _ = visited_none held reason_of c.requires.can.hand
+returns-in-Unit-clause-visited g c held reason_of _ = visited_none _ _ c.requires.can.hand
 
 pub returns-in-Clash-clause-visited : goal.returns-in-Clash-clause-visited
-returns-in-Clash-clause-visited g c held reason_of _ = visited_none held reason_of c.requires.can.hand
+returns-in-Clash-clause-visited g c held reason_of _ = visited_none _ _ c.requires.can.hand
 
 pub returns-in-Unit-clause-found : goal.returns-in-Unit-clause-found
 returns-in-Unit-clause-found g c = found_at c.requires.next c.requires.can.hand c.in-Unit.ensures.visit

@@ -1,29 +1,24 @@
-use Rattle.std.proofs.Common.{◌&&◌, cond, eqb, Some, length, refl, sym, ap, ◌∙◌, ◌+◌, arith}
-use Rattle.std.proofs.lemmas.Option.{same_Some}
+use Rattle.watch.proofs.WatchLemmas.Visits.{all_met, in_list, kept_fewer, kept_met, none_before}
+use Rattle.root_literals.proofs.RootLemmas.Carried.{clashes, propagates_unit}
+use Rattle.std.proofs.Common.{Some, ap, arith, cond, eqb, length, refl, sym, ◌&&◌, ◌+◌, ◌∙◌}
+use Rattle.watch.proofs.WatchLemmas.Visits.{can_visit_on, made_true, visited_on}
+use Rattle.{std.proofs.lemmas.Option.same_Some, watch_lists.proofs.WatchListsLemmas.Lists.entry_at}
+use Rattle.watch.proofs.WatchLemmas.Visits.{found_next, put_same, room_found, visited_none}
+use Rattle.{trail.proofs.TrailLemmas.Longer.has_begun, watch_lists.specs.Lists.entries_in}
+use Rattle.{cnf_base.specs.Literals.has, tables.specs.Filled.at}
 use Rattle.std.specs.FinMap as maps
-use Rattle.tables.specs.Filled.{at}
-use Rattle.cnf_base.specs.Literals.{has}
-use Rattle.watch_lists.specs.Lists.{entries_in, list_at}
-use Rattle.watch_lists.proofs.WatchListsLemmas.Lists.{entry_at}
-use Rattle.watch.proofs.WatchLemmas.Follow.{kept_fewer, kept_met, put_same, all_met, in_list}
-use Rattle.watch.proofs.WatchLemmas.{Follow.none_before, Visited.visited_on, Visits.made_true}
-use Rattle.watch.proofs.WatchLemmas.Visited.{can_visit_on, found_next, room_found, visited_none}
-use Rattle.root_literals.proofs.RootLemmas.Propagated.{clashes, propagates_unit}
-use Rattle.trail.proofs.TrailLemmas.Longer.{has_begun}
 use Rattle.watch.proofs.follow.visit_all.Goals as goal
 
 pub loop-at-init : goal.loop-at-init
 loop-at-init c = record {
-  visited = visited_none c.args.assumptions.now (at c.args.reasons.now) c.requires.can.hand;
+  visited = visited_none _ _ c.requires.can.hand;
   met = grind (arith, none_before);
   slots = refl;
 }
 
 pub next_found-requires : goal.next_found-requires
-next_found-requires c =
-    let visited = c.loop-at.invariant.visited in
-    let can = can_visit_on c.requires.can visited in
-    grind arith
+next_found-requires c = let visited = c.loop-at.invariant.visited in
+    let can = can_visit_on c.requires.can visited in grind arith
 
 pub returns-in_err-at-clause-visited : goal.returns-in_err-at-clause-visited
 returns-in_err-at-clause-visited c = visited_on c.loop-at.invariant.visited (grind arith)
@@ -46,27 +41,19 @@ keep-requires c =
 
 pub loop-at-smaller : goal.loop-at-smaller
 loop-at-smaller c =
-    let cursor = c.next_found.new.cursor in
     let f = found_next c.in_ok-at.ensures.found c.in-Some.is refl (ap (λ t. t.lits) c.trail.ensures) in
-    let inside = (entry_at cursor.entries cursor.visited _ f.next).0 in
-    let fewer = kept_fewer cursor c.keep.new.self inside _ c.keep.ensures.entries c.keep.ensures.visited in
-    let no_more = c.in_ok-at.ensures.no_more in
-    omega (arith, fewer, no_more)
+    let inside = (entry_at _ _ _ f.next).0 in
+    let fewer = kept_fewer _ _ inside _ c.keep.ensures.entries c.keep.ensures.visited in
+    let no_more = c.in_ok-at.ensures.no_more in omega (arith, fewer, no_more)
 
 pub loop-at-preserved : goal.loop-at-preserved
-loop-at-preserved c =
-    let before = c.loop-at in
-    let live = c.next_found.new.store.live in
-    let lists = c.next_found.new.lists in
-    let cursor = c.next_found.new.cursor in
-    let held = before.assumptions in
-    let now = c.set_by.new.assumptions in
-    let m = c.in-Unit.m in
+loop-at-preserved c = let before = c.loop-at in let live = c.next_found.new.store.live in
+    let lists = c.next_found.new.lists in let cursor = c.next_found.new.cursor in
+    let held = before.assumptions in let now = c.set_by.new.assumptions in let m = c.in-Unit.m in
     let f = found_next c.in_ok-at.ensures.found c.in-Some.is c.in-Unit.is (ap (λ t. t.lits) c.trail.ensures) in
     let visited = c.next_found.ensures.visited held (at before.reasons) (sym c.trail.ensures) in
     let met = simp c.trail.ensures at c.in_ok-at.ensures.met in
-    let r = entry_at cursor.entries cursor.visited _ f.next in
-    let s = c.set_by.ensures in
+    let r = entry_at cursor.entries cursor.visited _ f.next in let s = c.set_by.ensures in
     let kept = c.keep in
     let same = kept.ensures.entries ∙ put_same cursor.entries cursor.visited _ r.1 in
     let propagates =
@@ -84,8 +71,7 @@ loop-at-preserved c =
     }
 
 pub returns-in-Clash-clause-clash : goal.returns-in-Clash-clause-clash
-returns-in-Clash-clause-clash c =
-    let live = c.next_found.new.store.live in
+returns-in-Clash-clause-clash c = let live = c.next_found.new.store.live in
     let held = c.loop-at.assumptions in
     let f = found_next c.in_ok-at.ensures.found c.in-Some.is c.in-Clash.is (ap (λ t. t.lits) c.trail.ensures) in
     simp c.slot-in-Clash.ensures.value (clashes live held _ f.clause f.at f.holds)
@@ -97,12 +83,8 @@ pub returns-clause-visited : goal.returns-clause-visited
 returns-clause-visited c = visited_on c.loop-at.invariant.visited (grind arith)
 
 pub returns-clause-met : goal.returns-clause-met
-returns-clause-met c =
-    let before = c.loop-at in
-    let now = c.next_found.new in
-    let trues = before.assumptions.trail.lits in
+returns-clause-met c = let before = c.loop-at in
     let visited = c.next_found.ensures.visited before.assumptions (at before.reasons) (sym c.trail.ensures) in
     let end = simp c.in_default.is at c.in_ok-at.ensures.found in
     let met = simp c.trail.ensures at c.in_ok-at.ensures.met in
-    let live = maps.get now.store.live in
-    all_met live c.args.l now.cursor.entries (in_list live (list_at now.lists) c.args.l now.cursor.entries visited.hand.listed) trues now.cursor.visited end met
+    all_met _ _ _ (in_list _ _ _ _ visited.hand.listed) _ _ end met

@@ -1,6 +1,5 @@
-use Rattle.std.proofs.Common.{◌≡◌}
-use Rattle.tables.specs.Filled.{at}
-use Rattle.watch.specs.Code.Visits.{AreMet, Visited, entries_left}
+use Rattle.{std.proofs.Common.◌≡◌, tables.specs.Filled.at, watch.specs.Code.Visits.AreMet}
+use Rattle.watch.specs.Code.Visits.{Visited, entries_left}
 use Rattle.watch.proofs.follow.visit_all.Given as goal
 
 abbrev pub invariant-loop-at : goal.invariant-loop-at

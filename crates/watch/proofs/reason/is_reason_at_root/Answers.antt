@@ -1,36 +1,29 @@
-use Rattle.std.proofs.Common.{arith, sym, ap, ◌∙◌, subst}
-use Rattle.std.specs.FinMap as maps
-use Rattle.std.proofs.lemmas.Option.{same_Some}
-use Rattle.cnf_base.specs.Literals.{has}
-use Rattle.theory.specs.Propagation.{IsRootReason}
-use Rattle.trail.specs.Left.{is_one_at_most}
+use Rattle.{std.proofs.Common.◌∙◌, theory.specs.Propagation.IsRootReason}
 use Rattle.propagation.proofs.PropagationLemmas.Closing.{no_reason_left, reason_left}
 use Rattle.root_literals.proofs.RootLemmas.Carried.{all_forced, kept_forced, roots_alone}
-use Rattle.watch.proofs.WatchLemmas.Shown.{closure_held, closure_shown, forced_held, forced_shown}
+use Rattle.{cnf_base.specs.Literals.has, std.proofs.Common.subst, trail.specs.Left.is_one_at_most}
+use Rattle.std.proofs.{Common.ap, Common.arith, Common.sym, lemmas.Option.same_Some}
+use Rattle.watch.proofs.WatchLemmas.State.{closure_held, closure_shown, forced_held, forced_shown}
+use Rattle.std.specs.FinMap as maps
 use Rattle.watch.proofs.reason.is_reason_at_root.Goals as goal
 
 pub is_root_reason-requires-clause-closure : goal.is_root_reason-requires-clause-closure
-is_root_reason-requires-clause-closure c = closure_held c.args.store.now.live c.args.closure.now c.requires.closure
+is_root_reason-requires-clause-closure c = grind (arith, closure_held)
 
 pub returns-then-has_clash-clause-closure : goal.returns-then-has_clash-clause-closure
-returns-then-has_clash-clause-closure c = closure_shown c.args.store.now.live c.is_root_reason.new.self c.is_root_reason.ensures.closure
+returns-then-has_clash-clause-closure c = grind (arith, closure_shown)
 
 pub returns-clause-yes : goal.returns-clause-yes
-returns-clause-yes c is_reason clause at =
-    let live = c.args.store.now.live in
-    let lits = c.args.assumptions.now.trail.lits in
-    let kept = c.clause-clause.result.now in
-    let here = c.clause-clause.ensures.clause in
+returns-clause-yes c is_reason clause at = let live = c.args.store.now.live in
+    let kept = c.clause-clause.result.now in let here = c.clause-clause.ensures.clause in
     subst (IsRootReason (maps.get live)) (same_Some kept clause (here ∙ at))
     (reason_left (maps.get live) c.trail-trail.result.now.lits c.args.slot kept (sym here)
     (grind (arith, forced_held, kept_forced))
     (grind arith))
 
 pub returns-clause-no : goal.returns-clause-no
-returns-clause-no c is_none clause at =
-    let live = c.args.store.now.live in
-    let held = c.args.assumptions.now in
-    let kept = c.clause-clause.result.now in
+returns-clause-no c is_none clause at = let live = c.args.store.now.live in
+    let held = c.args.assumptions.now in let kept = c.clause-clause.result.now in
     let here = c.clause-clause.ensures.clause in
     let alone = roots_alone held.trail.lits held.assumptions held.starts c.requires.nothing_assumed in
     let apart = simp c.trail-trail.ensures at c.len-different.ensures.different in

@@ -1,38 +1,32 @@
-use Rattle.std.proofs.Common.{◌≡◌, ◌+◌, ◌<◌, ◌≤◌, ◌∷◌, [], length, take, ℕ, refl, sym, ap, ◌∙◌}
-use Rattle.std.proofs.Common.{arith}
-use Rattle.std.proofs.lemmas.{Bool.true≢false, List.length-append, List.take_all}
-use Rattle.std.specs.FinMap as maps
-use Rattle.tables.specs.Filled.{at}
+use Rattle.root_literals.proofs.RootLemmas.Carried.{begun_again, history_grown, kept_grown}
+use Rattle.root_literals.proofs.RootLemmas.Carried.{units_kept, visited_more}
+use Rattle.root_literals.proofs.RootLemmas.Watched.{history_begun, watched_all}
 use Rattle.root_literals.specs.{History.IsHistory, History.sure_of, History.visits, Roots.has_clash}
-use Rattle.root_literals.proofs.RootLemmas.Grown.{begun_again, history_grown, kept_grown}
-use Rattle.root_literals.proofs.RootLemmas.{Grown.visited_more, Closed.units_kept}
-use Rattle.root_literals.proofs.RootLemmas.{History.history_begun, Watched.watched_all}
-use Rattle.watch.proofs.WatchLemmas.Visited.{can_follow_on, false_at, fits_on, followed_none}
-use Rattle.watch.proofs.WatchLemmas.Visited.{followed_on, read_at}
+use Rattle.std.proofs.Common.{[], ap, arith, length, length-append, refl}
+use Rattle.std.proofs.Common.{sym, take, take_all, true≢false, ℕ, ◌+◌, ◌<◌, ◌∙◌, ◌∷◌, ◌≡◌, ◌≤◌}
+use Rattle.{tables.specs.Filled.at, watch.proofs.WatchLemmas.Visits.can_follow_on}
+use Rattle.watch.proofs.WatchLemmas.Visits.{false_at, fits_on, followed_none, followed_on}
+use Rattle.watch.proofs.{WatchLemmas.Visits.read_at, refresh.catch_up.Goals.In_ok-slot}
+use Rattle.std.specs.FinMap as maps
 use Rattle.watch.proofs.refresh.catch_up.Goals as goal
-use Rattle.watch.proofs.refresh.catch_up.Goals.{In_ok-slot}
 
 pub follow-requires-clause-can : goal.follow-requires-clause-can
-follow-requires-clause-can c = can_follow_on c.requires.can c.loop-done.invariant.followed
+follow-requires-clause-can c = grind (arith, can_follow_on)
 
 pub loop-done-init : goal.loop-done-init
-loop-done-init c =
-    let kept = c.requires.kept in
-    record {
-      count = sym c.len-done.ensures;
-      history = kept.history;
-      watched =
-          simp c.len-done.ensures (simp c.in-WithUnits.is at (kept.visited (ap has_clash c.in-WithUnits.is)));
-      begun = simp c.len-done.ensures c.requires.begun;
-      followed = followed_none c.requires.can;
-      uses = refl;
-      slots = refl;
-    }
+loop-done-init c = let kept = c.requires.kept in record {
+  count = sym c.len-done.ensures;
+  history = kept.history;
+  watched =
+      simp c.len-done.ensures (simp c.in-WithUnits.is at (kept.visited (ap has_clash c.in-WithUnits.is)));
+  begun = simp c.len-done.ensures c.requires.begun;
+  followed = followed_none c.requires.can;
+  uses = refl;
+  slots = refl;
+}
 
 pub follow-requires-clause-is_false : goal.follow-requires-clause-is_false
-follow-requires-clause-is_false c =
-    let inside : c.loop-done.done < length c.loop-done.assumptions.trail.lits = grind arith in
-    grind (arith, false_at)
+follow-requires-clause-is_false c = grind (arith, false_at)
 
 pub returns-in_err-slot-clause-followed : goal.returns-in_err-slot-clause-followed
 returns-in_err-slot-clause-followed c = followed_on c.loop-done.invariant.followed c.follow.ensures.followed
@@ -41,9 +35,7 @@ pub returns-in_default-clause-followed : goal.returns-in_default-clause-followed
 returns-in_default-clause-followed c = followed_none c.requires.can
 
 pub loop-done-smaller : goal.loop-done-smaller
-loop-done-smaller c =
-    let fits = fits_on c.loop-done.invariant.followed.propagates c.trail.ensures c.len.ensures.different c.len.ensures.within in
-    grind arith
+loop-done-smaller c = grind (arith, fits_on)
 
 -- the visit is noted, and what was visited before it stays so
 loop-visited : (c : In_ok-slot) → (visits c.begin.new.self ≡ c.loop-done.done + 1) × IsHistory (sure_of c.begin.new.self.doubts.items (maps.get c.follow.new.store.live)) c.begin.new.self c.follow.new.assumptions.trail.lits
@@ -64,11 +56,7 @@ loop-visited c =
     let most = c.max.ensures in
     let watched = simp (← count) at so_far.begun in
     let begun = history_begun (sure_of ds (maps.get a)) before.roots.history c.begin.new.self x.trail.lits t (omega (arith, count, inside)) (omega (arith, count, most)) pushed c.in_ok-begin.ensures.floor (λ p low. watched p (omega (arith, low, most))) so_far.history in
-    let sure = λ (n : ℕ). watched_all (maps.get a) ds (take n x.trail.lits) x.trail.lits in (
-      one_more ∙ ap (λ n. n + 1) count,
-      simp c.in_ok-begin.ensures.doubts
-          (history_grown a b x y (at before.roots.reasons) (at c.follow.new.reasons) step ds c.begin.new.self before.done (omega (arith, one_more, count)) (sure before.done so_far.watched) begun),
-    )
+    let sure = λ (n : ℕ). watched_all (maps.get a) ds (take n x.trail.lits) x.trail.lits in (grind (arith, history_grown))
 
 pub loop-done-preserved : goal.loop-done-preserved
 loop-done-preserved c =
@@ -106,14 +94,9 @@ pub returns-in-Some-clause-followed : goal.returns-in-Some-clause-followed
 returns-in-Some-clause-followed c = followed_on c.loop-done.invariant.followed c.follow.ensures.followed
 
 pub returns-clause-kept : goal.returns-clause-kept
-returns-clause-kept c =
-    let so_far = c.loop-done.invariant in
-    let a = c.args.store.now.live in
-    let b = c.loop-done.store.live in
-    let x = c.args.assumptions.now in
-    let y = c.loop-done.assumptions in
+returns-clause-kept c = let so_far = c.loop-done.invariant in let y = c.loop-done.assumptions in
     let e = so_far.followed.propagates in
-    let past : length y.trail.lits ≤ c.loop-done.done = let high = c.loop-done-test.false in let n = c.len.ensures.value ∙ ap (λ t. length t.lits) c.trail.ensures in omega arith in
+    let past : length y.trail.lits ≤ c.loop-done.done = grind arith in
     let all = simp (take_all c.loop-done.done y.trail.lits past) at so_far.watched in
-    let units = units_kept a b x y (at c.args.roots.now.reasons) (at c.loop-done.roots.reasons) e (simp c.in-WithUnits.is at c.requires.kept.known) in
-    kept_grown a b x y c.args.roots.now _ e c.requires.kept (all, units) so_far.history (λ _. simp so_far.count so_far.watched) so_far.uses
+    let units = units_kept _ _ _ _ _ _ e (grind arith) in
+    kept_grown _ _ _ _ _ _ e c.requires.kept (all, units) so_far.history (λ _. simp so_far.count so_far.watched) so_far.uses

@@ -1,9 +1,8 @@
-use Rattle.std.proofs.Common.{◌≡◌, ◌-◌, ◌≤◌, ℕ, length, take}
-use Rattle.std.specs.FinMap as maps
-use Rattle.tables.specs.Filled.{at}
 use Rattle.root_literals.specs.History.{IsHistory, sure_of, visits}
-use Rattle.watch.specs.Code.Visits.{Followed}
-use Rattle.root_literals.specs.Watched.{IsWatched}
+use Rattle.{root_literals.specs.Watched.IsWatched, std.proofs.Common.length, std.proofs.Common.take}
+use Rattle.std.proofs.Common.{ℕ, ◌-◌, ◌≡◌}
+use Rattle.{std.proofs.Common.◌≤◌, tables.specs.Filled.at, watch.specs.Code.Visits.Followed}
+use Rattle.std.specs.FinMap as maps
 use Rattle.watch.proofs.refresh.catch_up.Given as goal
 
 abbrev pub invariant-loop-done : goal.invariant-loop-done

@@ -1,7 +1,6 @@
-use Rattle.std.proofs.Common.{◌≡◌, ◌/◌, true, take}
-use Rattle.cnf_base.specs.Literals.{Literal, has}
-use Rattle.tables.specs.Filled.{at}
-use Rattle.watch.specs.Code.State.{AddsRoom, HaveReasons}
+use Rattle.{cnf_base.specs.Literals.Literal, std.proofs.Common.◌≡◌, watch.specs.Code.State.AddsRoom}
+use Rattle.{cnf_base.specs.Literals.has, std.proofs.Common.true, tables.specs.Filled.at}
+use Rattle.{std.proofs.Common.take, std.proofs.Common.◌/◌, watch.specs.Code.State.HaveReasons}
 use Rattle.watch.proofs.room.reserve_room.Given as goal
 
 abbrev pub invariant-loop-l : goal.invariant-loop-l

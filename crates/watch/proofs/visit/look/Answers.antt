@@ -17,6 +17,6 @@ returns-in_default-value_of-clause-visit g c =
     let trues = (g.A.Assignment.trail_of c.args.assignment.now).lits in
     let clause = c.args.clause.now in (
       other_member trues clause c.args.l w.0 w.1 long w.2 m w.3 c.requires.is_false c.in-None.ensures.none,
-      not_false trues c.value_of-in-None.ensures.different m c.value_of-in-None.result c.value_of-in-None.ensures.value c.in_default-value_of.not-False,
+      not_false _ c.value_of-in-None.ensures.different _ _ c.value_of-in-None.ensures.value c.in_default-value_of.not-False,
       others_false trues clause c.args.l w.0 w.1 long w.2 m w.3 c.requires.is_false c.in-None.ensures.none,
     )

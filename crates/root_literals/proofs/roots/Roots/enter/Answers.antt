@@ -1,11 +1,9 @@
-use Rattle.std.proofs.Common.{◌≡◌, true, refl, arith}
-use Rattle.cnf_base.specs.Literals.{Literal, has}
-use Rattle.tables.specs.Filled.{at}
-use Rattle.root_literals.proofs.RootLemmas.Entered.{Entering, entered_false, entered_idle}
-use Rattle.root_literals.proofs.RootLemmas.Entered.{entered_more, entered_set, entered_taken}
-use Rattle.root_literals.proofs.RootLemmas.Entered.{entered_true}
-use Rattle.root_literals.proofs.roots.Roots.enter.Goals as goal
+use Rattle.root_literals.proofs.RootLemmas.Kept.{entered_idle, entered_taken, entered_true}
+use Rattle.root_literals.proofs.RootLemmas.Kept.{Entering, entered_false, entered_more, entered_set}
+use Rattle.{cnf_base.specs.Literals.Literal, cnf_base.specs.Literals.has, tables.specs.Filled.at}
+use Rattle.std.proofs.Common.{arith, refl, true, ◌≡◌}
 use Rattle.root_literals.proofs.roots.Roots.enter.Goals.{After-enter, Else-set_by}
+use Rattle.root_literals.proofs.roots.Roots.enter.Goals as goal
 
 -- the clause is entered where the history knows of it
 entering-clause-kept : (c : After-enter) → Entering c.args.store.now.live c.args.slot c.clause-clause.result.now c.args.self.now c.args.assumptions.now.trail.lits c.args.left c.enter.new.self
@@ -21,7 +19,7 @@ returns-in-More-clause-kept c =
 
 pub returns-in-Nothing-clause-kept : goal.returns-in-Nothing-clause-kept
 returns-in-Nothing-clause-kept c =
-    entered_false (entering-clause-kept (goal.at.returns-in-Nothing-clause-kept c).After-enter) (grind arith) _ c.number-number.result c.number-number.ensures refl refl refl refl
+    entered_false (entering-clause-kept (goal.at.returns-in-Nothing-clause-kept c).After-enter) (grind arith) _ _ c.number-number.ensures refl refl refl refl
 
 pub returns-then-set_by-clause-kept : goal.returns-then-set_by-clause-kept
 returns-then-set_by-clause-kept c =

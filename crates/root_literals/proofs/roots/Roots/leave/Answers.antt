@@ -1,16 +1,15 @@
-use Rattle.std.proofs.Common.{length, sym, ◌∙◌, arith}
+use Rattle.std.proofs.Common.{sym, ◌∙◌, arith}
 use Rattle.root_literals.proofs.RootLemmas.Kept.{kept_cut, kept_left}
 use Rattle.root_literals.proofs.roots.Roots.leave.Goals as goal
 
 pub loop-place-preserved : goal.loop-place-preserved
-loop-place-preserved c =
-    let so_far = c.loop-place.invariant in let e = c.cut.ensures in record {
-      noted = grind (arith, so_far.noted);
-      kept = kept_cut c.args.store.now.live c.loop-place.self c.cut.new.self c.loop-place.assumptions.trail.lits c.cut.new.assumptions.trail.lits (length c.cut.new.assumptions.trail.lits) so_far.kept (grind arith) e.kept e.history e.reasons e.lits (e.counted so_far.kept.counted);
-      reserved = λ v. e.reserved v ∙ so_far.reserved v;
-      assumptions = e.assumptions;
-      starts = e.starts ∙ so_far.starts;
-    }
+loop-place-preserved c = let so_far = c.loop-place.invariant in let e = c.cut.ensures in record {
+  noted = grind (arith, so_far.noted);
+  kept = kept_cut _ _ _ _ _ _ so_far.kept (grind arith) e.kept e.history e.reasons e.lits (e.counted so_far.kept.counted);
+  reserved = λ v. e.reserved v ∙ so_far.reserved v;
+  assumptions = e.assumptions;
+  starts = e.starts ∙ so_far.starts;
+}
 
 pub returns-clause-kept : goal.returns-clause-kept
 returns-clause-kept c =

@@ -1,8 +1,6 @@
-use Rattle.std.proofs.Common.{◌≡◌, ◌+◌, cond, length, [], IsSome}
-use Rattle.cnf_base.specs.Literals.{Literal}
-use Rattle.tables.specs.Filled.{at}
-use Rattle.theory.specs.Sets.{SameSet}
-use Rattle.root_literals.specs.Roots.{IsKept, has_clash}
+use Rattle.{root_literals.specs.Roots.has_clash, tables.specs.Filled.at, theory.specs.Sets.SameSet}
+use Rattle.std.proofs.Common.{IsSome, cond, length, ◌+◌, ◌≡◌}
+use Rattle.{cnf_base.specs.Literals.Literal, root_literals.specs.Roots.IsKept, std.proofs.Common.[]}
 use Rattle.root_literals.proofs.roots.Roots.leave.Given as goal
 
 abbrev pub invariant-loop-place : goal.invariant-loop-place

@@ -1,6 +1,4 @@
-use Rattle.std.proofs.Common.{◌≡◌}
-use Rattle.cnf_base.specs.Literals.{Literal}
-use Rattle.root_literals.specs.Uses.{times}
+use Rattle.{cnf_base.specs.Literals.Literal, root_literals.specs.Uses.times, std.proofs.Common.◌≡◌}
 use Rattle.root_literals.proofs.roots.Roots.make_room.Given as goal
 
 abbrev pub invariant-loop-place : goal.invariant-loop-place

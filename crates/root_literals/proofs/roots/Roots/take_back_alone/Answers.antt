@@ -1,11 +1,10 @@
-use Rattle.std.proofs.Common.{◌<◌, Some, get_or, length, refl, sym, ap, ◌∙◌, subst, arith}
-use Rattle.std.specs.FinMap as maps
-use Rattle.trail.specs.Trail.{HasNoVariableTwice}
-use Rattle.tables.specs.Filled.{at}
-use Rattle.root_literals.specs.{Roots.IsKept, Roots.IsUnneeded}
-use Rattle.root_literals.proofs.RootLemmas.{Unshared.kept_out}
-use Rattle.root_literals.proofs.roots.Roots.take_back_alone.Goals as goal
+use Rattle.root_literals.proofs.RootLemmas.Unshared.{kept_out}
 use Rattle.root_literals.proofs.roots.Roots.take_back_alone.Goals.{After-is_needed}
+use Rattle.root_literals.specs.Roots.{IsKept, IsUnneeded}
+use Rattle.std.proofs.Common.{Some, ap, arith, get_or, length, refl, subst, sym, ◌<◌}
+use Rattle.{std.proofs.Common.◌∙◌, tables.specs.Filled.at, trail.specs.Trail.HasNoVariableTwice}
+use Rattle.std.specs.FinMap as maps
+use Rattle.root_literals.proofs.roots.Roots.take_back_alone.Goals as goal
 
 -- all is kept, with the reasons that were counted
 kept-then : (c : After-is_needed) → IsKept c.args.store.now.live (record c.args.self.now { uses = c.is_needed.new.uses }) c.args.assumptions.now.trail.lits
@@ -15,8 +14,7 @@ pub returns-then-is_needed-clause-still_kept : goal.returns-then-is_needed-claus
 returns-then-is_needed-clause-still_kept c _ = grind arith
 
 pub returns-clause-kept : goal.returns-clause-kept
-returns-clause-kept c is =
-    let live = c.args.store.now.live in
+returns-clause-kept c is = let live = c.args.store.now.live in
     let shown = c.lits-lits.ensures.value ∙ ap (λ t. t.lits) c.trail-2.ensures in
     let place = c.place_of-place.result in
     subst (IsKept (maps.remove live c.args.slot) _) (sym c.take_out-3.ensures.lits)

@@ -1,7 +1,6 @@
-use Rattle.std.proofs.Common.{◌-◌, length}
-use Rattle.std.specs.FinMap as maps
+use Rattle.{root_literals.specs.Uses.AreCounted, std.proofs.Common.length, std.proofs.Common.◌-◌}
 use Rattle.tables.specs.Filled.{at}
-use Rattle.root_literals.specs.Uses.{AreCounted}
+use Rattle.std.specs.FinMap as maps
 use Rattle.root_literals.proofs.uses.Uses.count.Given as goal
 
 abbrev pub invariant-loop-self : goal.invariant-loop-self

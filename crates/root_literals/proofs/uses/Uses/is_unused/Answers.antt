@@ -1,5 +1,5 @@
 use Rattle.std.proofs.Common.{eqb-true, arith, take_all}
-use Rattle.root_literals.proofs.RootLemmas.Uses.{uses_none}
+use Rattle.root_literals.proofs.RootLemmas.Reasons.{uses_none}
 use Rattle.root_literals.proofs.uses.Uses.is_unused.Goals as goal
 
 pub returns-then-self-lits : goal.returns-then-self-lits

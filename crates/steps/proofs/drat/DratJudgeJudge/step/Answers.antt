@@ -1,13 +1,12 @@
 -- A deletion, after which the clauses that are left may stand elsewhere.
-use Rattle.std.proofs.Common.{rules, ◌≡◌, ◌∙◌, refl, sym, subst, List, Ok, arith}
+use Rattle.{proofs.specs.Steps.Step, std.proofs.Common.rules, steps.specs.Code.Naming.with_lits}
+use Rattle.std.proofs.Common.{List, Ok, arith, refl, subst, sym, ◌∙◌, ◌≡◌}
+use Rattle.{cnf_base.specs.Literals.Clause, steps.proofs.SessionLemmas.keeps_taken}
+use Rattle.theory.specs.{Drat.SameLive, Drat.after_drat, Drat.delete, Rules.Same, Rules.after}
+use Rattle.theory.specs.{Drat.drat_step_of, Rules.by_copies, declared.accepted.Accepted.Accepted}
+use Rattle.{cnf_base.specs.Literals.Literal, theory.specs.declared.drat_rules.DratRules.DratRules}
 use Rattle.proofs.specs.declared.step_buf.StepKind.TheVariants as kinds
 use Rattle.std.specs.FinMap as maps
-use Rattle.cnf_base.specs.Literals.{Clause, Literal}
-use Rattle.proofs.specs.Steps.{Step}
-use Rattle.theory.specs.Drat.{SameLive, after_drat, drat_step_of, delete}
-use Rattle.theory.specs.Rules.{by_copies, Same, after}
-use Rattle.theory.specs.declared.{accepted.Accepted.Accepted, drat_rules.DratRules.DratRules}
-use Rattle.steps.{specs.Code.Naming.with_lits, proofs.SessionLemmas.keeps_taken}
 use Rattle.steps.proofs.drat.DratJudgeJudge.step.Goals as goal
 
 pub returns-in-Add-clause-keeps_models : goal.returns-in-Add-clause-keeps_models

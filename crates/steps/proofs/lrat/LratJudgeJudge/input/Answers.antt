@@ -1,5 +1,4 @@
-use Rattle.std.proofs.Common.{arith}
-use Rattle.steps.proofs.LratLemmas.Rooms.{ready_with}
+use Rattle.{std.proofs.Common.arith, steps.proofs.LratLemmas.ready_with}
 use Rattle.steps.proofs.lrat.LratJudgeJudge.input.Goals as goal
 
 pub returns-clause-ready : goal.returns-clause-ready

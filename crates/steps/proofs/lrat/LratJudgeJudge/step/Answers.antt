@@ -1,11 +1,10 @@
-use Rattle.std.proofs.Common.{◌≡◌, map, nat_abs, sym, ◌∙◌, rules, Ok}
-use Rattle.theory.specs.{declared.accepted.Accepted.TheVariants.Deleted, Rules.by_ids}
-use Rattle.theory.specs.Lrat.{LratState, after_lrat, lrat_step, SameClauses}
-use Rattle.steps.specs.Code.Naming.{with_lits}
-use Rattle.steps.proofs.{SessionLemmas.keeps_taken, LratLemmas.Rooms.ready_without}
-use Rattle.steps.proofs.{LratLemmas.Rooms.deleted_same, lrat.LratJudgeJudge.step.Goals.In-None}
+use Rattle.theory.specs.{Lrat.SameClauses, declared.accepted.Accepted.TheVariants.Deleted}
+use Rattle.theory.specs.{Lrat.LratState, Lrat.after_lrat, Lrat.lrat_step, Rules.by_ids}
+use Rattle.{live_clauses.specs.LiveClauses.lrat_state, steps.proofs.SessionLemmas.keeps_taken}
+use Rattle.steps.{proofs.LratLemmas.ready_without, specs.Code.Naming.with_lits}
+use Rattle.std.proofs.Common.{Ok, map, nat_abs, rules, sym, ◌∙◌, ◌≡◌}
+use Rattle.steps.proofs.{LratLemmas.deleted_same, lrat.LratJudgeJudge.step.Goals.In-None}
 use Rattle.steps.proofs.lrat.LratJudgeJudge.step.Goals as goal
-use Rattle.live_clauses.specs.LiveClauses.{lrat_state}
 use Rattle.std.specs.FinMap as maps
 
 -- what is left

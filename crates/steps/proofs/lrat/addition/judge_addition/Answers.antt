@@ -1,8 +1,6 @@
-use Rattle.std.proofs.Common.{subst}
-use Rattle.cnf_base.specs.Literals.{complements}
-use Rattle.theory.specs.Lrat.{chain, units_of, groups_of}
-use Rattle.steps.specs.Code.Walk.{IsEnd}
-use Rattle.steps.proofs.LratLemmas.{Starts.answers_open, Starts.first_is, Ending.unless_map}
+use Rattle.steps.proofs.LratLemmas.{answers_open, first_is, unless_map}
+use Rattle.{steps.specs.Code.Walk.IsEnd, theory.specs.Lrat.groups_of, theory.specs.Lrat.units_of}
+use Rattle.{cnf_base.specs.Literals.complements, std.proofs.Common.subst, theory.specs.Lrat.chain}
 use Rattle.steps.proofs.lrat.addition.judge_addition.Goals as goal
 use Rattle.std.specs.FinMap as maps
 

@@ -1,5 +1,5 @@
 use Rattle.std.proofs.Common.{arith}
-use Rattle.steps.proofs.LratLemmas.{Hints.any_named, Groups.answers_rat}
+use Rattle.steps.proofs.LratLemmas.{answers_rat, any_named}
 use Rattle.steps.proofs.lrat.addition.judge_rat.Goals as goal
 
 pub returns-in-Some-2-clause-answer : goal.returns-in-Some-2-clause-answer

@@ -1,8 +1,7 @@
-use Rattle.std.proofs.Common.{arith}
+use Rattle.{std.proofs.Common.arith, steps.proofs.LratLemmas.units_conflict}
+use Rattle.{steps.proofs.LratLemmas.units_walk, theory.specs.Lrat.units_of}
+use Rattle.trail.proofs.TrailLemmas.MakesFalse.{whole_added, whole_conflict}
 use Rattle.std.specs.FinMap as maps
-use Rattle.theory.specs.Lrat.{units_of}
-use Rattle.trail.proofs.TrailLemmas.MakesFalse.{whole_conflict, whole_added}
-use Rattle.steps.proofs.LratLemmas.Starts.{units_conflict, units_walk}
 use Rattle.steps.proofs.lrat.addition.walk_units.Goals as goal
 
 pub returns-then-make_false-clause-end : goal.returns-then-make_false-clause-end

@@ -1,7 +1,6 @@
-use Rattle.std.proofs.Common.{◌≤◌, ℕ, List, length, subst, arith}
+use Rattle.{live_clauses.specs.LiveClauses.AllHold, steps.proofs.LratLemmas.none_left}
+use Rattle.std.proofs.Common.{List, arith, length, subst, ℕ, ◌≤◌}
 use Rattle.std.specs.FinMap as maps
-use Rattle.live_clauses.specs.LiveClauses.{AllHold}
-use Rattle.steps.proofs.LratLemmas.Remaining.{none_left}
 use Rattle.steps.proofs.lrat.candidates.first_left_out.Goals as goal
 
 pub returns-then-holding-len-clause-first : goal.returns-then-holding-len-clause-first

@@ -1,5 +1,5 @@
 use Rattle.std.proofs.Common.{arith, rules}
-use Rattle.steps.proofs.LratLemmas.Remaining.{passed_more, first_found, none_found}
+use Rattle.steps.proofs.LratLemmas.{first_found, none_found, passed_more}
 use Rattle.steps.proofs.lrat.candidates.first_unnamed.Goals as goal
 
 pub loop-id-preserved : goal.loop-id-preserved

@@ -1,7 +1,5 @@
-use Rattle.std.proofs.Common.{◌≡◌}
+use Rattle.{std.proofs.Common.◌≡◌, steps.proofs.LratLemmas.Passed, theory.specs.Sets.SameSet}
 use Rattle.std.specs.FinMap as maps
-use Rattle.theory.specs.Sets.{SameSet}
-use Rattle.steps.proofs.LratLemmas.Remaining.{Passed}
 use Rattle.steps.proofs.lrat.candidates.first_unnamed.Given as goal
 
 abbrev pub invariant-loop-id : goal.invariant-loop-id

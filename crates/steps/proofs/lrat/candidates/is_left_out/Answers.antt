@@ -1,5 +1,5 @@
 use Rattle.std.proofs.Common.{arith, sym, ◌∙◌}
-use Rattle.steps.proofs.LratLemmas.Remaining.{known_named, not_alive, unnamed_at}
+use Rattle.steps.proofs.LratLemmas.{known_named, not_alive, unnamed_at}
 use Rattle.steps.proofs.lrat.candidates.is_left_out.Goals as goal
 
 pub returns-then-contains-clause-unnamed : goal.returns-then-contains-clause-unnamed

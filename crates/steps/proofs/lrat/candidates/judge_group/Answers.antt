@@ -1,9 +1,7 @@
-use Rattle.std.proofs.Common.{refl, sym, ◌∙◌}
-use Rattle.std.proofs.lemmas.Bool.{not-true, not-false}
+use Rattle.{std.proofs.Common.sym, std.proofs.Common.◌∙◌, theory.specs.Lrat.units_of}
+use Rattle.steps.proofs.LratLemmas.{group_named_twice, group_not_candidate, group_walked, tested}
+use Rattle.std.proofs.{Common.refl, lemmas.Bool.not-false, lemmas.Bool.not-true}
 use Rattle.std.specs.FinMap as maps
-use Rattle.theory.specs.Lrat.{units_of}
-use Rattle.steps.proofs.LratLemmas.Groups.{tested, group_not_candidate, group_named_twice}
-use Rattle.steps.proofs.LratLemmas.Groups.{group_walked}
 use Rattle.steps.proofs.lrat.candidates.judge_group.Goals as goal
 
 pub returns-then-not-contains-clause-refusal : goal.returns-then-not-contains-clause-refusal

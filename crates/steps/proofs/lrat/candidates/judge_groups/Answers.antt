@@ -1,13 +1,12 @@
-use Rattle.std.proofs.Common.{arith, ◌≡◌, ℕ, ◌+◌, ◌<◌, ◌||◌, eqb, true, drop, length, refl, sym, ap}
-use Rattle.std.proofs.{Common.◌∙◌, Common.rules, Common.arith, Common.rules, lemmas.List.take_rest}
-use Rattle.std.specs.FinMap as maps
-use Rattle.cnf_base.specs.Literals.{has}
-use Rattle.theory.specs.Lrat.{group_refusal, units_of}
-use Rattle.steps.proofs.LratLemmas.Groups.{groups_pass_over, groups_stop, groups_go_on, named_kept}
-use Rattle.steps.proofs.LratLemmas.Groups.{named_grows, when_none, held_grow}
-use Rattle.steps.proofs.lrat.candidates.judge_groups.Goals as goal
+use Rattle.{steps.proofs.LratLemmas.groups_pass_over, theory.specs.Lrat.units_of}
+use Rattle.std.proofs.Common.{ap, arith, eqb, length, refl, sym, true, ℕ, ◌+◌, ◌<◌, ◌||◌, ◌∙◌}
+use Rattle.std.proofs.{Common.drop, Common.rules, Common.◌≡◌, lemmas.List.take_rest}
+use Rattle.steps.proofs.LratLemmas.{groups_go_on, groups_stop, held_grow, named_grows, when_none}
+use Rattle.{cnf_base.specs.Literals.has, theory.specs.Lrat.group_refusal}
 use Rattle.steps.proofs.lrat.candidates.judge_groups.Goals.{then-hint-lt0+in_ok-refusal+else-is_some}
-use Rattle.steps.proofs.lrat.candidates.judge_groups.Goals.{else-hint-lt0}
+use Rattle.steps.proofs.{LratLemmas.named_kept, lrat.candidates.judge_groups.Goals.else-hint-lt0}
+use Rattle.std.specs.FinMap as maps
+use Rattle.steps.proofs.lrat.candidates.judge_groups.Goals as goal
 
 pub loop-i-preserved : goal.loop-i-preserved
 loop-i-preserved c =

@@ -1,5 +1,4 @@
-use Rattle.std.proofs.Common.{arith, rules}
-use Rattle.steps.proofs.LratLemmas.{Hints.abs_more}
+use Rattle.{std.proofs.Common.arith, std.proofs.Common.rules, steps.proofs.LratLemmas.abs_more}
 use Rattle.steps.proofs.lrat.deletions.delete_all.Goals as goal
 
 pub loop-id-preserved : goal.loop-id-preserved

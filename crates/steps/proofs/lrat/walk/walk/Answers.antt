@@ -1,12 +1,11 @@
-use Rattle.std.proofs.Common.{◌≡◌, ◌<◌, length, slice_index_or, pos, subst, sym, ap, ◌∙◌, arith}
-use Rattle.std.proofs.{Common.rules, Common.nat_abs, lemmas.List.drop_all}
-use Rattle.std.specs.Option.{option_copied}
+use Rattle.{propagation.proofs.PropagationLemmas.Exact.begins_on, std.proofs.Common.ap}
+use Rattle.std.proofs.Common.{arith, length, nat_abs, pos, rules, slice_index_or, subst}
+use Rattle.std.proofs.{Common.sym, Common.◌<◌, Common.◌∙◌, Common.◌≡◌, lemmas.List.drop_all}
+use Rattle.{std.specs.Option.option_copied, steps.proofs.LratLemmas.read_is}
+use Rattle.steps.proofs.LratLemmas.{same_set_push, units_more, walk_more, walk_nothing, walk_one}
+use Rattle.{steps.proofs.LratLemmas.walk_unknown, trail.proofs.TrailLemmas.Left.left_open}
+use Rattle.trail.proofs.TrailLemmas.MakesFalse.{begins_made, longer_made, made_true}
 use Rattle.std.specs.FinMap as maps
-use Rattle.steps.proofs.LratLemmas.{Hints.units_more, Hints.read_is, Walks.same_set_push}
-use Rattle.steps.proofs.LratLemmas.Walks.{walk_one, walk_nothing, walk_more, walk_unknown}
-use Rattle.propagation.proofs.PropagationLemmas.Exact.{begins_on}
-use Rattle.trail.proofs.TrailLemmas.Left.{left_open}
-use Rattle.trail.proofs.TrailLemmas.MakesFalse.{made_true, begins_made, longer_made}
 use Rattle.steps.proofs.lrat.walk.walk.Goals as goal
 
 pub make_true-requires-clause-not_false : goal.make_true-requires-clause-not_false

@@ -1,8 +1,7 @@
-use Rattle.std.proofs.Common.{◌≡◌, ◌≤◌, ◌<◌, ◌+◌, false, length, take, drop, nat_abs, pos}
-use Rattle.std.{proofs.Common.slice_index_or, specs.Option.option_copied}
+use Rattle.std.proofs.Common.{false, length, nat_abs, pos, slice_index_or, take, ◌+◌, ◌<◌, ◌≡◌, ◌≤◌}
+use Rattle.{std.proofs.Common.drop, std.specs.Option.option_copied, steps.proofs.LratLemmas.Gives}
+use Rattle.theory.specs.{Lrat.chain, Lrat.units_of, Sets.SameSet, Sets.conflicts}
 use Rattle.std.specs.FinMap as maps
-use Rattle.theory.specs.{Lrat.chain, Lrat.units_of, Sets.conflicts, Sets.SameSet}
-use Rattle.steps.proofs.LratLemmas.Walks.{Gives}
 use Rattle.steps.proofs.lrat.walk.walk.Given as goal
 
 abbrev pub invariant-loop-i : goal.invariant-loop-i

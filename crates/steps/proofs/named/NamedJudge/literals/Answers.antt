@@ -1,5 +1,5 @@
 use Rattle.std.proofs.Common.{◌≡◌, ◌+◌, length, sym, ap, ◌∙◌, arith}
-use Rattle.steps.proofs.NamingLemmas.Steps.{named_size}
+use Rattle.steps.proofs.NamingLemmas.{named_size}
 use Rattle.steps.proofs.named.NamedJudge.literals.Goals as goal
 
 pub returns-clause-live_alone : goal.returns-clause-live_alone

@@ -1,59 +1,43 @@
-use Rattle.std.proofs.Common.{◌≡◌, ◌≢◌, ℕ, ◌/◌, Some, option_map, sym, ap, subst, ◌∙◌, arith}
+use Rattle.std.proofs.Common.{◌≡◌, ◌≢◌, ℕ, Some, sym, ap, subst, ◌∙◌, arith}
 use Rattle.std.proofs.lemmas.{Bool.false_from_ne_true, Option.none-some, Option.same_Some}
 use Rattle.std.specs.FinMap as maps
 use Rattle.cnf_base.specs.Literals.{Clause}
 use Rattle.cnf_base.proofs.SetLemmas.{same_from, same_there, same_trans}
 use Rattle.cnf_base.proofs.MapLemmas.{inserted_is, removed_back}
 use Rattle.root_literals.specs.Order.{each_in_order, in_order}
-use Rattle.root_literals.proofs.RootLemmas.Order.{get_ordered, literals_ordered, ordered_alike}
-use Rattle.root_literals.proofs.RootLemmas.Order.{same-in_order, seen_there}
 use Rattle.watch_lists.{specs.Watched.tautology_for, proofs.WatchListsLemmas.Entries.times_has}
 use Rattle.propagation.{proofs.PropagationLemmas.Scan.room_added, specs.Closure.IsClosure}
 use Rattle.watch.proofs.WatchLemmas.State.{alone_kept, same_state, tautologies_added}
 use Rattle.watch.proofs.WatchLemmas.State.{tautologies_there, watch_added, watch_room, watch_same}
+use Rattle.root_literals.proofs.RootLemmas.Reasons.{get_ordered, literals_ordered, ordered_alike}
+use Rattle.root_literals.proofs.RootLemmas.Reasons.{same-in_order, seen_there}
 use Rattle.watch.proofs.watch.WatchPropagate.insert.Goals as goal
 
 pub add_entries-requires-clause-alive : goal.add_entries-requires-clause-alive
-add_entries-requires-clause-alive c =
-    let d = c.in_ok-slot.ensures.stored in
-    grind arith
+add_entries-requires-clause-alive c = grind arith
 
 pub add_entries-requires-clause-absent : goal.add_entries-requires-clause-absent
-add_entries-requires-clause-absent c =
-    let i = c.self.inside in
-    grind (arith, false_from_ne_true, times_has)
+add_entries-requires-clause-absent c = grind (arith, false_from_ne_true, times_has)
 
 pub add_entries-requires-clause-no_tautology : goal.add_entries-requires-clause-no_tautology
-add_entries-requires-clause-no_tautology c =
-    let i = c.self.inside in
-    let slot = c.in_ok-slot.slot in
-    let none =
+add_entries-requires-clause-no_tautology c = let i = c.self.inside in
+    let slot = c.in_ok-slot.slot in let none =
     (tautologies_there i.store.live i.tautologies c.self.invariant.3).listed slot
-    ∙ ap tautology_for c.in_ok-slot.ensures.free in
-    grind (arith, false_from_ne_true, times_has)
+    ∙ ap tautology_for c.in_ok-slot.ensures.free in grind (arith, false_from_ne_true, times_has)
 
 pub enter-requires-clause-kept : goal.enter-requires-clause-kept
-enter-requires-clause-kept c =
-    let i = c.self.inside in
-    let live = i.store.live in
-    let r = c.reserve_room.ensures in
+enter-requires-clause-kept c = let i = c.self.inside in let r = c.reserve_room.ensures in
     let watch = watch_room r.more r.noted c.self.invariant.0 in
     grind (arith, removed_back, alone_kept)
 
 pub enter-requires-clause-reasons : goal.enter-requires-clause-reasons
-enter-requires-clause-reasons c clause here l member =
-    let d = c.in_ok-slot.ensures.stored in
-    grind (arith, same_there, same_Some)
+enter-requires-clause-reasons c clause here l member = grind (arith, same_there, same_Some)
 
 pub enter-requires-clause-room : goal.enter-requires-clause-room
-enter-requires-clause-room c clause here l member =
-    let d = c.in_ok-slot.ensures.stored in
-    grind (arith, same_there, same_Some)
+enter-requires-clause-room c clause here l member = grind (arith, same_there, same_Some)
 
 pub enter-requires-clause-arranged : goal.enter-requires-clause-arranged
-enter-requires-clause-arranged c clause here =
-    let d = c.in_ok-slot.ensures.stored in
-    grind (arith, same_Some)
+enter-requires-clause-arranged c clause here = grind (arith, same_Some)
 
 pub invariant_of-self-in-Ok : goal.invariant_of-self-in-Ok
 invariant_of-self-in-Ok c =
@@ -69,49 +53,36 @@ invariant_of-self-in-Ok c =
     let w = c.arrange-arranged.ensures.arranged d.0 d.1 in
     let e = c.in-Ok.ensures in
     let n = c.enter.ensures in
-    let others : (s : ℕ) → s ≢ slot → maps.get after s ≡ maps.get live s = λ s ne. c.arrange-arranged.ensures.others s ne ∙ c.in_ok-slot.ensures.others s ne in
-    let is_same = same_trans (in_order w.0) w.0 c.args.lits.now (same-in_order w.0) (same_trans w.0 d.0 c.args.lits.now (same_from w.0 d.0 (λ l g. sym (w.2 l) ∙ g) (λ l g. w.2 l ∙ g)) d.2) in
+    let others : (s : ℕ) → s ≢ slot → maps.get after s ≡ maps.get live s = grind arith in
+    let is_same = same_trans (in_order w.0) w.0 c.args.lits.now (same-in_order w.0) (same_trans w.0 d.0 c.args.lits.now (grind (arith, same_from)) d.2) in
     let room = room_added held.trail.reserved (each_in_order live) (each_in_order after) slot c.args.lits.now watch.scan.room c.in_ok-reserve_room.ensures.room
-    (in_order w.0, seen_there after slot w.0 w.1, is_same) (λ s ne. get_ordered after s ∙ ap (option_map in_order) (others s ne) ∙ sym (get_ordered live s)) in (
-      watch_added i.is_loading live after i.lists c.add_entries.new.lists i.units c.add_entries.new.units c.reserve_room.new.roots c.enter.new.self held now watch (n.assumptions ∙ r.more.assumptions ∙ ap (λ w. w.propagation.assumptions) c.self.view_is ∙ c.requires)
-          slot w.0 (e.different w.0 w.1) (record { each = λ k x here l member. n.reserved (l / 2) ∙ room.each k x here l member }) n.kept
-          (λ l h. n.noted l (watch.noted l (sym (n.reserved (l / 2)) ∙ h)))
-          c.in_ok-slot.ensures.free (inserted_is live after slot w.0 w.1 others) e.low (e.watched w.0 w.1) (e.fitting w.0 w.1) (e.rest w.0 w.1) (e.more w.0 w.1) (e.longer w.0 w.1),
+    (grind (arith, seen_there)) (grind (arith, get_ordered)) in (
+      watch_added i.is_loading live after i.lists c.add_entries.new.lists i.units c.add_entries.new.units c.reserve_room.new.roots c.enter.new.self held now watch (grind arith)
+          slot w.0 (e.different w.0 w.1) (grind arith) n.kept
+          (grind arith)
+          c.in_ok-slot.ensures.free (grind (arith, inserted_is)) e.low (e.watched w.0 w.1) (e.fitting w.0 w.1) (e.rest w.0 w.1) (e.more w.0 w.1) (e.longer w.0 w.1),
       c.arrange-arranged.ensures.live_alone ∙ sym (literals_ordered after),
       subst (λ m. IsClosure (maps.get m) c.insert_clause.new.closure) (sym (ordered_alike c.insert_clause.new.store.live after slot d.0 w.0 d.1 w.1 w.2 c.arrange-arranged.ensures.others)) c.insert_clause.ensures.closure,
       tautologies_added live after i.tautologies c.add_entries.new.tautologies slot w.0 c.self.invariant.3 c.in_ok-slot.ensures.free (inserted_is live after slot w.0 w.1 others) (e.tautologies w.0 w.1),
     )
 
 pub remove_clause-requires-clause-closure : goal.remove_clause-requires-clause-closure
-remove_clause-requires-clause-closure c =
-    let d = c.in_ok-slot.ensures.stored in
-    grind (arith, ordered_alike)
+remove_clause-requires-clause-closure c = grind (arith, ordered_alike)
 
 pub invariant_of-self-in-Err : goal.invariant_of-self-in-Err
-invariant_of-self-in-Err c =
-    let i = c.self.inside in
-    let live = i.store.live in
-    let held = c.reserve_room.new.assumptions in
-    let roots = c.reserve_room.new.roots in
+invariant_of-self-in-Err c = let i = c.self.inside in let live = i.store.live in
+    let held = c.reserve_room.new.assumptions in let roots = c.reserve_room.new.roots in
     let e = c.in-Err.ensures in
     let watch = watch_room c.reserve_room.ensures.more c.reserve_room.ensures.noted c.self.invariant.0 in
-    let d = c.in_ok-slot.ensures.stored in
-    let w = c.arrange-arranged.ensures.arranged d.0 d.1 in
-    let fewer = λ (l s : ℕ) (x : Clause) (is : maps.get live s ≡ Some x). e.fitting w.0 w.1 l s x (λ same. absurd (none-some x (sym (ap (maps.get live) same ∙ c.in_ok-slot.ensures.free) ∙ is))) in
-    let back = c.remove_clause.ensures.live ∙ removed_back live c.arrange-arranged.new.store.live c.in_ok-slot.slot c.in_ok-slot.ensures.free (λ s ne. c.arrange-arranged.ensures.others s ne ∙ c.in_ok-slot.ensures.others s ne) in (
-      simp (back, e.err_rest) (watch_same i.is_loading live i.lists c.add_entries.new.lists i.units roots held e.err_watched fewer e.err_entries watch),
-      c.remove_clause.ensures.live_alone ∙ sym (literals_ordered c.remove_clause.new.store.live),
-      c.remove_clause.ensures.closure,
-      simp (back, e.err_tautologies) c.self.invariant.3,
-    )
+    let d = c.in_ok-slot.ensures.stored in let w = c.arrange-arranged.ensures.arranged d.0 d.1 in
+    let fewer = λ (l s : ℕ) (x : Clause) (is : maps.get live s ≡ Some x). e.fitting w.0 w.1 l s x (grind (arith, none-some)) in
+    let back = c.remove_clause.ensures.live ∙ removed_back live c.arrange-arranged.new.store.live c.in_ok-slot.slot c.in_ok-slot.ensures.free (grind arith) in (grind (arith, watch_same, literals_ordered))
 
 pub returns-in-Ok-clause-free : goal.returns-in-Ok-clause-free
-returns-in-Ok-clause-free c =
-    ap (λ w. maps.get w.propagation.live c.in_ok-slot.slot) (sym c.self.view_is) ∙ get_ordered c.self.inside.store.live c.in_ok-slot.slot ∙ ap (option_map in_order) c.in_ok-slot.ensures.free
+returns-in-Ok-clause-free c = grind (arith, get_ordered)
 
 pub returns-in-Ok-clause-stored : goal.returns-in-Ok-clause-stored
-returns-in-Ok-clause-stored c =
-    let d = c.in_ok-slot.ensures.stored in
+returns-in-Ok-clause-stored c = let d = c.in_ok-slot.ensures.stored in
     let w = c.arrange-arranged.ensures.arranged d.0 d.1 in (
       in_order w.0,
       grind (arith, seen_there),
@@ -119,28 +90,21 @@ returns-in-Ok-clause-stored c =
     )
 
 pub returns-in-Ok-clause-others : goal.returns-in-Ok-clause-others
-returns-in-Ok-clause-others c s apart =
-    get_ordered c.arrange-arranged.new.store.live s ∙ ap (option_map in_order) (grind arith) ∙ sym (get_ordered c.self.inside.store.live s)
-    ∙ ap (λ w. maps.get w.propagation.live s) c.self.view_is
+returns-in-Ok-clause-others c s apart = grind (arith, get_ordered)
 
 pub returns-in-Ok-clause-live_alone : goal.returns-in-Ok-clause-live_alone
-returns-in-Ok-clause-live_alone c = c.arrange-arranged.ensures.live_alone ∙ sym (grind (arith, literals_ordered))
+returns-in-Ok-clause-live_alone c = grind (arith, literals_ordered)
 
 pub returns-in-Err-clause-live_alone : goal.returns-in-Err-clause-live_alone
-returns-in-Err-clause-live_alone c = c.remove_clause.ensures.live_alone ∙ sym (literals_ordered c.remove_clause.new.store.live)
+returns-in-Err-clause-live_alone c = grind (arith, literals_ordered)
 
 pub returns-in-Err-clause-err : goal.returns-in-Err-clause-err
-returns-in-Err-clause-err c =
-    let i = c.self.inside in
-    grind (arith, removed_back, literals_ordered, same_state)
+returns-in-Err-clause-err c = grind (arith, removed_back, literals_ordered, same_state)
 
 pub invariant_of-self : goal.invariant_of-self
 invariant_of-self c =
     let r = c.reserve_room.ensures in search (watch_room r.more r.noted c.self.invariant.0)
 
 pub invariant_of-self-in_err-slot : goal.invariant_of-self-in_err-slot
-invariant_of-self-in_err-slot c =
-    let i = c.self.inside in
-    let r = c.reserve_room.ensures in
-    let watch = watch_room r.more r.noted c.self.invariant.0 in
-    grind arith
+invariant_of-self-in_err-slot c = let r = c.reserve_room.ensures in
+    let watch = watch_room r.more r.noted c.self.invariant.0 in grind arith

@@ -1,53 +1,39 @@
-use Rattle.std.proofs.Common.{arith, ◌/◌, is_some, sym, ap, ◌∙◌}
-use Rattle.std.specs.FinMap as maps
-use Rattle.root_literals.{specs.Order.each_in_order, proofs.RootLemmas.Order.ordered_remove}
-use Rattle.root_literals.proofs.RootLemmas.Order.{alive_alike, alive_clause, literals_ordered}
 use Rattle.propagation.proofs.PropagationLemmas.Scan.{room_removed}
-use Rattle.watch.proofs.WatchLemmas.State.{lists_low, loaded_all, alone_kept, tautologies_removed}
+use Rattle.root_literals.proofs.RootLemmas.Reasons.{alive_alike, alive_clause, literals_ordered}
+use Rattle.root_literals.{proofs.RootLemmas.Reasons.ordered_remove, specs.Order.each_in_order}
+use Rattle.std.proofs.Common.{ap, arith, is_some, sym, ◌/◌, ◌∙◌}
+use Rattle.watch.proofs.WatchLemmas.State.{alone_kept, lists_low, loaded_all, tautologies_removed}
 use Rattle.watch.proofs.WatchLemmas.State.{tautologies_there, watch_put_back, watch_removed}
+use Rattle.std.specs.FinMap as maps
 use Rattle.watch.proofs.watch.WatchPropagate.remove.Goals as goal
 
 pub remove_entries-requires-clause-alive : goal.remove_entries-requires-clause-alive
-remove_entries-requires-clause-alive c =
-    sym (grind (arith, alive_alike)) ∙ ap (λ w. is_some (maps.get w.propagation.live c.args.slot)) c.self.view_is ∙ c.requires.alive
+remove_entries-requires-clause-alive c = grind (arith, alive_alike)
 
 pub remove_clause-requires-clause-alive : goal.remove_clause-requires-clause-alive
-remove_clause-requires-clause-alive c =
-    sym (grind (arith, alive_alike)) ∙ ap (λ w. is_some (maps.get w.propagation.live c.args.slot)) c.self.view_is ∙ c.requires.alive
+remove_clause-requires-clause-alive c = grind (arith, alive_alike)
 
 pub leave-requires-clause-alive : goal.leave-requires-clause-alive
-leave-requires-clause-alive c =
-    sym (grind (arith, alive_alike)) ∙ ap (λ w. is_some (maps.get w.propagation.live c.args.slot)) c.self.view_is ∙ c.requires.alive
+leave-requires-clause-alive c = grind (arith, alive_alike)
 
 pub leave-requires-clause-kept : goal.leave-requires-clause-kept
-leave-requires-clause-kept c =
-    let i = c.self.inside in
-    grind (arith, alone_kept)
+leave-requires-clause-kept c = grind (arith, alone_kept)
 
 pub remove_entries-requires-clause-listed : goal.remove_entries-requires-clause-listed
-remove_entries-requires-clause-listed c loaded =
-    let i = c.self.inside in
-    grind (arith, loaded_all, watch_put_back)
+remove_entries-requires-clause-listed c loaded = grind (arith, loaded_all, watch_put_back)
 
 pub remove_entries-requires-clause-low : goal.remove_entries-requires-clause-low
-remove_entries-requires-clause-low c =
-    let i = c.self.inside in
-    grind (arith, lists_low, alive_alike)
+remove_entries-requires-clause-low c = grind (arith, lists_low, alive_alike)
 
 pub remove_entries-requires-clause-tautologies : goal.remove_entries-requires-clause-tautologies
-remove_entries-requires-clause-tautologies c =
-    tautologies_there c.self.inside.store.live c.self.inside.tautologies c.self.invariant.3
+remove_entries-requires-clause-tautologies c = grind (arith, tautologies_there)
 
 pub invariant_of-self : goal.invariant_of-self
-invariant_of-self c =
-    let i = c.self.inside in
-    let live = i.store.live in
-    let after = c.remove_clause.new.store.live in
-    let slot = c.args.slot in
+invariant_of-self c = let i = c.self.inside in let live = i.store.live in
+    let after = c.remove_clause.new.store.live in let slot = c.args.slot in
     let left = c.leave.ensures in
     let watch = watch_put_back i.is_loading live i.lists c.leave.new.lists i.units i.roots i.assumptions left.lists c.self.invariant.0 in
-    let held = c.leave.new.assumptions in
-    let e = c.remove_entries.ensures in
+    let held = c.leave.new.assumptions in let e = c.remove_entries.ensures in
     let d = alive_clause live slot (sym (alive_alike live slot) ∙ ap (λ w. is_some (maps.get w.propagation.live slot)) c.self.view_is ∙ c.requires.alive) in
     let gone = ap each_in_order c.remove_clause.ensures.live ∙ ordered_remove live slot in
     let room = room_removed i.assumptions.trail.reserved (each_in_order live) (each_in_order after) slot gone watch.scan.room in (
@@ -62,8 +48,7 @@ invariant_of-self c =
     )
 
 pub returns-clause-live : goal.returns-clause-live
-returns-clause-live c =
-    ap each_in_order c.remove_clause.ensures.live ∙ ordered_remove c.self.inside.store.live c.args.slot ∙ ap (λ w. maps.remove w.propagation.live c.args.slot) c.self.view_is
+returns-clause-live c = grind (arith, ordered_remove)
 
 pub returns-clause-live_alone : goal.returns-clause-live_alone
-returns-clause-live_alone c = c.remove_clause.ensures.live_alone ∙ sym (literals_ordered c.remove_clause.new.store.live)
+returns-clause-live_alone c = grind (arith, literals_ordered)

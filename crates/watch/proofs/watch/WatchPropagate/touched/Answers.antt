@@ -1,6 +1,6 @@
 use Rattle.std.proofs.{Common.sym, Common.subst, lemmas.Result.on_ok_weaker}
 use Rattle.clause_db.specs.Store.{IsTouchedAt}
-use Rattle.root_literals.proofs.RootLemmas.Order.{seen_touched, touched_seen}
+use Rattle.root_literals.proofs.RootLemmas.Reasons.{seen_touched, touched_seen}
 use Rattle.watch.proofs.watch.WatchPropagate.touched.Goals as goal
 
 pub returns-clause-each : goal.returns-clause-each

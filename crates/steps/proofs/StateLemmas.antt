@@ -1,28 +1,145 @@
--- States under other names.
-use Rattle.std.proofs.Common.{◌≡◌, ℕ, zero, suc, ◌+◌, ◌-◌, ◌<◌, Bool, true, cond, eqb, Option, Some}
-use Rattle.std.proofs.Common.{None, option_map, List, [], ◌∷◌, map, slice_get, refl, sym, ap, ◌∙◌}
-use Rattle.std.proofs.Common.{subst, arith, inl, inr, eqb-true, eq-eqb, rules}
-use Rattle.std.proofs.lemmas.{Bool.or_right, Bool.false≢true, List.Sums.sum_by-cons}
-use Rattle.std.{proofs.lemmas.Option.slice_get-map, specs.Prelude.sum_by, specs.List.list_any}
+-- States under other names, and what is said of each literal of their clauses.
+use Rattle.cnf_base.proofs.SetLemmas.{has_head, has_tail, same_itself, same_there, same_trans}
+use Rattle.cnf_base.specs.Literals.{Clause, Literal, complement, has, same_clause, size, variable}
+use Rattle.numbering.{proofs.NameLemmas.told, specs.Names.name_in, specs.Names.number_in}
+use Rattle.proofs.specs.{Steps.Step, declared.step_buf.StepKind.StepKind}
+use Rattle.std.proofs.Common.{Bool, List, None, Option, Some, T, [], ap, arith, cond, eq-eqb, eqb}
+use Rattle.std.proofs.Common.{eqb-true, false, inl, inr, length, map, nat_cmp, option_map, refl}
+use Rattle.std.proofs.Common.{rules, slice_get, subst, suc, sym, true, zero, ℕ, ◌&&◌, ◌+◌, ◌-◌}
+use Rattle.std.proofs.{Common.◌<◌, Common.◌∙◌, Common.◌∷◌, Common.◌≡◌, lemmas.Bool.false≢true}
+use Rattle.std.proofs.lemmas.{Bool.or_right, List.Sums.sum_by-cons}
+use Rattle.std.proofs.lemmas.{List.length-map, Option.none-some, Option.slice_get-map}
+use Rattle.std.specs.FinMap.{Entries.below_all, FinMap}
+use Rattle.std.specs.{FinMap.find, FinMap.is_sorted, List.list_any, Ordering.is_lt, Prelude.nat_abs}
+use Rattle.{std.specs.Prelude.sum_by, std.specs.Prelude.⊤, steps.specs.Code.Naming.AreAllAmong}
+use Rattle.steps.specs.Code.Naming.{AreAmong, IsGiven, LiveAmong, mapped_values, with_lits}
+use Rattle.theory.proofs.DratLemmas.Copies.{alive_at, alive_copies}
+use Rattle.theory.proofs.DratLemmas.Copies.{copies-cons, copies-take_off, copies_alive, covers_of}
+use Rattle.theory.proofs.{LratLemmas.Sums.sum_agree, RenamingLemmas.Clauses.GoesTo}
+use Rattle.theory.proofs.RenamingLemmas.Clauses.{Renames, back_there, has_is, same_mapped, take_has}
+use Rattle.theory.proofs.RenamingLemmas.{Drat.after_mapped, Forced.Carries, Forced.carries_back}
+use Rattle.theory.proofs.RenamingLemmas.Forced.{clash_image, forced_image, reason_image}
+use Rattle.theory.proofs.RenamingLemmas.Verdicts.{renamed_complement, renames}
+use Rattle.theory.specs.Drat.{DratStep, SameLive, after_drat, copies_of, drat_step_of, take_off}
+use Rattle.theory.specs.{Losses.DeleteLoses, Losses.LosesRootLiteral, Losses.StepLoses, Lrat.SameAt}
+use Rattle.theory.specs.Lrat.{after_lrat, step_of, with_clause, without_id, without_ids}
+use Rattle.theory.specs.Propagation.{Forced, IsClosed, Live}
+use Rattle.theory.specs.Renaming.{AreUndone, IsRenamed, IsUndone, renamed, step_renamed}
+use Rattle.theory.specs.Rules.{Same, State, after, by_copies, by_ids, literals_of, with_input}
+use Rattle.theory.specs.declared.accepted.Accepted.{Accepted, TheVariants.Deleted}
+use Rattle.proofs.specs.declared.step_buf.StepKind.TheVariants as kinds
+use Rattle.std.specs.FinMap as maps
 use Rattle.theory.specs.Drat as d
-use Rattle.cnf_base.specs.Literals.{Literal, Clause, variable, has, same_clause, size, complement}
-use Rattle.cnf_base.proofs.SetLemmas.{has_head, has_tail, same_itself, same_trans}
-use Rattle.theory.specs.declared.accepted.Accepted.TheVariants.{Deleted, Rup, Rat, Pr, Empty}
-use Rattle.theory.specs.declared.accepted.Accepted.{TheVariants.Ignored, Accepted}
-use Rattle.theory.specs.{Drat.take_off, Drat.copies_of, Drat.SameLive, Lrat.SameAt, Sizes.size_at}
-use Rattle.theory.specs.Rules.{State, by_ids, by_copies, Same, with_input, literals_of}
-use Rattle.theory.specs.Renaming.{renamed, IsUndone, AreUndone, IsRenamed, step_renamed}
-use Rattle.theory.specs.Losses.{LosesRootLiteral, DeleteLoses, StepLoses}
-use Rattle.theory.specs.Propagation.{Live, IsClosed, Forced}
-use Rattle.theory.proofs.DratLemmas.Copies.{copies-cons, copies-take_off, copies_alive}
-use Rattle.theory.proofs.DratLemmas.Copies.{alive_copies, alive_at}
-use Rattle.theory.proofs.RenamingLemmas.Clauses.{same_mapped, has_is, AreAmong, Renames, GoesTo}
-use Rattle.theory.proofs.{RenamingLemmas.Clauses.back_there, LratLemmas.Sums.sum_agree}
-use Rattle.theory.proofs.RenamingLemmas.Verdicts.{renames, renamed_complement}
-use Rattle.theory.proofs.RenamingLemmas.Forced.{Carries, carries_back, forced_image, clash_image}
-use Rattle.theory.proofs.RenamingLemmas.{Forced.reason_image, Drat.after_mapped}
-use Rattle.steps.proofs.NamingLemmas.Among.{taken_among}
-use Rattle.proofs.specs.Steps.{Step}
+
+pub given_undone : (names : List ℕ) (l : Literal) → IsGiven names l → number_in names (name_in names (variable l)) ≡ variable l
+given_undone names l given = cc (told names given.0 given.1)
+
+-- ---- Maps whose values are changed
+
+module _ (f : Clause → Clause) where
+  abbrev changed : List (ℕ × Clause) → List (ℕ × Clause)
+  changed es = map (λ e. (e.0, f e.1)) es
+
+  below_changed : (k : ℕ) (es : List (ℕ × Clause)) → below_all nat_cmp k (changed es) ≡ below_all nat_cmp k es
+  below_changed k [] = refl
+  below_changed k (e ∷ es) = ap (λ b. is_lt (nat_cmp k e.0) && b) (below_changed k es)
+
+  sorted_changed : (es : List (ℕ × Clause)) → is_sorted nat_cmp (changed es) ≡ is_sorted nat_cmp es
+  sorted_changed [] = refl
+  sorted_changed (e ∷ es) = ap (λ b. b && is_sorted nat_cmp (changed es)) (below_changed e.0 es) ∙ ap (λ b. below_all nat_cmp e.0 es && b) (sorted_changed es)
+
+  find_changed : (k : ℕ) (es : List (ℕ × Clause)) → find nat_cmp k (changed es) ≡ option_map f (find nat_cmp k es)
+  find_changed k [] = refl
+  find_changed k (e ∷ es) = search (rules, arith, nat_cmp, option_map, (find_changed k es))
+
+  values_changed : (es : List (ℕ × Clause)) → map (λ e. e.1) (changed es) ≡ map f (map (λ e. e.1) es)
+  values_changed [] = refl
+  values_changed (e ∷ es) = ap (λ cs. f e.1 ∷ cs) (values_changed es)
+
+  module _ (m : FinMap nat_cmp Clause) where
+    rising : T (is_sorted nat_cmp (changed (maps.entries m)))
+    rising = subst T (sym (sorted_changed (maps.entries m))) (maps.entries_sorted m)
+
+    pub mapped_entries : maps.entries (mapped_values f m) ≡ changed (maps.entries m)
+    unfolding mapped_values
+    mapped_entries = maps.entries-from_sorted nat_cmp (changed (maps.entries m)) rising
+
+    pub mapped_get : (k : ℕ) → maps.get (mapped_values f m) k ≡ option_map f (maps.get m k)
+    mapped_get k = maps.get-entries (mapped_values f m) k ∙ ap (find nat_cmp k) mapped_entries
+        ∙ find_changed k (maps.entries m) ∙ ap (option_map f) (sym (maps.get-entries m k))
+
+    pub mapped_list : maps.values (mapped_values f m) ≡ map f (maps.values m)
+    mapped_list = ap (map (λ e. e.1)) mapped_entries ∙ values_changed (maps.entries m)
+
+  pub mapped_empty : mapped_values f maps.empty ≡ maps.empty
+  mapped_empty = maps.empty_of_len (mapped_values f maps.empty)
+      (maps.len-entries (mapped_values f maps.empty) ∙ ap length (mapped_entries maps.empty) ∙ length-map (maps.entries maps.empty) (λ e. (e.0, f e.1))
+      ∙ sym (maps.len-entries maps.empty) ∙ maps.len-empty nat_cmp Clause)
+
+-- ---- What is said of each literal of the live clauses
+
+module _ (among : Literal → Type 0) where
+  -- ---- The same sets
+
+  pub same_among : (s t : State) → Same s t → AreAllAmong among t → AreAllAmong among s
+  same_among s t h h2 = grind (arith, covers_of, same_there)
+
+  -- ---- One more clause, and fewer
+
+  pub with_among : (live : Live) (id : ℕ) (c : Clause) → AreAmong among c → LiveAmong among live → LiveAmong among (with_clause live id c)
+  with_among live id c a w k x = grind arith
+
+  pub without_among : (ids : List ℕ) (live : Live) → LiveAmong among live → LiveAmong among (without_ids live ids)
+  without_among [] live w = w
+  without_among (id ∷ ids) live w = without_among ids (without_id live id) (λ k x. by k x (eqb k id))
+    where
+      by : (k : ℕ) (x : Clause) (b : Bool) → cond b None (live k) ≡ Some x → AreAmong among x
+      by k x b h = grind (arith, none-some)
+
+  pub taken_among : (c : Clause) (live : List Clause) → LiveAmong among (slice_get live) → LiveAmong among (slice_get (take_off c live))
+  taken_among c [] w = w
+  taken_among c (e ∷ live) w = by (same_clause c e) (taken_among c live (λ k. w (suc k)))
+    where
+      kept : LiveAmong among (slice_get (take_off c live)) → LiveAmong among (slice_get (e ∷ take_off c live))
+      kept rest zero x at = w zero x at
+      kept rest (suc k) x at = rest k x at
+
+      by : (b : Bool) → LiveAmong among (slice_get (take_off c live)) → LiveAmong among (slice_get (cond b live (e ∷ take_off c live)))
+      by true rest = λ k. w (suc k)
+      by false rest = kept rest
+
+  -- ---- After a step
+
+  -- the clause that a step adds
+  abbrev AddsAmong : DratStep → Type 0
+  AddsAmong (d.add c witness) = AreAmong among c
+  AddsAmong (d.delete c) = ⊤
+
+  drat_among : (live : List Clause) (step : DratStep) (word : Accepted) → AddsAmong step → LiveAmong among (slice_get live) → LiveAmong among (slice_get (after_drat live step word))
+  drat_among live step word h h2 = grind (arith, taken_among)
+
+  pub after_among : (s : State) (lits : List Literal) (step : Step) (word : Accepted) → AreAllAmong among s → AreAmong among lits → AreAllAmong among (after s (with_lits lits step) word)
+  after_among (by_ids s) lits step word w a = by step.kind
+    where
+      by : (kind : StepKind) → AreAllAmong among (by_ids (after_lrat s (step_of kind step.id lits step.hints)))
+      by kinds.Add = with_among s.live step.id lits a w
+      by kinds.Delete = without_among (map nat_abs step.hints) s.live w
+  after_among (by_copies rules live) lits step word w a = drat_among live (drat_step_of rules step.kind lits) word (grind (arith, take_has)) w
+
+  -- a deletion adds no literal, whatever its own are
+  pub deleted_among : (s : State) (lits : List Literal) (step : Step) (word : Accepted) → step.kind ≡ kinds.Delete → AreAllAmong among s → AreAllAmong among (after s (with_lits lits step) word)
+  deleted_among (by_ids s) lits step word is w =
+      subst (λ kind. AreAllAmong among (by_ids (after_lrat s (step_of kind step.id lits step.hints)))) (sym is) (without_among (map nat_abs step.hints) s.live w)
+  deleted_among (by_copies rules live) lits step word is w = grind (arith, drat_among)
+
+  pub input_among : (s : State) (c : Clause) → AreAllAmong among s → AreAmong among c → AreAllAmong among (with_input s c)
+  input_among s c h h2 = grind arith
+
+-- a list with a literal that no live clause holds is no live clause
+pub lacks : (lits : List Literal) (l : Literal) (live : List Clause) → has lits l ≡ true → ((k : ℕ) (c : Clause) → slice_get live k ≡ Some c → has c l ≡ false) → list_any (same_clause lits) live ≡ false
+lacks lits l live member none = grind (arith, alive_at, same_there)
+
+-- ---- States under other names
 
 -- literals whose names can be told
 abbrev pub IsTold : (name back : ℕ → ℕ) → Literal → Type 0
@@ -43,8 +160,7 @@ module _ (name back : ℕ → ℕ) where
       SameAt (option_map (map (renamed name)) a) (option_map (map (renamed name)) b)
   at_same None None a_told b_told same = tt
   at_same (Some c) (Some e) a_told b_told same = same_mapped (renamed name) (renamed back) (IsTold name back) (renames name back) c e (a_told c refl) (b_told e refl) ∙ same
-  at_same None (Some e) a_told b_told same = absurd same
-  at_same (Some c) None a_told b_told same = absurd same
+  at_same a b a_told b_told same = absurd same
 
   take_off_renamed : (c : Clause) (live : List Clause) → IsUndone name back c → AreUndone name back (slice_get live) →
       take_off (map (renamed name) c) (map (map (renamed name)) live) ≡ map (map (renamed name)) (take_off c live)
@@ -90,29 +206,18 @@ module _ (name back : ℕ → ℕ) where
     p.0 ∙ same.0 ∙ sym q.0,
     record { copies = λ e. ap (copies_of e) p.1 ∙ copies_renamed live others p.2 q.2 same.1 e ∙ ap (copies_of e) (sym q.1) },
   )
-  renamed_same (by_ids s) (by_ids t) (by_ids other_s) (by_copies _ _) p q same = absurd q
-  renamed_same (by_ids s) (by_ids t) (by_copies _ _) other_t p q same = absurd p
-  renamed_same (by_ids s) (by_copies _ _) other_s other_t p q same = absurd same
-  renamed_same (by_copies _ _) (by_ids t) other_s other_t p q same = absurd same
-  renamed_same (by_copies _ _) (by_copies _ _) (by_ids other_s) other_t p q same = absurd p
-  renamed_same (by_copies _ _) (by_copies _ _) (by_copies _ _) (by_ids other_t) p q same = absurd q
+  renamed_same s t other_s other_t p q same = grind arith
 
   -- ---- One more clause of the formula
 
-  pub renamed_input : (s other : State) (c : Clause) → IsRenamed name back s other → IsUndone name back c → IsRenamed name back (with_input s c) (with_input other (map (renamed name) c))
-  renamed_input s other c h h2 = search rules
-
   -- ---- Sizes
 
-  size_renamed : (c : Clause) → IsUndone name back c → size (map (renamed name) c) ≡ size c
+  pub size_renamed : (c : Clause) → IsUndone name back c → size (map (renamed name) c) ≡ size c
   size_renamed [] told = refl
   size_renamed (l ∷ c) told =
       ap (λ b. cond b (size (map (renamed name) c)) (1 + size (map (renamed name) c)))
       (has_is (renamed name) (renamed back) (IsTold name back) (renames name back) c (λ k h. told k (has_tail l c k h)) l (told l (has_head l c)))
       ∙ ap (λ n. cond (has c l) n (1 + n)) (size_renamed c (λ k h. told k (has_tail l c k h)))
-
-  size_at_renamed : (o : Option Clause) → ((c : Clause) → o ≡ Some c → IsUndone name back c) → size_at (option_map (map (renamed name)) o) ≡ size_at o
-  size_at_renamed o h = search (rules, arith, size_renamed)
 
   sizes_renamed : (live : List Clause) → AreUndone name back (slice_get live) → sum_by size (map (map (renamed name)) live) ≡ sum_by size live
   sizes_renamed [] undone = refl
@@ -125,10 +230,9 @@ module _ (name back : ℕ → ℕ) where
       )
 
   pub renamed_size : (s other : State) → IsRenamed name back s other → literals_of other ≡ literals_of s
-  renamed_size (by_ids s) (by_ids t) r = search (rules, arith, sum_agree, size_at_renamed)
+  renamed_size (by_ids s) (by_ids t) r = grind (arith, sum_agree, size_renamed)
   renamed_size (by_copies rules live) (by_copies rules_too other) r = cc (sizes_renamed live r.2)
-  renamed_size (by_ids s) (by_copies _ _) r = absurd r
-  renamed_size (by_copies _ _) (by_ids t) r = absurd r
+  renamed_size s other r = absurd r
 
 -- ---- Root-level literals that deletions lose
 
@@ -179,11 +283,7 @@ module _ (name back : ℕ → ℕ) where
 
     loses_there : (word : Accepted) → DeleteLoses live c word → DeleteLoses (map (map (renamed name)) live) (map (renamed name) c) word
     loses_there Deleted loses = loses_image (renamed name) (renamed back) (IsTold name back) (renamed_complement back) _ _ _ _ before_carried after_carried c loses
-    loses_there Ignored loses = absurd loses
-    loses_there Rup loses = absurd loses
-    loses_there Rat loses = absurd loses
-    loses_there Pr loses = absurd loses
-    loses_there Empty loses = absurd loses
+    loses_there word loses = absurd loses
 
     loses_back : (word : Accepted) → DeleteLoses (map (map (renamed name)) live) (map (renamed name) c) word → DeleteLoses live c word
     loses_back Deleted loses =
@@ -192,16 +292,11 @@ module _ (name back : ℕ → ℕ) where
         (carries_back (renamed name) (renamed back) (IsTold name back) _ _ before_carried (renamed_complement back))
         (carries_back (renamed name) (renamed back) (IsTold name back) _ _ after_carried (renamed_complement back))
         (map (renamed name) c) loses)
-    loses_back Ignored loses = absurd loses
-    loses_back Rup loses = absurd loses
-    loses_back Rat loses = absurd loses
-    loses_back Pr loses = absurd loses
-    loses_back Empty loses = absurd loses
+    loses_back word loses = absurd loses
 
   pub renamed_loses : (s other : State) (step : Step) (word : Accepted) → IsRenamed name back s other → IsUndone name back step.lits →
       (StepLoses s step word → StepLoses other (step_renamed (renamed name) step) word) × (StepLoses other (step_renamed (renamed name) step) word → StepLoses s step word)
   renamed_loses (by_ids s) (by_ids t) step word r told = (λ loses. loses, λ loses. loses)
   renamed_loses (by_copies rules live) (by_copies rules_too other) step word r told =
       grind (arith, loses_there, loses_back)
-  renamed_loses (by_ids s) (by_copies _ _) step word r told = absurd r
-  renamed_loses (by_copies _ _) (by_ids t) step word r told = absurd r
+  renamed_loses s other step word r told = absurd r

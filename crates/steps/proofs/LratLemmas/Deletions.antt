@@ -1,1 +1,0 @@
--- Deletions, identifier by identifier.
