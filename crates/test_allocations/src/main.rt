@@ -216,14 +216,9 @@ fn bind_and_unbind(alloc: Global, times: u64) -> Result<u64, Fault> {
     Ok(count)
 }
 
-fn make_calls(
-    alloc: Global,
-    name: &str,
-    header: &str,
-    lits: &[Lit],
-    times: u64,
-) -> Result<u64, Fault> {
-    match name {
+/// Reads what is named, if anything is.
+fn read_named(alloc: Global, name: &str, header: &str, times: u64) -> Result<Option<u64>, Fault> {
+    let count = match name {
         "drat_additions" => read_drat(alloc, b"1 -2 0\n", times),
         "drat_deletions" => read_drat(alloc, b"d 1 -2 0\n", times),
         "binary_additions" => read_binary(alloc, b"a\x02\x05\x00", times),
@@ -231,10 +226,26 @@ fn make_calls(
         "lrat_additions" => read_lrat(alloc, b"5 1 -2 0 3 4 0\n", times),
         "lrat_deletions" => read_lrat(alloc, b"5 d 3 4 0\n", times),
         "formula" => read_formula(alloc, header, times),
+        _ => return Ok(None),
+    };
+    Ok(Some(count?))
+}
+
+/// Stores and removes, or checks, what is named, if anything is.
+fn store_named(alloc: Global, name: &str, lits: &[Lit], times: u64) -> Result<Option<u64>, Fault> {
+    let count = match name {
         "store" => store_and_remove(alloc, lits, times),
         "store_of_many" => store_many_and_remove(alloc, times),
         "identifiers" => bind_and_unbind(alloc, times),
         "lrat_session" => pairs::check_pairs(alloc, lits, times),
+        _ => return Ok(None),
+    };
+    Ok(Some(count?))
+}
+
+/// Binds the identifiers that are named, or none.
+fn hold_named(alloc: Global, name: &str, times: u64) -> Result<u64, Fault> {
+    match name {
         "held_side_by_side" => bind_rows(alloc, 1024, 1024, times),
         "held_2_apart" => bind_rows(alloc, 1, 2, times),
         "held_4_apart" => bind_rows(alloc, 1, 4, times),
@@ -245,6 +256,22 @@ fn make_calls(
         "held_by_turns" => bind_by_turns(alloc, times),
         _ => Ok(0),
     }
+}
+
+fn make_calls(
+    alloc: Global,
+    name: &str,
+    header: &str,
+    lits: &[Lit],
+    times: u64,
+) -> Result<u64, Fault> {
+    if let Some(count) = read_named(alloc, name, header, times)? {
+        return Ok(count);
+    }
+    if let Some(count) = store_named(alloc, name, lits, times)? {
+        return Ok(count);
+    }
+    hold_named(alloc, name, times)
 }
 
 fn times_of(words: &[String]) -> u64 {

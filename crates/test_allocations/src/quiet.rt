@@ -320,9 +320,38 @@ fn model(alloc: Global, l: Lit, is_called: bool) -> Result<bool, Fault> {
     Ok(is_called && model.holds(l))
 }
 
-/// Carries out what is named, if anything is, and tells whether the calls came to what they should.
-/// Those that take no memory are made only where they are called for.
-pub fn carry_out(
+fn by_reader(alloc: Global, name: &str, is_called: bool) -> Result<Option<bool>, Fault> {
+    let is_done = match name {
+        "quiet_literals" => is_called && has_next_slot(-268435455),
+        "quiet_buffers" => is_called && buffers(alloc),
+        "quiet_lines" => is_called && lines(&[b'x'; 200]),
+        "quiet_source" => source(alloc, is_called)?,
+        "quiet_scanner" => scanner(alloc, is_called)?,
+        "quiet_readers" => readers(alloc, is_called)?,
+        _ => return Ok(None),
+    };
+    Ok(Some(is_done))
+}
+
+fn by_store(
+    alloc: Global,
+    name: &str,
+    literals: &Literals<'_>,
+    is_called: bool,
+) -> Result<Option<bool>, Fault> {
+    let Literals { few, many, .. } = *literals;
+    let is_done = match name {
+        "quiet_trail" => trail(alloc, many, is_called)?,
+        "quiet_store" => store::<Blocks>(alloc, &few, many, is_called)?,
+        "quiet_slots" => store::<Slots>(alloc, &few, many, is_called)?,
+        "quiet_ids" => ids(alloc, 1, is_called)?,
+        "quiet_far_ids" => ids(alloc, PAGES, is_called)?,
+        _ => return Ok(None),
+    };
+    Ok(Some(is_done))
+}
+
+fn by_session(
     alloc: Global,
     name: &str,
     literals: &Literals<'_>,
@@ -331,17 +360,6 @@ pub fn carry_out(
     let Literals { few, many, .. } = *literals;
     let [l, other] = few;
     let is_done = match name {
-        "quiet_literals" => is_called && has_next_slot(-268435455),
-        "quiet_buffers" => is_called && buffers(alloc),
-        "quiet_lines" => is_called && lines(&[b'x'; 200]),
-        "quiet_source" => source(alloc, is_called)?,
-        "quiet_scanner" => scanner(alloc, is_called)?,
-        "quiet_readers" => readers(alloc, is_called)?,
-        "quiet_trail" => trail(alloc, many, is_called)?,
-        "quiet_store" => store::<Blocks>(alloc, &few, many, is_called)?,
-        "quiet_slots" => store::<Slots>(alloc, &few, many, is_called)?,
-        "quiet_ids" => ids(alloc, 1, is_called)?,
-        "quiet_far_ids" => ids(alloc, PAGES, is_called)?,
         "quiet_scan" => clauses(Scan::new(alloc)?, &few, many, l, is_called)?,
         "quiet_watch" => clauses(Watch::new(alloc)?, &few, many, l, is_called)?,
         "quiet_assumption" => assumption(Scan::new(alloc)?, &few, many, is_called)?,
@@ -351,4 +369,21 @@ pub fn carry_out(
         _ => return Ok(None),
     };
     Ok(Some(is_done))
+}
+
+/// Carries out what is named, if anything is, and tells whether the calls came to what they should.
+/// Those that take no memory are made only where they are called for.
+pub fn carry_out(
+    alloc: Global,
+    name: &str,
+    literals: &Literals<'_>,
+    is_called: bool,
+) -> Result<Option<bool>, Fault> {
+    if let Some(is_done) = by_reader(alloc, name, is_called)? {
+        return Ok(Some(is_done));
+    }
+    if let Some(is_done) = by_store(alloc, name, literals, is_called)? {
+        return Ok(Some(is_done));
+    }
+    by_session(alloc, name, literals, is_called)
 }
