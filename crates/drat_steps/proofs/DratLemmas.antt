@@ -1,5 +1,3 @@
 pub mod Candidates
 pub mod Losses
-pub mod Slots
 pub mod Steps
-pub mod Witnesses

@@ -1,4 +1,3 @@
 pub mod LratLemmas
 pub mod NamingLemmas
-pub mod SessionLemmas
 pub mod StateLemmas

@@ -4,41 +4,40 @@ use Rattle.cnf_base.proofs.SetLemmas.{has_append_cases, has_append_left, has_app
 use Rattle.cnf_base.proofs.{SetLemmas.has_cases, SetLemmas.same_there, WalkLemmas.has_more}
 use Rattle.cnf_base.specs.Literals.{Clause, Literal, complement, complements, has, without}
 use Rattle.live_clauses.{proofs.ClausesLemmas.Distinct.distinct_more, specs.LiveClauses.AllHold}
-use Rattle.{live_clauses.specs.LiveClauses.Holds, proofs.specs.Steps.Step}
-use Rattle.{proofs.specs.declared.step_buf.StepKind.TheVariants.Delete, std.proofs.Common.Bool}
-use Rattle.std.proofs.Common.{Err, List, None, Ok, Option, Some, [], ap}
+use Rattle.proofs.specs.{Steps.Step, declared.step_buf.StepKind.TheVariants.Delete}
+use Rattle.std.proofs.Common.{Bool, Err, List, None, Ok, Option, Some, [], ap}
 use Rattle.std.proofs.Common.{append-nil, arith, cond, drop, eqb, eqb-true, false, get_or, inl, inr}
 use Rattle.std.proofs.Common.{is_some, length, map, nat_abs, nat_eq, negsuc, not, of_z, option_map}
-use Rattle.std.proofs.Common.{pos, refl, rules, slice_get, slice_index, subst, suc, sym, take, to_z}
-use Rattle.std.proofs.Common.{true, w64, ℕ, ℤ, ◌&&◌, ◌++◌, ◌+◌, ◌<◌, ◌||◌, ◌∙◌, ◌∷◌, ◌≡◌, ◌≤◌}
-use Rattle.std.proofs.lemmas.Bool.{Decides.nat_tests, and_parts, cases_eq}
-use Rattle.std.proofs.lemmas.Bool.{cases_lt, false_from_ne_true, not-true, or_cases, true≢false}
-use Rattle.std.proofs.lemmas.{Grind.common_steps, Grind.get_or_default_zero, Int.to_z-of_z}
-use Rattle.std.proofs.lemmas.List.{Folds.list_any-append, drop_more, take_all}
+use Rattle.std.proofs.Common.{pos, refl, rules, slice_get, slice_index, subst, suc, sym, take}
+use Rattle.std.proofs.Common.{to_z, true, w64, ℕ, ℤ, ◌&&◌, ◌++◌, ◌+◌, ◌<◌, ◌||◌, ◌∙◌, ◌∷◌, ◌≡◌, ◌≤◌}
+use Rattle.std.proofs.lemmas.Bool.{and_parts, cases_eq, cases_lt, false_from_ne_true}
+use Rattle.std.proofs.lemmas.Bool.{not-true, or_cases, true≢false, Decides.nat_tests}
+use Rattle.std.proofs.lemmas.List.{drop_more, take_all, Folds.list_any-append}
 use Rattle.std.proofs.lemmas.Map.Keys.{Less-from_sorted, sorted_from_strictly_increasing}
 use Rattle.std.proofs.lemmas.Option.{none-some, same_Some}
-use Rattle.std.specs.{Bool.then_some, FinMap.FinMap, FinMap.get-empty, List.IsDistinct}
-use Rattle.std.specs.{List.Sorted.IsStrictlyIncreasing, List.list_any, Option.IfNone}
-use Rattle.std.specs.{Option.option_or, Ordering.nat_cmp, Prelude.⊤, Result.OnOk}
+use Rattle.std.proofs.lemmas.{Grind.common_steps, Grind.get_or_default_zero, Int.to_z-of_z}
+use Rattle.std.specs.List.{IsDistinct, list_any, Sorted.IsStrictlyIncreasing}
 use Rattle.std.specs.declared.{cmp.Ordering.TheVariants.Less, result.Result.Result}
+use Rattle.std.specs.{Bool.then_some, FinMap.FinMap, FinMap.get-empty}
+use Rattle.std.specs.{Option.IfNone, Option.option_or, Ordering.nat_cmp, Prelude.⊤, Result.OnOk}
 use Rattle.steps.specs.Code.Groups.{IsFirstLeftOut, IsGroupEnd, is_unnamed, named_in}
 use Rattle.steps.specs.Code.{Groups.needs_group_at, Ready.IsReady, Walk.IsEnd, Walk.refusal_at}
-use Rattle.steps.specs.declared.lrat.walk.WalkEnd.TheVariants.{Conflict, NotUnit}
-use Rattle.steps.specs.declared.lrat.walk.WalkEnd.{TheVariants.Open, TheVariants.UnknownId, WalkEnd}
+use Rattle.steps.specs.declared.lrat.walk.WalkEnd.TheVariants.{Conflict, NotUnit, Open, UnknownId}
 use Rattle.theory.proofs.LratLemmas.LiveSets.{SameClauses-eq, SameClauses-refl}
 use Rattle.theory.proofs.LratLemmas.SameSets.{chain_alike, same_set_more}
-use Rattle.theory.{proofs.PropagationLemmas.Conflicts.conflicts_same, specs.Answers.StepAnswer}
-use Rattle.theory.specs.{Answers.UnlessOutOfMemory, Lrat.AnswersChain, Lrat.AnswersGroups}
 use Rattle.theory.specs.Lrat.{ChainEnd, Group, LratState, SameClauses, after_lrat, chain}
 use Rattle.theory.specs.Lrat.{chain_refusal, conflict, group_refusal, groups_of, groups_refusal}
-use Rattle.theory.specs.Lrat.{is_left_out, is_unsettled, look_at, lrat_step, open_with, units_of}
-use Rattle.theory.specs.Lrat.{with_candidate, with_clause, without_id, without_ids}
-use Rattle.theory.specs.{Propagation.Live, Propagation.open_literals, Sets.SameSet, Sets.conflicts}
-use Rattle.theory.specs.declared.{accepted.Accepted.TheVariants.Rat, refusal.Refusal.Refusal}
+use Rattle.theory.specs.Lrat.{is_left_out, is_unsettled, look_at, lrat_step, open_with}
+use Rattle.theory.specs.Lrat.{units_of, with_candidate, with_clause, without_id, without_ids}
 use Rattle.theory.specs.declared.refusal.Refusal.TheVariants.{Ended, GroupWithoutConflict}
 use Rattle.theory.specs.declared.refusal.Refusal.TheVariants.{NamedTwice, NotCandidate}
-use Rattle.trail.specs.{Left.how_many, Trail.HasRoom, Trail.TrailState}
+use Rattle.theory.specs.declared.{accepted.Accepted.TheVariants.Rat, refusal.Refusal.Refusal}
+use Rattle.theory.specs.{Answers.UnlessOutOfMemory, Lrat.AnswersChain, Lrat.AnswersGroups}
+use Rattle.theory.specs.{Propagation.Live, Propagation.open_literals, Sets.SameSet, Sets.conflicts}
+use Rattle.theory.{proofs.PropagationLemmas.Conflicts.conflicts_same, specs.Answers.StepAnswer}
 use Rattle.trail.specs.declared.left.Left.TheVariants.{More, Nothing, One}
+use Rattle.trail.specs.{Left.how_many, Trail.HasRoom, Trail.TrailState}
+use Rattle.{live_clauses.specs.LiveClauses.Holds, steps.specs.declared.lrat.walk.WalkEnd.WalkEnd}
 use lib.Signed.{lt_z}
 use mir.Val.{SFits}
 use Rattle.std.specs.FinMap as maps
@@ -99,7 +98,7 @@ chain_same live (k ∷ hints) first second same =
     let on_first : Literal → ChainEnd = λ l. chain live (l ∷ first) hints in
     let on_second : Literal → ChainEnd = λ l. chain live (l ∷ second) hints in
     let looks : look_first ≡ look_second = ap (λ (f : Clause → Clause). option_map f (live k)) (λ i c. open_same first second c same i) in
-    subst (λ b. Gives (chain live first (k ∷ hints)) (cond b conflict (look_at k look_second on_second))) (conflicts_same first second same)
+    rw (← (conflicts_same first second same))
     (elim (conflicts first) as (λ b. Gives (cond b conflict (look_at k look_first on_first)) (cond b conflict (look_at k look_second on_second))) [
       | true ↦ λ trues end h. h
       | false ↦ subst (λ o. Gives (look_at k look_first on_first) (look_at k o on_second)) looks
@@ -152,13 +151,13 @@ module _ (live : Live) (ls : List Literal) (pivot : Literal) (earlier : List ℕ
 -- the walk over a group's hints, from literals that conflict, or that do not
 pub chain_conflict : (live : Live) (ls : List Literal) (hints : List ℕ) → conflicts ls ≡ true → chain live ls hints ≡ conflict
 chain_conflict live ls [] h = ap (λ b. cond b conflict (open_with ls)) h
-chain_conflict live ls (k ∷ hints) h = ap (λ b. cond b conflict (look_at k (option_map (open_literals ls) (live k)) (λ l. chain live (l ∷ ls) hints))) h
+chain_conflict live ls (k ∷ hints) h = grind arith
 
 module _ (live : Live) (ls : List Literal) (c : Clause) (opposite : Literal) (hints : List ℕ) where
   pub group_walks : (start trues : List Literal) → SameSet start (ls ++ complements (without c opposite)) → (walked end : WalkEnd) → IsEnd trues walked (chain live start hints) → end ≡ walked → IsGroupEnd live ls c opposite hints end
   group_walks start trues same walked end h end_is = record {
     trues = trues;
-    is = subst (λ w. IsEnd trues w (chain live (ls ++ complements (without c opposite)) hints)) (sym end_is) (chain_same live hints start (ls ++ complements (without c opposite)) same trues walked h);
+    is = grind (arith, chain_same);
   }
 
 -- ---- The groups in their order
@@ -186,14 +185,10 @@ module _ (live : Live) (ls : List Literal) (pivot : Literal) where
 
 module _ (hints : List ℤ) (i : ℕ) (inside : i < length hints) (fits : SFits w64 (get_or hints i (pos 0))) (named : List ℕ) (same : SameSet named (named_in (take i hints))) where
   pub named_kept : lt_z (read hints i) (pos 0) ≡ false → SameSet named (named_in (take (i + 1) hints))
-  named_kept test j = same j ∙ ap (λ ks. has ks j) (sym (grind (arith, append-nil, common_steps, named_append)))
+  named_kept test j = grind (arith, append-nil, common_steps, named_append)
 
   pub named_grows : (k : ℕ) → lt_z (read hints i) (pos 0) ≡ true → k ≡ nat_abs (read hints i) → (after : List ℕ) → ((j : ℕ) → has after j ≡ has named j || eqb k j) → SameSet after (named_in (take (i + 1) hints))
-  named_grows k test k_is after more j =
-      more j ∙ ap (λ b. b || eqb k j) (same j) ∙ sym (ap (λ ks. has ks j) (grind (arith, common_steps, named_append)) ∙ list_any-append (λ m. eqb m j) (named_in (take i hints)) (k ∷ []) ∙ last (has (named_in (take i hints)) j) (eqb k j))
-    where
-      last : (a b : Bool) → a || (b || false) ≡ a || b
-      last a b = grind arith
+  named_grows k test k_is after more j = grind (arith, common_steps, named_append, list_any-append)
 
 pub when_none : {X : Type 0} (o : Option X) (P : Type 0) → is_some o ≡ false → IfNone o P → P
 when_none o P h h2 = grind arith
@@ -233,7 +228,7 @@ first_is (l ∷ c) pivot h = (c, ap (λ k. k ∷ c) (same_Some l pivot (sym h)))
 
 module _ (live : Live) (c : Clause) (hints : List ℕ) (before : List Literal) (none : before ≡ []) where
   pub units_conflict : conflicts (before ++ complements c) ≡ true → (trues : List Literal) → IsEnd trues Conflict (chain live (complements c) hints)
-  units_conflict h trues = subst (IsEnd trues Conflict) (sym (chain_conflict live (complements c) hints (grind arith))) tt
+  units_conflict h trues = grind (arith, chain_conflict)
 
   pub units_walk : (start trues : List Literal) → SameSet start (before ++ complements c) → (walked : WalkEnd) → IsEnd trues walked (chain live start hints) → IsEnd trues walked (chain live (complements c) hints)
   units_walk start trues same walked h = search (rules, arith, chain_same)
@@ -272,9 +267,9 @@ in_front : (ids : List ℕ) → IsStrictlyIncreasing ids → (i x j : ℕ) → i
 in_front ids rising i x j inside is below member =
     let place = place_of ids j member in let m = place.0 in
     elim (cases_lt m i) [
-      | inl before ↦ cc (has_front ids i m before place.1)
+      | inl before ↦ grind (arith, has_front)
       | inr from_on ↦ elim (cases_eq i m) [
-        | inl e ↦ search (rules, arith, get_or_default_zero, get_or)
+        | inl e ↦ grind (arith, get_or_default_zero)
         | inr apart ↦
             let later : i < m = omega (arith, from_on, apart) in
             let rise = from_less (get_or ids i 0) (get_or ids m 0) (Less-from_sorted nat_cmp ids i m 0 (sorted_from_strictly_increasing ids rising) later place.1) in
@@ -320,9 +315,9 @@ module _ (live : Live) (ls : List Literal) (pivot : Literal) (named : List ℕ) 
       item = sym (get_or_default_zero ids i (slice_index ids i) inside)
 
       pub passed_more : is_unnamed live ls pivot named (slice_index ids i) ≡ false → Passed (i + 1)
-      passed_more here k member = elim (or_cases (has (take i ids) k) (eqb (slice_index ids i) k) (sym (has_more ids i inside (slice_index ids i) item k) ∙ member)) [
+      passed_more here k member = elim (or_cases _ _ (sym (has_more ids i inside (slice_index ids i) item k) ∙ member)) [
         | inl before ↦ passed k before
-        | inr same ↦ grind (arith, eqb-true, slice_index)
+        | inr same ↦ grind (arith, eqb-true)
       ]
 
       pub first_found : IsStrictlyIncreasing ids → ((k : ℕ) → Holds live (complement pivot) k → has ids k ≡ true) → is_unnamed live ls pivot named (slice_index ids i) ≡ true → IsFirstLeftOut live ls pivot named (Some (slice_index ids i))

@@ -1,35 +1,32 @@
 -- A step under numbers is the step under the names that were given.
 use Rattle.cnf_base.proofs.SetLemmas.{all_each, has_head, has_tail}
-use Rattle.cnf_base.specs.Literals.{Clause, Literal, has, same_clause}
-use Rattle.{cnf_base.specs.Literals.variable, numbering.proofs.NameLemmas.has_new_all}
+use Rattle.cnf_base.specs.Literals.{Clause, Literal, has, same_clause, variable}
 use Rattle.numbering.proofs.NameLemmas.{kept_has_all, kept_number_all, next_is_not_given, told}
 use Rattle.numbering.specs.Names.{name_in, number_in, with_names}
 use Rattle.proofs.specs.{Steps.Step, declared.step_buf.StepKind.StepKind}
 use Rattle.std.proofs.Common.{Bool, Err, IfOk, List, None, Ok, OnOk, Option, Some, [], ap, arith}
-use Rattle.std.proofs.Common.{cond, eqb, false, is_none, map, option_map}
-use Rattle.std.proofs.Common.{refl, rules, slice_get, subst, suc, sym, true, ℕ, ◌%◌, ◌*◌, ◌+◌, ◌↔◌}
-use Rattle.std.proofs.{Common.◌∙◌, Common.◌∷◌, Common.◌≡◌, Common.◌⊎◌, lemmas.Bool.false≢true}
-use Rattle.std.proofs.lemmas.{List.nil_from_length, Option.none-some, Option.same_Some}
-use Rattle.std.{proofs.lemmas.Option.slice_get-map, specs.Bool.then_some, specs.List.list_all}
+use Rattle.std.proofs.Common.{cond, eqb, false, is_none, map, option_map, refl, rules, slice_get}
+use Rattle.std.proofs.Common.{subst, suc, sym, true, ℕ, ◌%◌, ◌*◌, ◌+◌, ◌↔◌, ◌∙◌, ◌∷◌, ◌≡◌, ◌⊎◌}
+use Rattle.std.proofs.lemmas.Option.{none-some, same_Some, slice_get-map}
 use Rattle.std.specs.{List.list_any, Option.option_or, Ordering.nat_cmp, Prelude.nat_abs, Prelude.⊤}
-use Rattle.steps.proofs.{LratLemmas.unless_map, StateLemmas.IsTold, StateLemmas.after_among}
-use Rattle.steps.proofs.StateLemmas.{deleted_among, given_undone, input_among, lacks, mapped_empty}
-use Rattle.steps.proofs.StateLemmas.{mapped_get, mapped_list, renamed_loses}
+use Rattle.std.{proofs.lemmas.List.nil_from_length, specs.Bool.then_some, specs.List.list_all}
+use Rattle.steps.proofs.StateLemmas.{IsTold, after_among, deleted_among, given_undone, input_among}
+use Rattle.steps.proofs.StateLemmas.{lacks, mapped_empty, mapped_get, mapped_list, renamed_loses}
 use Rattle.steps.proofs.StateLemmas.{renamed_same, renamed_size, same_among, without_among}
-use Rattle.steps.specs.Code.Naming.{AreAllAmong, AreAmong, IsAbsent, IsGiven}
-use Rattle.steps.specs.Code.Naming.{LiveAmong, answer_with, mapped_values, names_after, under_names}
-use Rattle.steps.specs.{Code.Naming.with_lits, Session.Held, Session.state_of}
-use Rattle.{steps.specs.Session.state_under, theory.proofs.RenamingLemmas.Clauses.has_mapped}
-use Rattle.theory.proofs.RenamingLemmas.{Clauses.mapped_has, Lrat.without_all_mapped}
-use Rattle.theory.proofs.RenamingLemmas.Verdicts.{renames, step_answers}
-use Rattle.theory.{proofs.RenamingLemmas.Verdicts.step_leaves, specs.Answers.StepAnswer}
-use Rattle.theory.specs.{Answers.UnlessOutOfMemory, Losses.StepLoses, Lrat.Group, Lrat.after_lrat}
-use Rattle.theory.specs.Lrat.{deletion_refusal, group_refusal, groups_refusal, step_of, without_id}
-use Rattle.theory.specs.{Propagation.Live, Renaming.IsRenamed, Renaming.IsUndone, Renaming.renamed}
-use Rattle.theory.specs.{Renaming.step_renamed, Rules.Answers, Rules.Rule, Rules.Same, Rules.State}
-use Rattle.theory.specs.Rules.{after, by_copies, by_ids, drat, literals_of, lrat, with_input}
-use Rattle.theory.specs.declared.{accepted.Accepted.Accepted, refusal.Refusal.Refusal}
+use Rattle.steps.specs.Code.Naming.{AreAllAmong, AreAmong, IsAbsent, IsGiven, LiveAmong}
+use Rattle.steps.specs.Code.Naming.{answer_with, mapped_values, names_after, under_names, with_lits}
+use Rattle.steps.specs.Session.{Held, state_of, state_under}
+use Rattle.theory.proofs.RenamingLemmas.Clauses.{has_mapped, mapped_has}
+use Rattle.theory.proofs.RenamingLemmas.Verdicts.{renames, step_answers, step_leaves}
+use Rattle.theory.specs.Lrat.{Group, after_lrat, deletion_refusal, group_refusal, groups_refusal}
+use Rattle.theory.specs.Renaming.{IsRenamed, IsUndone, renamed, step_renamed}
+use Rattle.theory.specs.Rules.{State, after, by_copies, by_ids, drat, literals_of, lrat, with_input}
 use Rattle.theory.specs.declared.refusal.Refusal.TheVariants.{NeitherRupNorRat, UnknownId}
+use Rattle.theory.specs.{Answers.StepAnswer, Losses.StepLoses, declared.accepted.Accepted.Accepted}
+use Rattle.theory.specs.{Answers.UnlessOutOfMemory, Lrat.step_of, Lrat.without_id, Propagation.Live}
+use Rattle.theory.specs.{Rules.Answers, Rules.Rule, Rules.Same, declared.refusal.Refusal.Refusal}
+use Rattle.{numbering.proofs.NameLemmas.has_new_all, steps.proofs.LratLemmas.unless_map}
+use Rattle.{std.proofs.lemmas.Bool.false≢true, theory.proofs.RenamingLemmas.Lrat.without_all_mapped}
 use Rattle.proofs.specs.declared.step_buf.StepKind.TheVariants as kinds
 use Rattle.std.specs.FinMap as maps
 

@@ -1,32 +1,34 @@
--- States under other names, and what is said of each literal of their clauses.
+-- States under other names, what is said of their literals, and sessions under either rule.
 use Rattle.cnf_base.proofs.SetLemmas.{has_head, has_tail, same_itself, same_there, same_trans}
 use Rattle.cnf_base.specs.Literals.{Clause, Literal, complement, has, same_clause, size, variable}
 use Rattle.numbering.{proofs.NameLemmas.told, specs.Names.name_in, specs.Names.number_in}
 use Rattle.proofs.specs.{Steps.Step, declared.step_buf.StepKind.StepKind}
-use Rattle.std.proofs.Common.{Bool, List, None, Option, Some, T, [], ap, arith, cond, eq-eqb, eqb}
-use Rattle.std.proofs.Common.{eqb-true, false, inl, inr, length, map, nat_cmp, option_map, refl}
-use Rattle.std.proofs.Common.{rules, slice_get, subst, suc, sym, true, zero, ℕ, ◌&&◌, ◌+◌, ◌-◌}
-use Rattle.std.proofs.{Common.◌<◌, Common.◌∙◌, Common.◌∷◌, Common.◌≡◌, lemmas.Bool.false≢true}
-use Rattle.std.proofs.lemmas.{Bool.or_right, List.Sums.sum_by-cons}
-use Rattle.std.proofs.lemmas.{List.length-map, Option.none-some, Option.slice_get-map}
-use Rattle.std.specs.FinMap.{Entries.below_all, FinMap}
-use Rattle.std.specs.{FinMap.find, FinMap.is_sorted, List.list_any, Ordering.is_lt, Prelude.nat_abs}
-use Rattle.{std.specs.Prelude.sum_by, std.specs.Prelude.⊤, steps.specs.Code.Naming.AreAllAmong}
-use Rattle.steps.specs.Code.Naming.{AreAmong, IsGiven, LiveAmong, mapped_values, with_lits}
+use Rattle.std.proofs.Common.{Bool, IfOk, List, None, OnOk}
+use Rattle.std.proofs.Common.{Option, Some, T, [], ap, arith, cond, eq-eqb, eqb, eqb-true, false}
+use Rattle.std.proofs.Common.{inl, inr, length, map, nat_cmp, option_map, refl, rules, slice_get}
+use Rattle.std.proofs.Common.{subst, suc, sym, true, zero, ℕ, ◌&&◌, ◌+◌, ◌-◌, ◌<◌, ◌∙◌, ◌∷◌, ◌≡◌}
+use Rattle.std.proofs.lemmas.{Bool.false≢true, Bool.or_right, List.length-map}
+use Rattle.std.proofs.lemmas.{List.Sums.sum_by-cons, Option.none-some, Option.slice_get-map}
+use Rattle.std.specs.FinMap.{FinMap, find, is_sorted, Entries.below_all}
+use Rattle.std.specs.{List.list_any, Ordering.is_lt, Prelude.nat_abs, Prelude.sum_by, Prelude.⊤}
+use Rattle.steps.specs.Code.Naming.{AreAllAmong, AreAmong, IsGiven, LiveAmong, mapped_values}
+use Rattle.steps.specs.{Code.Naming.with_lits, Session.Held, Session.state_of}
 use Rattle.theory.proofs.DratLemmas.Copies.{alive_at, alive_copies}
 use Rattle.theory.proofs.DratLemmas.Copies.{copies-cons, copies-take_off, copies_alive, covers_of}
-use Rattle.theory.proofs.{LratLemmas.Sums.sum_agree, RenamingLemmas.Clauses.GoesTo}
-use Rattle.theory.proofs.RenamingLemmas.Clauses.{Renames, back_there, has_is, same_mapped, take_has}
-use Rattle.theory.proofs.RenamingLemmas.{Drat.after_mapped, Forced.Carries, Forced.carries_back}
-use Rattle.theory.proofs.RenamingLemmas.Forced.{clash_image, forced_image, reason_image}
+use Rattle.theory.proofs.LratLemmas.{States.has_model_copies, States.has_model_same, Sums.sum_agree}
+use Rattle.theory.proofs.RenamingLemmas.Clauses.{GoesTo, Renames, back_there, has_is, same_mapped}
+use Rattle.theory.proofs.RenamingLemmas.Forced.{Carries, clash_image, forced_image, reason_image}
 use Rattle.theory.proofs.RenamingLemmas.Verdicts.{renamed_complement, renames}
+use Rattle.theory.proofs.RenamingLemmas.{Clauses.take_has, Drat.after_mapped, Forced.carries_back}
 use Rattle.theory.specs.Drat.{DratStep, SameLive, after_drat, copies_of, drat_step_of, take_off}
-use Rattle.theory.specs.{Losses.DeleteLoses, Losses.LosesRootLiteral, Losses.StepLoses, Lrat.SameAt}
-use Rattle.theory.specs.Lrat.{after_lrat, step_of, with_clause, without_id, without_ids}
-use Rattle.theory.specs.Propagation.{Forced, IsClosed, Live}
+use Rattle.theory.specs.Losses.{DeleteLoses, LosesRootLiteral, StepLoses}
+use Rattle.theory.specs.Lrat.{SameAt, after_lrat, step_of, with_clause, without_id, without_ids}
 use Rattle.theory.specs.Renaming.{AreUndone, IsRenamed, IsUndone, renamed, step_renamed}
 use Rattle.theory.specs.Rules.{Same, State, after, by_copies, by_ids, literals_of, with_input}
 use Rattle.theory.specs.declared.accepted.Accepted.{Accepted, TheVariants.Deleted}
+use Rattle.theory.specs.{Answers.StepAnswer, Answers.UnlessOutOfMemory, Rules.IsSatisfiable}
+use Rattle.theory.specs.{Propagation.Forced, Propagation.IsClosed, Propagation.Live, Rules.Answers}
+use Rattle.{cnf_base.proofs.MapLemmas.sum_empty, theory.proofs.LawLemmas.Rules.keeps}
 use Rattle.proofs.specs.declared.step_buf.StepKind.TheVariants as kinds
 use Rattle.std.specs.FinMap as maps
 use Rattle.theory.specs.Drat as d
@@ -46,7 +48,7 @@ module _ (f : Clause → Clause) where
 
   sorted_changed : (es : List (ℕ × Clause)) → is_sorted nat_cmp (changed es) ≡ is_sorted nat_cmp es
   sorted_changed [] = refl
-  sorted_changed (e ∷ es) = ap (λ b. b && is_sorted nat_cmp (changed es)) (below_changed e.0 es) ∙ ap (λ b. below_all nat_cmp e.0 es && b) (sorted_changed es)
+  sorted_changed (e ∷ es) = grind (arith, nat_cmp, below_changed, (sorted_changed es))
 
   find_changed : (k : ℕ) (es : List (ℕ × Clause)) → find nat_cmp k (changed es) ≡ option_map f (find nat_cmp k es)
   find_changed k [] = refl
@@ -223,7 +225,7 @@ module _ (name back : ℕ → ℕ) where
   sizes_renamed [] undone = refl
   sizes_renamed (c ∷ live) undone =
       cc (
-        (sum_by-cons size (map (renamed name) c) (map (map (renamed name)) live)),
+        (sum_by-cons _ _ _),
         (size_renamed c (undone zero c refl)),
         (sum_by-cons size c live),
         (sizes_renamed live (λ k. undone (suc k))),
@@ -242,7 +244,7 @@ module _ (there back : Literal → Literal) (among : Literal → Type 0) where
   forced_told live other s l forced = grind (arith, eqb-true, closed, false≢true)
     where
       closed : IsClosed live (λ k. eqb (back (there k)) k)
-      closed = record { unit = λ k c at m member others. eq-eqb (back (there m)) m (s.renames.undone m (s.within k c at m member)) }
+      closed = grind (arith, eq-eqb)
 
   module _ (commutes : (l : Literal) → complement (back l) ≡ back (complement l)) (before first after second : Live) (s : Carries there back among before first) (t : Carries there back among after second) where
     loses_image : (c : Clause) → LosesRootLiteral before after c → LosesRootLiteral first second (map there c)
@@ -265,7 +267,7 @@ module _ (there back : Literal → Literal) (among : Literal → Type 0) (r : Re
   listed : (live : List Clause) → ((k : ℕ) (c : Clause) → slice_get live k ≡ Some c → AreAmong among c) → Carries there back among (slice_get live) (slice_get (map (map there) live))
   listed live within = record {
     renames = r;
-    images = grind (arith, slice_get-map, map, option_map);
+    images = grind (arith, slice_get-map);
     images_back = λ k e at. image_back (slice_get live k) (within k) e (sym (slice_get-map (map there) live k) ∙ at);
     within = within;
   }
@@ -277,8 +279,7 @@ module _ (name back : ℕ → ℕ) where
 
     after_carried : Carries (renamed name) (renamed back) (IsTold name back) (slice_get (take_off c live)) (slice_get (take_off (map (renamed name) c) (map (map (renamed name)) live)))
     after_carried =
-        subst (λ o. Carries (renamed name) (renamed back) (IsTold name back) (slice_get (take_off c live)) (slice_get o))
-        (sym (after_mapped (renamed name) (renamed back) (IsTold name back) (renames name back) (renamed_complement back) live (d.delete c) Deleted undone told))
+        rw (after_mapped (renamed name) (renamed back) (IsTold name back) (renames name back) (renamed_complement back) live (d.delete c) Deleted undone told)
         (listed (renamed name) (renamed back) (IsTold name back) (renames name back) (take_off c live) (taken_among (IsTold name back) c live undone))
 
     loses_there : (word : Accepted) → DeleteLoses live c word → DeleteLoses (map (map (renamed name)) live) (map (renamed name) c) word
@@ -300,3 +301,13 @@ module _ (name back : ℕ → ℕ) where
   renamed_loses (by_copies rules live) (by_copies rules_too other) step word r told =
       grind (arith, loses_there, loses_back)
   renamed_loses s other step word r told = absurd r
+
+-- ---- What holds of a session under either rule
+
+-- where no clause is alive, there are no literals
+pub none_held : (held : Held) → held.live ≡ maps.empty → held.top ≡ 0 → literals_of (state_of held) ≡ 0
+none_held held empty none = search (rules, arith, sum_empty)
+
+-- so an accepted step that leaves what the rule leaves keeps a model
+pub keeps_taken : (old new : State) (step : Step) (answer : StepAnswer) → UnlessOutOfMemory answer (Answers old step answer) → IfOk answer (λ word. Same new (after old step word)) → OnOk answer (IsSatisfiable old → IsSatisfiable new)
+keeps_taken old new step answer h h2 = grind (arith, keeps, has_model_same, has_model_copies)

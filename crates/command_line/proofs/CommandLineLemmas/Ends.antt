@@ -1,23 +1,21 @@
 -- What the parse gives at the end: the defaults, the last checks, and what is read of the rows.
-use Rattle.std.proofs.Common.{arith, length, ◌≤◌, ◌≡◌, ◌∙◌, ap, sym, subst, codes, List, [], ◌∷◌}
-use Rattle.std.proofs.Common.{Bool, true, false, Option, Some, None, ℕ, cond, rules}
-use Rattle.std.proofs.lemmas.{Slice.Eq.bytes_eq-Decides, List.Folds.find-append}
-use Rattle.std.specs.Prelude.{◌&&◌, drop, is_some, option_and_then, slice_get}
-use Rattle.std.specs.{Str.bytes_eq, List.fold, Option.option_or}
-use Rattle.clap.specs.{Faults.fault_of, Faults.walk_fault, Simple.matches_of}
-use Rattle.clap.specs.Walk.{Row, Rule, Text, Walk, finished, first_of, nothing_held, one_of}
-use Rattle.clap.specs.Walk.{reading_by, row_text, settled_rows, walk, with_default}
+use Rattle.clap.specs.{Faults.fault_of, Faults.walk_fault, Simple.matches_of, Walk.Row, Walk.Text}
+use Rattle.clap.specs.Walk.{Walk, finished, first_of, one_of, reading_by, row_text, with_default}
 use Rattle.clap.specs.declared.parser.matches.ValueSource.TheVariants.{DefaultValue}
-use Rattle.command_line.specs.{Code.Commands.command_of, Words.is_among, Words.is_flag, Words.names}
-use Rattle.command_line.specs.declared.tool.Tool.{Tool}
-use Rattle.command_line.specs.declared.tool.Tool.TheVariants.{Drat, Lrat, Model}
-use Rattle.command_line.proofs.CommandLineLemmas.Rules.{fault_is, flag_full, files_and_texts}
+use Rattle.command_line.proofs.CommandLineLemmas.Rows.{at_end, has_row-row_for, row_for}
+use Rattle.command_line.proofs.CommandLineLemmas.Rules.{fault_is, files_and_texts, flag_full}
 use Rattle.command_line.proofs.CommandLineLemmas.Rules.{formula_full, matches_are, rules_of}
-use Rattle.command_line.proofs.CommandLineLemmas.{Rules.second_full, Rules.top_of, Rows.row_for}
-use Rattle.command_line.proofs.CommandLineLemmas.Rows.{at_end, has_row-row_for, option_or-None}
-use Rattle.command_line.proofs.CommandLineLemmas.Turns.{at, or_nil}
-use Rattle.command_line.proofs.CommandLineLemmas.Steps.{After, Shows, end_mark, file_row, flag_row}
-use Rattle.command_line.proofs.CommandLineLemmas.Steps.{start_after, words_after}
+use Rattle.command_line.proofs.CommandLineLemmas.{Rules.second_full, Rules.top_of, Steps.After}
+use Rattle.command_line.proofs.CommandLineLemmas.Steps.{Shows, end_mark, flag_row, start_after}
+use Rattle.command_line.proofs.CommandLineLemmas.{Steps.words_after, Turns.at, Turns.or_nil}
+use Rattle.command_line.specs.{Code.Commands.command_of, Words.is_among, Words.is_flag, Words.names}
+use Rattle.command_line.specs.declared.tool.Tool.TheVariants.{Drat, Lrat, Model}
+use Rattle.command_line.specs.declared.tool.Tool.{Tool}
+use Rattle.std.proofs.Common.{Bool, List, None, Option, Some, [], arith, codes}
+use Rattle.std.proofs.Common.{cond, false, length, rules, sym, ◌∙◌, ◌∷◌, ◌≡◌, ◌≤◌}
+use Rattle.std.proofs.lemmas.{List.Folds.find-append, Slice.Eq.bytes_eq-Decides}
+use Rattle.std.specs.{List.fold, Option.option_or, Prelude.drop, Prelude.option_and_then}
+use Rattle.std.specs.{Prelude.slice_get, Prelude.◌&&◌, Str.bytes_eq}
 
 -- ---- defaults
 
@@ -34,22 +32,9 @@ off_row name = record {
 abbrev off_for : Text → Text → Option Row
 off_for f id = cond (bytes_eq f id) (Some (off_row f)) None
 
-found_stays : (o : Option Row) (x : Option Row) → is_some o ≡ true → option_or o x ≡ o
-found_stays o x h = search rules
-
 flag_default : (f id : Text) (rows : List Row) → row_for id (with_default rows (flag_full f)) ≡ option_or (row_for id rows) (off_for f id)
 flag_default f id rows =
-    grind (
-      arith,
-      row_for,
-      found_stays,
-      bytes_eq-Decides,
-      has_row-row_for,
-      option_or-None,
-      flag_full,
-      at_end,
-      find-append,
-    )
+    grind (arith, row_for, bytes_eq-Decides, has_row-row_for, flag_full, at_end, find-append)
 
 files_default : (rows : List Row) → fold with_default rows files_and_texts ≡ rows
 files_default rows = search rules
@@ -61,9 +46,7 @@ end_row Lrat id o = option_or o (off_for (codes "trace") id)
 end_row Model id o = o
 
 pub row_at_end : (tool : Tool) (id : Text) (rows : List Row) → row_for id (fold with_default rows (rules_of tool)) ≡ end_row tool id (row_for id rows)
-row_at_end Drat id rows = simp (flag_full, row_for, files_default, flag_default)
-row_at_end Lrat id rows = simp (row_for, files_default, flag_full, flag_default)
-row_at_end Model id rows = ap (row_for id) (files_default rows)
+row_at_end tool id rows = search (rules, flag_full, row_for, files_default, flag_default)
 
 -- ---- what is read at the end
 
@@ -89,12 +72,6 @@ flag_texts : (tool : Tool) (set : Bool) → FlagTexts tool set
 unfolding text_at_end
 flag_texts tool set = search rules
 
-pub formula_row_end : (tool : Tool) (o : Option Row) → end_row tool (codes "formula") o ≡ o
-formula_row_end tool o = search rules
-
-second_row_end : (tool : Tool) (o : Option Row) → end_row tool (codes "second") o ≡ o
-second_row_end tool o = search rules
-
 -- what is read of the rows is what the words say
 pub record Reads (tool : Tool) (words : List Text) (rows : List Row) : Type 0 where
   pub binary : one_of (codes "binary") rows ≡ flag_text (is_flag tool (codes "--binary")) (is_among words (codes "--binary"))
@@ -106,27 +83,13 @@ pub record Reads (tool : Tool) (words : List Text) (rows : List Row) : Type 0 wh
   pub second : first_of (codes "second") rows ≡ slice_get (names tool words) 1
   pub few : length (names tool words) ≤ 2
 
-first_text : (a : Rule) (ns : List Text) (k : ℕ) → option_and_then (λ (r : Row). slice_get r.values 0) (file_row a ns k) ≡ slice_get ns k
-first_text a ns k = search rules
-
 reads_shown : (tool : Tool) (words ns : List Text) (rows : List Row) → length ns ≤ 2 → Shows tool words ns rows → Reads tool words (fold with_default rows (rules_of tool))
 unfolding text_at_end
 reads_shown tool words ns rows few s =
-    grind (
-      arith,
-      row_at_end,
-      flag_texts,
-      formula_row_end,
-      first_text,
-      formula_full,
-      second_row_end,
-      second_full,
-    )
+    grind (arith, row_at_end, flag_texts, formula_full, second_full)
 
 reads_after : (tool : Tool) (words : List Text) (w : Walk) → After tool words w → Reads tool words (finished (rules_of tool) w.held)
-reads_after tool words w a =
-    subst (λ (v : Walk). Reads tool words (finished (rules_of tool) v.held)) (sym a.is)
-    (reads_shown tool words a.ns (settled_rows (rules_of tool) a.pending a.rows) a.few a.shows)
+reads_after tool words w a = rw a.is (search (rules, reads_shown))
 
 -- a parse that succeeds reads what the words say
 pub parse_reads : (tool : Tool) (words : List Text) → fault_of (command_of tool) words ≡ [] → is_among (drop 1 words) end_mark ≡ false
@@ -134,4 +97,4 @@ pub parse_reads : (tool : Tool) (words : List Text) → fault_of (command_of too
 parse_reads tool words f free =
     let walked_free = (or_nil (walk_fault (top_of tool) [] (at [] None 1) (drop 1 words)) _ (sym (fault_is tool words) ∙ f)).0 in
     let a = words_after tool (drop 1 words) [] (at [] None 1) (start_after tool) free walked_free in
-    subst (Reads tool (drop 1 words)) (sym (matches_are tool words)) (reads_after tool (drop 1 words) (walk (rules_of tool) [] nothing_held (drop 1 words)) a)
+    rw (matches_are tool words) (search (rules, reads_after))

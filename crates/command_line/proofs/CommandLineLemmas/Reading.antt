@@ -1,24 +1,19 @@
 -- From a parse of the command to what the words say.
-use Rattle.std.proofs.Common.{arith, ◌≡◌, ◌∙◌, ap, sym, refl, codes, List, [], ◌∷◌, Bool}
-use Rattle.std.proofs.Common.{true, false, Option, Some, None, map, rules}
-use Rattle.std.specs.Prelude.{◌&&◌, drop, Err, string_bytes, String}
-use Rattle.std.specs.List.{list_all}
-use Rattle.clap.specs.Words.{App, FailsBy, Text, fault_of, found_of, is_simple_and_free, kind_of}
-use Rattle.clap.specs.Words.{one_of, one_text, rows_of}
-use Rattle.clap.specs.Simple.{HasMatchesOf, is_simple, matches_of}
+use Rattle.clap.{proofs.WalkLemmas.one_text-rows, specs.Simple.HasMatchesOf}
+use Rattle.clap.specs.{Simple.matches_of, Words.App, Words.FailsBy, Words.Text, Words.fault_of}
+use Rattle.clap.specs.Words.{found_of, is_simple_and_free, kind_of, one_of, one_text, rows_of}
 use Rattle.clap.specs.declared.{error.Error.Error, parser.matches.ArgMatches.ArgMatches}
-use Rattle.clap.proofs.WalkLemmas.{one_text-rows}
-use Rattle.clap.specs.declared.error.kind.ErrorKind.TheVariants as kind
-use Rattle.command_line.specs.{Code.Commands.command_of, declared.tool.Tool.Tool}
-use Rattle.command_line.specs.Words.{is_known, Accepts, end_mark, is_among, is_flag, said_by}
-use Rattle.command_line.proofs.CommandLineLemmas.Rules.{is_plain, is_simple_too}
-use Rattle.command_line.proofs.CommandLineLemmas.Ends.{Reads, flag_text, parse_reads}
-use Rattle.command_line.proofs.CommandLineLemmas.Known.{all_text, parse_knows}
 use Rattle.command_line.proofs.CommandLineLemmas.Accepted.{known_free, no_fault}
-
-pub said_is : {Z : Type 0} (words : List (String Z)) → drop 1 (map string_bytes words) ≡ said_by words
-said_is [] = refl
-said_is (word ∷ words) = refl
+use Rattle.command_line.proofs.CommandLineLemmas.Ends.{Reads, flag_text, parse_reads}
+use Rattle.command_line.proofs.CommandLineLemmas.{Known.all_text, Known.parse_knows, Rules.is_plain}
+use Rattle.command_line.specs.Code.Commands.{command_of}
+use Rattle.command_line.specs.Words.{Accepts, end_mark, is_among, is_flag, is_known, said_by}
+use Rattle.command_line.specs.declared.tool.Tool.{Tool}
+use Rattle.std.proofs.Common.{Bool, List, None, Option, Some, [], ap, arith}
+use Rattle.std.proofs.Common.{codes, false, map, rules, sym, true, ◌∙◌, ◌∷◌, ◌≡◌}
+use Rattle.std.specs.List.{list_all}
+use Rattle.std.specs.Prelude.{Err, String, string_bytes, ◌&&◌}
+use Rattle.clap.specs.declared.error.kind.ErrorKind.TheVariants as kind
 
 -- what `get_flag` gives
 flag_read : (has set b : Bool) (text : Option Text) → text ≡ flag_text has set → (text ≡ None → b ≡ false) → (text ≡ Some (codes "true") → b ≡ true)
@@ -31,10 +26,11 @@ module _ (tool : Tool) (app : App) (is : app ≡ command_of tool) {Z : Type 0} (
       → is_among (said_by ws) end_mark ≡ false → Reads tool (said_by ws) (rows_of (found_of m))
   reads m matches kinds free =
       let words = map string_bytes ws in
-      let none : fault_of (command_of tool) words ≡ [] = ap (λ a. fault_of a words) (sym is) ∙ kinds (ap is_simple_and_free is ∙ is_plain tool) in
-      let rows : rows_of (found_of m) ≡ matches_of (command_of tool) words = (matches (ap is_simple is ∙ is_simple_too tool)).0 ∙ ap (λ a. matches_of a words) is in
-      let read = parse_reads tool words none (ap (λ l. is_among l end_mark) (said_is ws) ∙ free) in
-      grind (arith, said_is)
+      let none : fault_of (command_of tool) words ≡ [] =
+      ap (λ a. fault_of a words) (sym is) ∙ kinds (grind arith) in
+      let rows : rows_of (found_of m) ≡ matches_of (command_of tool) words = grind arith in
+      let read = parse_reads tool words none (grind arith) in
+      grind arith
 
   -- what `get_flag` gives of it
   pub flag_given : (m : ArgMatches) → HasMatchesOf app (map string_bytes ws) m → (is_simple_and_free app ≡ true → fault_of app (map string_bytes ws) ≡ [])
@@ -44,14 +40,14 @@ module _ (tool : Tool) (app : App) (is : app ≡ command_of tool) {Z : Type 0} (
   flag_given m matches kinds free name read b = flag_read _ _ b (one_text (found_of m) name) (one_text-rows (found_of m) name ∙ read (reads m matches kinds free))
 
   -- each word of a parse that succeeds is known
-  pub knows : (is_simple_and_free app ≡ true → fault_of app (map string_bytes ws) ≡ []) → is_among (said_by ws) end_mark ≡ false
-      → list_all (is_known tool) (said_by ws) ≡ true
-  knows kinds free = search (rules, is_plain, parse_knows, said_is, all_text)
+  pub knows : (is_simple_and_free app ≡ true → fault_of app (map string_bytes ws) ≡ [])
+      → is_among (said_by ws) end_mark ≡ false → list_all (is_known tool) (said_by ws) ≡ true
+  knows kinds free = search (rules, is_plain, parse_knows, all_text)
 
   -- a parse that fails, where the words are accepted
   pub fails_for_memory : (e : Error) → (is_simple_and_free app ≡ true → FailsBy {T = ArgMatches} (fault_of app (map string_bytes ws)) (Err e))
       → Accepts tool (said_by ws) → kind_of e ≡ kind.OutOfMemory
-  fails_for_memory e kinds accepts = search (rules, no_fault, said_is, is_plain)
+  fails_for_memory e kinds accepts = search (rules, no_fault)
 
 -- accepted words have no `--`
 pub known_words : (tool : Tool) (words : List Text) → Accepts tool words → is_among words end_mark ≡ false

@@ -1,11 +1,11 @@
 -- The rows that uses add, and what is found in them.
-use Rattle.std.proofs.Common.{arith, ◌≡◌, refl, List, [], ◌∷◌, ◌++◌, append-nil}
-use Rattle.std.proofs.Common.{true, false, Option, Some, None, true≢false, rules}
-use Rattle.std.proofs.lemmas.List.{Folds.find-append, Folds.list_any-append, Elements.filter-append}
-use Rattle.std.specs.{Prelude.is_some, Str.bytes_eq, List.find, Option.option_or}
 use Rattle.clap.specs.Walk.{Row, Rule, Text, at_row, has_row, reading_by, with_values, without}
 use Rattle.clap.specs.declared.parser.matches.ValueSource.TheVariants.{CommandLine}
 use Rattle.command_line.specs.{Words.is_among, Words.is_flag, Words.names, declared.tool.Tool.Tool}
+use Rattle.std.proofs.Common.{List, None, Option, Some, [], append-nil, arith}
+use Rattle.std.proofs.Common.{false, refl, rules, true, true≢false, ◌++◌, ◌∷◌, ◌≡◌}
+use Rattle.std.proofs.lemmas.List.{Elements.filter-append, Folds.find-append, Folds.list_any-append}
+use Rattle.std.specs.{List.find, Prelude.is_some, Str.bytes_eq}
 
 abbrev pub row_for : Text → List Row → Option Row
 row_for id rows = find (λ r. bytes_eq r.id id) rows
@@ -27,12 +27,9 @@ pub used_first : (a : Rule) (values : List Text) (rows : List Row) → has_row a
     → with_values a.id (reading_by a) CommandLine values (without a.id rows) ≡ rows ++ new_row a values ∷ []
 used_first a values rows e = simp (at_end, append-nil)
 
-pub option_or-None : {X : Type 0} (o : Option X) → option_or o None ≡ o
-option_or-None o = search rules
-
 -- a row of another id changes nothing
 pub row_kept : (id : Text) (rows : List Row) (r : Row) → bytes_eq r.id id ≡ false → row_for id (rows ++ r ∷ []) ≡ row_for id rows
-row_kept id rows r e = search (rules, find-append, option_or-None)
+row_kept id rows r e = search (rules, find-append)
 
 pub row_added : (id : Text) (rows : List Row) (r : Row) → bytes_eq r.id id ≡ true → row_for id rows ≡ None → row_for id (rows ++ r ∷ []) ≡ Some r
 row_added id rows r e none = search (rules, find-append)

@@ -1,13 +1,12 @@
 -- What `clap` makes of the commands when it builds them.
-use Rattle.std.proofs.Common.{◌≡◌, codes, refl, List, [], ◌∷◌, true, false, rules}
-use Rattle.std.specs.Prelude.{drop}
 use Rattle.clap.specs.Faults.{built_fault, fault_of, is_simple_and_free, level_fault}
+use Rattle.clap.specs.Simple.{Shape, filled, help_rule, matches_of, version_rule, with_index}
 use Rattle.clap.specs.Walk.{Held, Rule, Text, nothing_held, rows_after}
-use Rattle.clap.specs.Simple.{Shape, filled, help_rule, is_simple, matches_of, version_rule}
-use Rattle.clap.specs.Simple.{with_index}
 use Rattle.command_line.specs.Code.Commands.{command_of, flag_rule, formula_rule, second_rule}
-use Rattle.command_line.specs.declared.tool.Tool.{Tool}
 use Rattle.command_line.specs.declared.tool.Tool.TheVariants.{Drat, Lrat, Model}
+use Rattle.command_line.specs.declared.tool.Tool.{Tool}
+use Rattle.std.proofs.Common.{List, [], codes, false, rules, true, ◌∷◌, ◌≡◌}
+use Rattle.std.specs.Prelude.{drop}
 
 abbrev pub flag_full : Text → Rule
 flag_full name = filled (flag_rule name)
@@ -63,14 +62,7 @@ abbrev pub top_of : Tool → Shape
 top_of tool = shape (name_of tool) (rules_of tool)
 
 pub is_plain : (tool : Tool) → is_simple_and_free (command_of tool) ≡ true
-is_plain Drat = refl
-is_plain Lrat = refl
-is_plain Model = refl
-
-pub is_simple_too : (tool : Tool) → is_simple (command_of tool) ≡ true
-is_simple_too Drat = refl
-is_simple_too Lrat = refl
-is_simple_too Model = refl
+is_plain tool = search rules
 
 leaf_fault : (s : Shape) (h : Held) (words : List Text) → built_fault (record { top = s; subs = [] }) h words ≡ level_fault s [] h words false []
 leaf_fault s h words = search rules

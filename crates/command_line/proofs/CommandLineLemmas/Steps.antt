@@ -1,24 +1,24 @@
 -- What is held after each word, and what the walk gives at the end.
-use Rattle.std.proofs.Common.{◌≤◌, ◌≡◌, ◌∙◌, ◌<◌, ap, sym, subst, refl, codes, List, [], ◌∷◌, ◌++◌}
-use Rattle.std.proofs.Common.{append_assoc, append-nil, Bool, true, false, Option, Some, None, ℕ}
-use Rattle.std.proofs.Common.{cond, suc, true≢false, ⊎_elim, arith, length, rules}
-use Rattle.std.{proofs.lemmas.Slice.Eq.bytes_eq-Decides, specs.Str.bytes_eq, specs.List.fold}
-use Rattle.std.specs.Prelude.{◌==◌, ◌&&◌, ◌||◌, is_some, option_map, slice_get}
-use Rattle.clap.specs.Faults.{settle_fault, step_fault, turn_fault, walk_fault}
-use Rattle.clap.specs.{Kinds.or_else, Walk.to_positional, Walk.used, Walk.value, Walk.walked}
-use Rattle.clap.specs.Walk.{Row, Rule, Text, Walk, arg_by_index, has_row, settled_rows}
 use Rattle.clap.proofs.OnLiterals.{clap_on_literals}
-use Rattle.clap.specs.declared.error.kind.ErrorKind.TheVariants as kind
-use Rattle.command_line.proofs.CommandLineLemmas.Rules.{flag_full, formula_full, name_of, rules_of}
-use Rattle.command_line.proofs.CommandLineLemmas.Rules.{second_full, top_of}
+use Rattle.clap.specs.Faults.{settle_fault, step_fault, turn_fault, walk_fault}
+use Rattle.clap.specs.{Kinds.or_else, Walk.Row, Walk.Rule, Walk.Text, Walk.Walk}
+use Rattle.clap.specs.Walk.{arg_by_index, has_row, settled_rows, to_positional, used, value, walked}
 use Rattle.command_line.proofs.CommandLineLemmas.Rows.{among_added, among_kept, has_row-row_for}
-use Rattle.command_line.proofs.CommandLineLemmas.Rows.{names_added, names_kept, new_row, row_added}
-use Rattle.command_line.proofs.CommandLineLemmas.Rows.{row_for, row_kept, used_first}
-use Rattle.command_line.proofs.CommandLineLemmas.Turns.{at, cons_not_nil, holding, hyphen_taken}
+use Rattle.command_line.proofs.CommandLineLemmas.Rows.{names_added, names_kept, new_row}
+use Rattle.command_line.proofs.CommandLineLemmas.Rows.{row_added, row_for, row_kept, used_first}
+use Rattle.command_line.proofs.CommandLineLemmas.Rules.{flag_full, formula_full, name_of}
+use Rattle.command_line.proofs.CommandLineLemmas.Rules.{rules_of, second_full, top_of}
+use Rattle.command_line.proofs.CommandLineLemmas.Turns.{at, holding, hyphen_taken}
 use Rattle.command_line.proofs.CommandLineLemmas.Turns.{name_met, or_nil, plain_taken}
 use Rattle.command_line.specs.Words.{is_among, is_flag, is_set, names}
-use Rattle.command_line.specs.declared.tool.Tool.{Tool}
 use Rattle.command_line.specs.declared.tool.Tool.TheVariants.{Drat, Lrat, Model}
+use Rattle.command_line.specs.declared.tool.Tool.{Tool}
+use Rattle.std.proofs.Common.{Bool, List, None, Option, Some, [], append-nil, append_assoc}
+use Rattle.std.proofs.Common.{arith, codes, cond, false, length, refl, rules, suc, sym}
+use Rattle.std.proofs.Common.{true, true≢false, ℕ, ⊎_elim, ◌++◌, ◌<◌, ◌∙◌, ◌∷◌, ◌≡◌, ◌≤◌}
+use Rattle.std.{proofs.lemmas.Slice.Eq.bytes_eq-Decides, specs.List.fold, specs.Prelude.option_map}
+use Rattle.std.specs.{Prelude.slice_get, Prelude.◌&&◌, Prelude.◌==◌, Prelude.◌||◌, Str.bytes_eq}
+use Rattle.clap.specs.declared.error.kind.ErrorKind.TheVariants as kind
 
 abbrev pub flag_row : Text → Row
 flag_row name = new_row (flag_full name) (codes "true" ∷ [])
@@ -59,10 +59,6 @@ set_kept : (tool : Tool) (name : Text) (done : List Text) (rows : List Row) (r :
     → row_for name rows ≡ set_row tool name done → row_for name (rows ++ r ∷ []) ≡ set_row tool name (done ++ word ∷ [])
 set_kept tool name done rows r word id other shown = search (rules, row_kept, among_kept)
 
-set_added : (tool : Tool) (name : Text) (done : List Text) (rows : List Row) → bytes_eq name name ≡ true → is_flag tool (45 ∷ 45 ∷ name) ≡ true
-    → row_for name rows ≡ None → row_for name (rows ++ flag_row name ∷ []) ≡ set_row tool name (done ++ (45 ∷ 45 ∷ name) ∷ [])
-set_added tool name done rows same flag none = search (rules, row_added, among_added)
-
 no_row : (name : Text) (rows : List Row) → has_row name rows ≡ false → row_for name rows ≡ None
 no_row name rows e = search (rules, row_for, has_row-row_for)
 
@@ -80,12 +76,8 @@ module _ (tool : Tool) (done ns : List Text) (rows : List Row) (s : Shows tool d
       P x = row_for x (rows ++ flag_row flag ∷ []) ≡ set_row tool x (done ++ (45 ∷ 45 ∷ flag) ∷ [])
 
       go : (b : Bool) → bytes_eq flag name ≡ b → P name
-      go true same = grind (arith, bytes_eq-Decides, set_added, no_row)
+      go true same = grind (arith, bytes_eq-Decides, no_row, row_added, among_added)
       go false other = set_kept tool name done rows _ _ other (bytes_eq_sym name flag ∙ other) shown
-
-  flag_shown : (flag : Text) → bytes_eq flag (codes "formula") ≡ false → bytes_eq flag (codes "second") ≡ false → is_flag tool (45 ∷ 45 ∷ flag) ≡ true → has_row flag rows ≡ false
-      → Shows tool (done ++ (45 ∷ 45 ∷ flag) ∷ []) ns (rows ++ flag_row flag ∷ [])
-  flag_shown flag no_formula no_second is new = search (rules, names_kept, set_after, file_kept)
 
 -- what the walk asks of a flag, and what it makes of it
 abbrev FlagTurn : Tool → Text → List Row → Option (Text × List Text) → ℕ → Type 0
@@ -110,8 +102,7 @@ unfolding clap_on_literals
 lrat_trace r p n = (refl, refl)
 
 no_conflict : (b : Bool) → or_else (cond (b && true) (kind.ArgumentConflict ∷ []) []) [] ≡ [] → b ≡ false
-no_conflict true e = absurd (cons_not_nil _ _ e)
-no_conflict false e = refl
+no_conflict b h = search rules
 
 module _ (tool : Tool) (done : List Text) (name : Text) (r : List Row) (p : Option (Text × List Text)) (ns : List Text) where
   flag_new : FlagTurn tool name r p (suc (length ns)) → turn_fault (top_of tool) [] (at r p (suc (length ns))) (45 ∷ 45 ∷ name) ≡ []
@@ -146,7 +137,7 @@ module _ (tool : Tool) (done : List Text) (r : List Row) (p : Option (Text × Li
   one_met : (name : Text) → bytes_eq name (codes "formula") ≡ false → bytes_eq name (codes "second") ≡ false → row_for name (settled_rows (rules_of tool) p r) ≡ set_row tool name done
       → is_flag tool (45 ∷ 45 ∷ name) ≡ true → FlagTurn tool name r p (suc (length ns)) → FlagMet tool done r p ns (45 ∷ 45 ∷ name)
   one_met name no_formula no_second shown flag turn =
-      search (rules, flag_new, flag_after, flag_shown, no_fault, has_none)
+      search (rules, flag_new, flag_after, no_fault, has_none, names_kept, set_after, file_kept)
 
 pick : (P : Text → Type 0) (word f : Text) (rest : Bool) → (bytes_eq word f || rest) ≡ true → P f → (rest ≡ true → P word) → P word
 pick P word f rest e here there = search rules
@@ -156,12 +147,12 @@ flag_met : (tool : Tool) (done : List Text) (r : List Row) (p : Option (Text × 
 flag_met Drat done r p ns few settles shows word flag =
     let P : Text → Type 0 = FlagMet Drat done r p ns in
     let turns = drat_turns r p (suc (length ns)) in
-    pick P word (codes "--binary") (is_among (codes "--trace" ∷ codes "--strict" ∷ codes "--pr" ∷ codes "--keep-units" ∷ []) word) flag (one_met Drat done r p ns few settles shows (codes "binary") refl refl shows.binary refl turns.binary)
-    (λ e. pick P word (codes "--trace") (is_among (codes "--strict" ∷ codes "--pr" ∷ codes "--keep-units" ∷ []) word) e (one_met Drat done r p ns few settles shows (codes "trace") refl refl shows.trace refl turns.trace)
-    (λ e. pick P word (codes "--strict") (is_among (codes "--pr" ∷ codes "--keep-units" ∷ []) word) e (one_met Drat done r p ns few settles shows (codes "strict") refl refl shows.strict refl turns.strict)
-    (λ e. pick P word (codes "--pr") (is_among (codes "--keep-units" ∷ []) word) e (one_met Drat done r p ns few settles shows (codes "pr") refl refl shows.pr refl turns.pr)
-    (λ e. pick P word (codes "--keep-units") false e (one_met Drat done r p ns few settles shows (codes "keep-units") refl refl shows.keep_units refl turns.keep_units)
-    (λ e. absurd (true≢false (sym e)))))))
+    pick P word (codes "--binary") _ flag (grind (arith, one_met))
+    (λ e. pick P word (codes "--trace") _ e (grind (arith, one_met))
+    (λ e. pick P word (codes "--strict") _ e (grind (arith, one_met))
+    (λ e. pick P word (codes "--pr") _ e (grind (arith, one_met))
+    (λ e. pick P word (codes "--keep-units") false e (search (rules, one_met))
+    (λ e. cc)))))
 flag_met Lrat done r p ns few settles shows word flag = search (rules, pick, one_met, lrat_trace)
 flag_met Model done r p ns few settles shows word flag = absurd (true≢false (sym flag))
 
@@ -199,9 +190,6 @@ record FileMet (tool : Tool) (done : List Text) (r : List Row) (p : Option (Text
 
 module _ (tool : Tool) (done : List Text) (r : List Row) (p : Option (Text × List Text))
     (settles : settle_fault (rules_of tool) false (holding r p) ≡ []) (word : Text) (flag : is_flag tool word ≡ false) where
-  rowless : (id : Text) (rows : List Row) → row_for id rows ≡ None → has_row id rows ≡ false
-  rowless id rows e = has_row-row_for id rows ∙ ap is_some e
-
   -- a name that the rule a takes, after the names ns
   name_taken : (a : Rule) (ns named : List Text) → length named ≡ suc (length ns) → length named ≤ 2 → FileTurn tool a r p (suc (length ns)) word → has_row a.id (settled_rows (rules_of tool) p r) ≡ false
       → used a (word ∷ []) (settled_rows (rules_of tool) p r) ≡ settled_rows (rules_of tool) p r ++ new_row a (word ∷ []) ∷ []
@@ -219,16 +207,18 @@ module _ (tool : Tool) (done : List Text) (r : List Row) (p : Option (Text × Li
   first_met : Shows tool done [] (settled_rows (rules_of tool) p r) → FileMet tool done r p [] word
   first_met s =
       let rows = settled_rows (rules_of tool) p r in
-      let new : has_row (codes "formula") rows ≡ false = rowless (codes "formula") rows s.formula in
+      let new : has_row (codes "formula") rows ≡ false = grind (arith, has_row-row_for) in
       name_taken formula_full [] (word ∷ []) refl (omega arith) (first_turn tool r p word) new (used_first formula_full (word ∷ []) rows new)
-      (name_shown formula_full [] rows refl refl refl refl refl s (row_added (codes "formula") rows _ refl s.formula) (row_kept (codes "second") rows _ refl ∙ s.second))
+      (name_shown formula_full [] rows refl refl refl refl refl s
+      (grind (arith, row_added)) (grind (arith, row_kept)))
 
   second_met : (a : Text) → Shows tool done (a ∷ []) (settled_rows (rules_of tool) p r) → FileMet tool done r p (a ∷ []) word
   second_met a s =
       let rows = settled_rows (rules_of tool) p r in
-      let new : has_row (codes "second") rows ≡ false = rowless (codes "second") rows s.second in
+      let new : has_row (codes "second") rows ≡ false = grind (arith, has_row-row_for) in
       name_taken second_full (a ∷ []) (a ∷ word ∷ []) refl (omega arith) (second_turn tool r p word) new (used_first second_full (word ∷ []) rows new)
-      (name_shown second_full (a ∷ []) rows refl refl refl refl refl s (row_kept (codes "formula") rows _ refl ∙ s.formula) (row_added (codes "second") rows _ refl s.second))
+      (name_shown second_full (a ∷ []) rows refl refl refl refl refl s
+      (grind (arith, row_kept)) (grind (arith, row_added)))
 
   file_met : (ns : List Text) → Shows tool done ns (settled_rows (rules_of tool) p r) → FileMet tool done r p ns word
   file_met [] s = first_met s
@@ -250,7 +240,8 @@ step_at tool done r p ns few settles shows word mark f = go (is_flag tool word) 
     go : (b : Bool) → is_flag tool word ≡ b → After tool (done ++ word ∷ []) (walked (rules_of tool) [] (at r p (suc (length ns))) word)
     go true flag = (flag_met tool done r p ns few settles shows word flag).after f
     go false flag = ⊎_elim
-        (λ taken. subst (After tool (done ++ word ∷ [])) (sym taken.1) ((file_met tool done r p settles word flag ns shows).after (sym taken.0 ∙ f)))
+        (λ taken. rw taken.1
+        ((file_met tool done r p settles word flag ns shows).after (sym taken.0 ∙ f)))
         (λ refused. absurd (refused f)) (name_met tool r p (suc (length ns)) word flag mark settles)
 
 pub step_after : (tool : Tool) (done : List Text) (w : Walk) → After tool done w → (word : Text) → bytes_eq word end_mark ≡ false
@@ -260,29 +251,22 @@ step_after tool done w a word mark f = search (rules, top_of, rules_of, step_at)
 -- a flag that was not there, and a word that begins with no hyphen where there is room for a name, are not refused
 pub flag_passes : (tool : Tool) (done : List Text) (w : Walk) → After tool done w → (word : Text) → is_flag tool word ≡ true → is_among done word ≡ false
     → turn_fault (top_of tool) [] w word ≡ []
-flag_passes tool done w a word flag none =
-    ap (λ v. turn_fault (top_of tool) [] v word) a.is ∙ (flag_met tool done a.rows a.pending a.ns a.few a.settles a.shows word flag).fine none
+flag_passes tool done w a word flag none = rw a.is
+    ((flag_met tool done a.rows a.pending a.ns a.few a.settles a.shows word flag).fine none)
 
 pub name_passes : (tool : Tool) (done : List Text) (w : Walk) → After tool done w → (x : ℕ) (xs : Text) → is_flag tool (x ∷ xs) ≡ false → (x == 45) ≡ false
     → length (names tool done) < 2 → turn_fault (top_of tool) [] w (x ∷ xs) ≡ []
-name_passes tool done w a x xs flag plain few =
-    let room : length a.ns < 2 = subst (λ (l : List Text). length l < 2) a.shows.said few in
-    ap (λ v. turn_fault (top_of tool) [] v (x ∷ xs)) a.is
-    ∙ ((plain_taken (rules_of tool) (name_of tool) a.rows a.pending (suc (length a.ns)) x xs plain).0
-    ∙ (file_met tool done a.rows a.pending a.settles (x ∷ xs) flag a.ns a.shows).fine room)
+name_passes tool done w a x xs flag plain few = rw a.is
+    ((plain_taken (rules_of tool) (name_of tool) a.rows a.pending (suc (length a.ns)) x xs plain).0
+    ∙ (file_met tool done a.rows a.pending a.settles (x ∷ xs) flag a.ns a.shows).fine
+    (rw a.shows.said at few))
 
 -- so is a hyphen alone
 pub hyphen_passes : (tool : Tool) (done : List Text) (w : Walk) → After tool done w → length (names tool done) < 2 → turn_fault (top_of tool) [] w (45 ∷ []) ≡ []
-hyphen_passes tool done w a few =
-    let room : length a.ns < 2 = subst (λ (l : List Text). length l < 2) a.shows.said few in
-    ap (λ v. turn_fault (top_of tool) [] v (45 ∷ [])) a.is
-    ∙ ((hyphen_taken (rules_of tool) (name_of tool) a.rows a.pending (suc (length a.ns))).0
-    ∙ (file_met tool done a.rows a.pending a.settles (45 ∷ []) (no_flag tool) a.ns a.shows).fine room)
-  where
-    no_flag : (tool : Tool) → is_flag tool (45 ∷ []) ≡ false
-    no_flag Drat = refl
-    no_flag Lrat = refl
-    no_flag Model = refl
+hyphen_passes tool done w a few = rw a.is
+    ((hyphen_taken (rules_of tool) (name_of tool) a.rows a.pending (suc (length a.ns))).0
+    ∙ (file_met tool done a.rows a.pending a.settles (45 ∷ []) (search rules) a.ns a.shows).fine
+    (rw a.shows.said at few))
 
 -- ---- all the words
 
@@ -292,12 +276,12 @@ tail_free word words e = search rules
 pub words_after : (tool : Tool) (words done : List Text) (w : Walk) → After tool done w → is_among words end_mark ≡ false → walk_fault (top_of tool) [] w words ≡ []
     → After tool (done ++ words) (fold (walked (rules_of tool) []) w words)
 unfolding walk_fault
-words_after tool [] done w a free f = subst (λ l. After tool l w) (sym (append-nil done)) a
+words_after tool [] done w a free f = rw append-nil a
 words_after tool (word ∷ words) done w a free f =
     let both = or_nil (turn_fault (top_of tool) [] w word) _ f in
     let apart = tail_free word words free in
-    subst (λ l. After tool l (fold (walked (rules_of tool) []) (walked (rules_of tool) [] w word) words)) (append_assoc done (word ∷ []) words)
-    (words_after tool words (done ++ word ∷ []) (walked (rules_of tool) [] w word) (step_after tool done w a word apart.0 both.0) apart.1 both.1)
+    rw append_assoc at (words_after tool words (done ++ word ∷ [])
+    (walked (rules_of tool) [] w word) (grind (arith, step_after)) apart.1 both.1)
 
 pub start_after : (tool : Tool) → After tool [] (at [] None 1)
 start_after tool = search rules

@@ -1,21 +1,20 @@
 -- What `clap`'s walk makes of one word, and when it refuses the word.
-use Rattle.std.proofs.Common.{◌≡◌, ◌∙◌, ap, ap₂, sym, subst, refl, codes, List, [], ◌∷◌, Bool, true}
-use Rattle.std.proofs.Common.{false, Option, Some, None, ℕ, cond, suc, true≢false, inl, inr, ◌⊎◌}
-use Rattle.std.proofs.{Common.arith, Common.length, Common.rules, lemmas.Bool.Decides.nat_tests}
-use Rattle.std.specs.Prelude.{◌==◌, ◌&&◌, ◌||◌, not, if◌then◌else◌, slice_get, take, ◌+◌}
-use Rattle.std.specs.Str.{bytes_eq, chars}
-use Rattle.std.specs.{List.before_first, List.prefix_len, Option.option_map_or}
-use Rattle.clap.specs.{Lexer.has_byte, Lexer.long_of, Lexer.short_of, Kinds.Kinds, Kinds.or_else}
 use Rattle.clap.specs.Faults.{bundle_fault, bundle_step_fault, flags_fault, long_fault}
 use Rattle.clap.specs.Faults.{settle_fault, short_fault, step_fault, turn_fault}
-use Rattle.clap.specs.Walk.{Held, Outcome, Row, Rule, Step, Text, Walk, after_flag, after_step}
-use Rattle.clap.specs.Walk.{arg_by_index, arg_by_long, arg_by_short, bundle_met, idle, plain}
-use Rattle.clap.specs.Walk.{short_or_plain, to_positional, value, walked}
-use Rattle.clap.specs.declared.error.kind.ErrorKind.{ErrorKind}
-use Rattle.command_line.proofs.CommandLineLemmas.Rules.{flag_full, help_full, name_of, rules_of}
-use Rattle.command_line.proofs.CommandLineLemmas.Rules.{shape, top_of, version_full}
-use Rattle.command_line.specs.{Words.is_flag, declared.tool.Tool.Tool}
-use Rattle.command_line.specs.declared.tool.Tool.TheVariants.{Drat, Lrat, Model}
+use Rattle.clap.specs.{Kinds.Kinds, Kinds.or_else, Lexer.has_byte, Lexer.long_of, Lexer.short_of}
+use Rattle.clap.specs.Walk.{Held, Outcome, Row, Rule, Step, Text, Walk, after_flag}
+use Rattle.clap.specs.Walk.{after_step, arg_by_index, arg_by_long, arg_by_short, bundle_met}
+use Rattle.clap.specs.Walk.{idle, plain, short_or_plain, to_positional, value, walked}
+use Rattle.command_line.proofs.CommandLineLemmas.Rules.{flag_full, help_full, name_of}
+use Rattle.command_line.proofs.CommandLineLemmas.Rules.{rules_of, shape, top_of, version_full}
+use Rattle.command_line.specs.{Words.is_flag, declared.tool.Tool.TheVariants.Drat}
+use Rattle.command_line.specs.declared.tool.Tool.{TheVariants.Lrat, TheVariants.Model, Tool}
+use Rattle.std.proofs.Common.{Bool, List, None, Option, Some, [], ap, arith, codes, cond, false}
+use Rattle.std.proofs.Common.{inl, inr, length, refl, rules, subst, sym, true, true≢false, ℕ, ◌∙◌}
+use Rattle.std.proofs.{Common.◌∷◌, Common.◌≡◌, Common.◌⊎◌, lemmas.Bool.Decides.nat_tests}
+use Rattle.std.specs.{List.before_first, Option.option_map_or}
+use Rattle.std.specs.Prelude.{if◌then◌else◌, slice_get, ◌&&◌, ◌==◌, ◌||◌}
+use Rattle.std.specs.Str.{bytes_eq, chars}
 
 -- what is held between two words
 abbrev pub holding : List Row → Option (Text × List Text) → Held
@@ -28,11 +27,7 @@ at r p n = record { held = holding r p; waiting = idle; position = n; is_trailin
 -- ---- lists of kinds
 
 pub or_nil : (a b : Kinds) → or_else a b ≡ [] → (a ≡ []) × (b ≡ [])
-or_nil [] b e = (refl, e)
-or_nil (k ∷ ks) b e = grind (arith, true≢false)
-
-pub cons_not_nil : (k : ErrorKind) (ks : Kinds) → k ∷ ks ≡ [] → ⊥
-cons_not_nil k ks e = cc
+or_nil a b h = search rules
 
 pub nat_eq_same : (x y : ℕ) → (x == y) ≡ true → x ≡ y
 nat_eq_same x y e = grind (arith, nat_tests)
@@ -45,10 +40,7 @@ whole (x ∷ xs) e = go (x == 61) refl e (whole xs)
   where
     go : (b : Bool) → (x == 61) ≡ b → (b || has_byte 61 xs) ≡ false → (has_byte 61 xs ≡ false → before_first (λ x. x == 61) xs ≡ xs)
         → before_first (λ x. x == 61) (x ∷ xs) ≡ x ∷ xs
-    go true t e rest = absurd (true≢false e)
-    go false t e rest =
-        let one : 1 + prefix_len (λ x. not (x == 61)) xs ≡ suc (prefix_len (λ x. not (x == 61)) xs) = omega arith in
-        rw t (ap (λ k. take k (x ∷ xs)) one ∙ ap (λ l. x ∷ l) (rest e))
+    go b h h2 h3 = search rules
 
 no_mark : (b : Bool) (v : Text) → (if b then Some v else None) ≡ None → b ≡ false
 no_mark b v h = search rules
@@ -83,8 +75,7 @@ module _ (c : List Rule) (name : Text) (r : List Row) (p : Option (Text × List 
   empty_taken = plain_word_taken [] refl refl refl
 
   pub plain_taken : (x : ℕ) (xs : Text) → (x == 45) ≡ false → Taken (x ∷ xs)
-  plain_taken x xs e =
-      plain_word_taken (x ∷ xs) (ap (λ b. b && bytes_eq xs (45 ∷ [])) e) (rw e refl) (rw e refl)
+  plain_taken x xs e = plain_word_taken (x ∷ xs) (grind arith) (rw e refl) (rw e refl)
 
   pub hyphen_taken : Taken (45 ∷ [])
   hyphen_taken = plain_word_taken (45 ∷ []) refl refl refl
@@ -121,8 +112,7 @@ module _ (c : List Rule) (name : Text) (r : List Row) (p : Option (Text × List 
     no_char_taken : slice_get (chars (y ∷ ys)) 0 ≡ None → Taken (45 ∷ y ∷ ys)
     no_char_taken first =
         let step : short_or_plain c idle (45 ∷ y ∷ ys) (Some (y ∷ ys)) (holding r p) ≡ (holding r p, value) = taken_at (holding r p, plain) (met_none first) in (
-          short_fault_is (45 ∷ y ∷ ys) no_end no_long (Some (y ∷ ys)) some_short
-              ∙ ap₂ (λ (k : Kinds) (m : Held × Step). or_else k (step_fault (shape name c) n m.0 m.1)) (bundle_none first) step,
+          grind (arith, short_fault_is, no_end, no_long, some_short, shape, bundle_none),
           short_walk_is (45 ∷ y ∷ ys) no_end no_long (Some (y ∷ ys)) some_short
               ∙ ap (λ (m : Held × Step). after_step c (45 ∷ y ∷ ys) (at r p n) m.0 m.1) step,
         )
@@ -130,16 +120,14 @@ module _ (c : List Rule) (name : Text) (r : List Row) (p : Option (Text × List 
     -- a character names no flag, or asks for a text
     char_refused : (o : Option Rule) → IsShort o → (rest : Text) (next : Held → Kinds)
         → settle_fault c false (holding r p) ≡ [] → short_fault c false o rest (holding r p) next ≡ [] → ⊥
-    char_refused o (inl none) rest next s f = cons_not_nil _ _ (rw none at f)
-    char_refused o (inr (inl help)) rest next s f = search rules
-    char_refused o (inr (inr version)) rest next s f = search rules
+    char_refused o h rest next h2 h3 = search rules
 
     pub short_refused : ((x : ℕ) → IsShort (arg_by_short c x)) → settle_fault c false (holding r p) ≡ []
         → (x : ℕ) → slice_get (chars (y ∷ ys)) 0 ≡ Some x → turn_fault (shape name c) [] (at r p n) (45 ∷ y ∷ ys) ≡ [] → ⊥
     short_refused shorts s x first f =
         let g = sym (short_fault_is (45 ∷ y ∷ ys) no_end no_long (Some (y ∷ ys)) some_short) ∙ f in
         let k = sym (bundle_is (Some x) first) ∙ (or_nil _ _ g).0 in
-        char_refused (arg_by_short c x) (shorts x) _ _ s k
+        search (rules, char_refused)
 
     pub short_met : ((x : ℕ) → IsShort (arg_by_short c x)) → settle_fault c false (holding r p) ≡ []
         → Taken (45 ∷ y ∷ ys) ⊎ (turn_fault (shape name c) [] (at r p n) (45 ∷ y ∷ ys) ≡ [] → ⊥)
@@ -153,18 +141,12 @@ module _ (c : List Rule) (name : Text) (r : List Row) (p : Option (Text × List 
 
   long_refused : (P : Text → Type 0) (name : Text) (o : Option Rule) → IsLong P name o → (v : Option Text) → settle_fault c false (holding r p) ≡ []
       → (v ≡ None → P name → ⊥) → long_fault c false o v (holding r p) ≡ [] → ⊥
-  long_refused P name o (inl none) v s refuted f = cons_not_nil _ _ (rw none at f)
-  long_refused P name o (inr (inl (inl help))) None s refuted f = cc
-  long_refused P name o (inr (inl (inl help))) (Some v) s refuted f = cc
-  long_refused P name o (inr (inl (inr version))) None s refuted f = search rules
-  long_refused P name o (inr (inl (inr version))) (Some v) s refuted f = cc
-  long_refused P name o (inr (inr flag)) None s refuted f = refuted refl (subst P flag.2 flag.3)
-  long_refused P name o (inr (inr flag)) (Some v) s refuted f = cons_not_nil _ _ (rw flag.1 at f)
+  long_refused P name o h v h2 h3 h4 = search rules
 
   pub long_met : (P : Text → Type 0) → ((name : Text) → IsLong P name (arg_by_long c name)) → (z : ℕ) (zs : Text) → (P (z ∷ zs) → ⊥)
       → settle_fault c false (holding r p) ≡ [] → turn_fault (shape name c) [] (at r p n) (45 ∷ 45 ∷ z ∷ zs) ≡ [] → ⊥
   long_met P longs z zs refuted s f = long_refused P _ _ (longs _) _ s
-      (λ none has. refuted (subst P (whole (z ∷ zs) (no_mark _ _ none)) has)) (or_nil _ _ f).0
+      (λ none has. refuted (subst P (search (rules, whole, no_mark)) has)) (or_nil _ _ f).0
 
 -- ---- the three tools
 
@@ -177,9 +159,7 @@ IsName tool name = is_flag tool (45 ∷ 45 ∷ name) ≡ true
 
 module _ (tool : Tool) (name : Text) where
   text_or_none : (help version : Bool) → IsLong [] [] [] None 0 (IsName tool) name (cond help (Some help_full) (cond version (Some version_full) None))
-  text_or_none true version = inr (inl (inl refl))
-  text_or_none false true = inr (inl (inr refl))
-  text_or_none false false = inl refl
+  text_or_none help version = search rules
 
   flag_or : (f : Text) → IsName tool f → (b : Bool) → (bytes_eq f name || false) ≡ b → (o : Option Rule) → IsLong [] [] [] None 0 (IsName tool) name o
       → IsLong [] [] [] None 0 (IsName tool) name (cond b (Some (flag_full f)) o)
@@ -187,10 +167,7 @@ module _ (tool : Tool) (name : Text) where
 
 pub longs_of : (tool : Tool) (name : Text) → IsLong [] [] [] None 0 (IsName tool) name (arg_by_long (rules_of tool) name)
 longs_of Drat name = flag_or Drat name (codes "binary") refl _ refl _
-    (flag_or Drat name (codes "trace") refl _ refl _
-    (flag_or Drat name (codes "strict") refl _ refl _ (flag_or Drat name (codes "pr") refl _ refl _
-    (flag_or Drat name (codes "keep-units") refl _ refl _
-    (text_or_none Drat name (bytes_eq (codes "help") name || false) (bytes_eq (codes "version") name || false))))))
+    (search (rules, flag_or, text_or_none))
 longs_of Lrat name = search rules
 longs_of Model name = search rules
 
@@ -209,23 +186,18 @@ name_met tool r p n (x ∷ xs) flag mark s = go (x == 45) refl xs flag mark
     second : (y : ℕ) (ys : Text) → is_flag tool (45 ∷ y ∷ ys) ≡ false → bytes_eq (45 ∷ y ∷ ys) (codes "--") ≡ false → (b : Bool) → (y == 45) ≡ b
         → IsTaken tool r p n (45 ∷ y ∷ ys) ⊎ (turn_fault (top_of tool) [] (at r p n) (45 ∷ y ∷ ys) ≡ [] → ⊥)
     second y ys flag mark false e = short_met (rules_of tool) (name_of tool) r p n y ys e (shorts_of tool) s
-    second y ys flag mark true e = third ys (subst (λ k. is_flag tool (45 ∷ k ∷ ys) ≡ false) is flag) (subst (λ k. bytes_eq (45 ∷ k ∷ ys) (codes "--") ≡ false) is mark)
+    second y ys flag mark true e = third ys (grind arith) (grind arith)
       where
-        is : y ≡ 45
-        is = nat_eq_same y 45 e
-
         third : (ys : Text) → is_flag tool (45 ∷ 45 ∷ ys) ≡ false → bytes_eq (45 ∷ 45 ∷ ys) (codes "--") ≡ false
             → IsTaken tool r p n (45 ∷ y ∷ ys) ⊎ (turn_fault (top_of tool) [] (at r p n) (45 ∷ y ∷ ys) ≡ [] → ⊥)
-        third [] flag mark = absurd (true≢false mark)
-        third (z ∷ zs) flag mark =
-            subst (λ k. IsTaken tool r p n (45 ∷ k ∷ z ∷ zs) ⊎ (turn_fault (top_of tool) [] (at r p n) (45 ∷ k ∷ z ∷ zs) ≡ [] → ⊥)) (sym is)
-            (inr (long_met (rules_of tool) (name_of tool) r p n (IsName tool) (longs_of tool) z zs (λ has. true≢false (sym has ∙ flag)) s))
+        third [] flag mark = cc
+        third (z ∷ zs) flag mark = rw (nat_eq_same y 45 e)
+            (inr (long_met (rules_of tool) (name_of tool) r p n (IsName tool) (longs_of tool) z zs
+            (λ has. true≢false (sym has ∙ flag)) s))
 
     go : (b : Bool) → (x == 45) ≡ b → (xs : Text) → is_flag tool (x ∷ xs) ≡ false → bytes_eq (x ∷ xs) (codes "--") ≡ false
         → IsTaken tool r p n (x ∷ xs) ⊎ (turn_fault (top_of tool) [] (at r p n) (x ∷ xs) ≡ [] → ⊥)
     go false e xs flag mark = inl (plain_taken (rules_of tool) (name_of tool) r p n x xs e)
-    go true e [] flag mark = grind (arith, top_of, at, nat_eq_same, hyphen_taken, rules_of, name_of)
-    go true e (y ∷ ys) flag mark =
-        let is = nat_eq_same x 45 e in
-        subst (λ k. IsTaken tool r p n (k ∷ y ∷ ys) ⊎ (turn_fault (top_of tool) [] (at r p n) (k ∷ y ∷ ys) ≡ [] → ⊥)) (sym is)
-        (second y ys (subst (λ k. is_flag tool (k ∷ y ∷ ys) ≡ false) is flag) (subst (λ k. bytes_eq (k ∷ y ∷ ys) (codes "--") ≡ false) is mark) (y == 45) refl)
+    go true e [] flag mark = grind (arith, top_of, at, hyphen_taken, rules_of, name_of)
+    go true e (y ∷ ys) flag mark = rw (nat_eq_same x 45 e)
+        (second y ys (grind arith) (grind arith) (y == 45) refl)

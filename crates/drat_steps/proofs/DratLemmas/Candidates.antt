@@ -1,27 +1,24 @@
 -- The search over the clauses that an addition is tried with.
-use Rattle.std.proofs.Common.{◌≡◌, ℕ, Bool, true, false, Option, Some, is_some, IsSome, List, sym}
-use Rattle.std.proofs.Common.{◌∙◌, subst, ◌+◌, ◌<◌, eqb, eqb-true, get_or, length, slice_index}
-use Rattle.std.proofs.Common.{take, inl, inr, ◌++◌, arith, rules}
-use Rattle.std.proofs.lemmas.{Bool.or_cases, Grind.get_or_default_zero}
-use Rattle.std.specs.{List.list_any, FinMap.FinMap, Ordering.nat_cmp}
-use Rattle.std.specs.FinMap as maps
+use Rattle.cnf_base.proofs.SetLemmas.{any_some, both_pass, complements_has}
+use Rattle.cnf_base.proofs.SetLemmas.{filter_has, has-complements, has-filter, has_append_cases}
+use Rattle.cnf_base.proofs.SetLemmas.{has_append_left, has_append_right, same_back, same_there}
+use Rattle.cnf_base.proofs.{SetLemmas.any_from, WalkLemmas.has_more, WalkLemmas.is_in}
 use Rattle.cnf_base.specs.Literals.{Clause, Literal, complement, complements, has, same_clause}
-use Rattle.cnf_base.proofs.LiteralLemmas.{complement-complement}
-use Rattle.cnf_base.proofs.SetLemmas.{any_from, any_some, both_pass, same_back, same_there}
-use Rattle.cnf_base.proofs.SetLemmas.{complements_has, filter_has, has-complements, has-filter}
-use Rattle.cnf_base.proofs.SetLemmas.{has_append_cases, has_append_left, has_append_right}
-use Rattle.cnf_base.proofs.WalkLemmas.{has_more, is_in}
-use Rattle.clause_db.specs.Store.{IsTouchedAt}
-use Rattle.propagation.specs.Assumptions.{HasAt, LastIsAnswered, MayAssume, Propagation, assumed_by}
-use Rattle.propagation.specs.declared.answer.Answer.TheVariants.{Quiet}
-use Rattle.theory.specs.Propagation.{Forced, by_both, Live, Clash}
-use Rattle.theory.proofs.PropagationLemmas.Forced.{forced_assumed, forced_through}
 use Rattle.drat_steps.specs.Code.Candidates.{AllClash, CanTry, HasClashed, IsWithin, PassesAt}
 use Rattle.drat_steps.specs.Code.Candidates.{PassesIn, SomeQuiet, is_candidate, is_left, rest_of}
-use Rattle.drat_steps.specs.{Code.Assumed.IsAsBefore, declared.candidates.Candidates.Candidates}
-use Rattle.drat_steps.specs.declared.candidates.Candidates.TheVariants.{Holding, ReducedBy}
-use Rattle.drat_steps.specs.declared.candidates.Clashed.{Clashed}
-use Rattle.drat_steps.proofs.DratLemmas.Steps.{clash_same}
+use Rattle.drat_steps.specs.declared.candidates.Candidates.{Candidates, TheVariants.Holding}
+use Rattle.drat_steps.specs.declared.candidates.{Candidates.TheVariants.ReducedBy, Clashed.Clashed}
+use Rattle.drat_steps.{proofs.DratLemmas.Steps.clash_same, specs.Code.Assumed.IsAsBefore}
+use Rattle.propagation.specs.Assumptions.{HasAt, LastIsAnswered, MayAssume, Propagation, assumed_by}
+use Rattle.std.proofs.Common.{Bool, Some, arith, eqb-true, false, get_or, inl, inr, is_some, length}
+use Rattle.std.proofs.Common.{List, rules, slice_index, subst, sym, take, true, ◌++◌, ◌+◌, ◌<◌, ◌≡◌}
+use Rattle.std.proofs.{Common.IsSome, lemmas.Bool.or_cases, lemmas.Grind.get_or_default_zero}
+use Rattle.std.{proofs.Common.ℕ, specs.FinMap.FinMap, specs.List.list_any, specs.Ordering.nat_cmp}
+use Rattle.theory.proofs.PropagationLemmas.Forced.{forced_assumed, forced_through}
+use Rattle.theory.specs.Propagation.{Clash, Forced, Live, by_both}
+use Rattle.{clause_db.specs.Store.IsTouchedAt, cnf_base.proofs.LiteralLemmas.complement-complement}
+use Rattle.{propagation.specs.declared.answer.Answer.TheVariants.Quiet, std.proofs.Common.Option}
+use Rattle.std.specs.FinMap as maps
 
 pub clause_there : (o : Option Clause) → is_some o ≡ true → (c : Clause) × (o ≡ Some c)
 clause_there o h = search rules
@@ -29,7 +26,7 @@ clause_there o h = search rules
 -- ---- Whether a clause is a candidate
 
 any_same : (p : Literal → Bool) (c d : Clause) → same_clause c d ≡ true → list_any p c ≡ list_any p d
-any_same p c d same = both_pass (list_any p c) (list_any p d)
+any_same p c d same = both_pass _ _
     (λ h. let w = any_some p c h in any_from p d w.0 (same_there c d same w.0 w.1) w.2)
     (λ h. let w = any_some p d h in any_from p c w.0 (same_back c d same w.0 w.1) w.2)
 
@@ -40,7 +37,7 @@ candidate_same (ReducedBy witness) c d same = search (rules, any_same)
 -- the clause was looked at in an order of its own
 pub looked_at : (o : Option Clause) (them : Candidates) (seen : Clause) (is_one : Bool) → (c : Clause) × (o ≡ Some c) × (same_clause c seen ≡ true) → is_one ≡ is_candidate them seen → (d : Clause) → o ≡ Some d →
     is_candidate them d ≡ is_one
-looked_at o them seen is_one there is d at = cc (candidate_same them there.0 seen there.2)
+looked_at o them seen is_one there is d at = grind (arith, candidate_same)
 
 -- ---- The walk
 
@@ -59,86 +56,76 @@ pub clashed_after : (before after : Propagation) → IsAsBefore before after →
 clashed_after before after same them last known = record {
   left = known.left;
   clashes = λ some.
-      subst (λ m. Clash (maps.get m) (assumed_by after.assumptions ++ complements last.rest.items)) (sym same.live)
-      (subst (λ assumed. Clash (maps.get before.live) (assumed_by assumed ++ complements last.rest.items)) (sym same.assumptions) (known.clashes some));
+      rw same.live (rw same.assumptions (known.clashes some));
 }
 
 -- more literals assumed false clash too
 clash_more : (live : Live) (assumed rest more : List Literal) → ((l : Literal) → has rest l ≡ true → has more l ≡ true) → Clash live (assumed ++ complements rest) → Clash live (assumed ++ complements more)
-clash_more live assumed rest more all = clash_same live (assumed ++ complements rest) (assumed ++ complements more) (λ a h. elim (has_append_cases assumed (complements rest) a h) [
-  | inl e ↦ has_append_left assumed (complements more) a e
-  | inr e ↦ has_append_right assumed (complements more) a
-      (subst (λ l. has (complements more) l ≡ true) (complement-complement a) (has-complements more (complement a) (all (complement a) (complements_has rest a e))))
+clash_more live assumed rest more all = clash_same _ _ _ (λ a h. elim (has_append_cases assumed _ a h) [
+  | inl e ↦ grind (arith, has_append_left)
+  | inr e ↦ has_append_right assumed _ a (rw (complement-complement a) at
+      (has-complements more (complement a) (all (complement a) (complements_has rest a e))))
 ])
 
 -- a literal that is left of a clause is forced, so that the rest clashes
 pub clashes_by_true : (live : Live) (assumed : List Literal) (them : Candidates) (c : Clause) (l : Literal) → has c l ≡ true → is_left them l ≡ true → Forced live assumed l →
     Clash live (assumed ++ complements (rest_of them c))
 clashes_by_true live assumed them c l member left forced =
-    let all = assumed ++ complements (rest_of them c) in
-    by_both l
-    (forced_through live assumed all (λ a h. forced_assumed live all a (has_append_left assumed (complements (rest_of them c)) a h)) l forced)
-    (forced_assumed live all (complement l)
-    (has_append_right assumed (complements (rest_of them c)) (complement l) (has-complements (rest_of them c) l (has-filter (is_left them) c l member left))))
+    by_both l (grind (arith, forced_through, forced_assumed, has_append_left))
+    (grind (arith, forced_assumed, has_append_right, has-complements, has-filter))
 
 module _ (clauses : Propagation) (them : Candidates) (slot : ℕ) (seen : Clause) (there : (c : Clause) × (maps.get clauses.live slot ≡ Some c) × (same_clause c seen ≡ true)) where
   seen_is : (d : Clause) → maps.get clauses.live slot ≡ Some d → same_clause d seen ≡ true
   seen_is d at = grind arith
 
   pub clashes_within : (last : Clashed) → HasClashed clauses them last → IsWithin last.rest.items seen → PassesIn clauses them slot true
-  clashes_within last known within d at _ =
-      clash_more (maps.get clauses.live) (assumed_by clauses.assumptions) last.rest.items (rest_of them d)
-      (λ l h. has-filter (is_left them) d l (same_back d seen (seen_is d at) l (within.all l h)) (known.left l h)) (known.clashes within.some)
+  clashes_within last known within d at _ = clash_more _ _ _ _
+      (grind (arith, has-filter, same_back, seen_is)) (known.clashes within.some)
 
   -- what is left of the clause as it was looked at clashes
   pub clashes_seen : Clash (maps.get clauses.live) (assumed_by clauses.assumptions ++ complements (rest_of them seen)) → PassesIn clauses them slot true
-  clashes_seen clash d at _ =
-      clash_more (maps.get clauses.live) (assumed_by clauses.assumptions) (rest_of them seen) (rest_of them d)
-      (λ l h. let w = filter_has (is_left them) seen l h in has-filter (is_left them) d l (same_back d seen (seen_is d at) l w.0) w.1) clash
+  clashes_seen clash d at _ = clash_more _ _ _ _
+      (grind (arith, filter_has, has-filter, same_back, seen_is)) clash
 
   -- what is left of the clause as it was looked at
   pub clashed_now : ((d : Clause) → maps.get clauses.live slot ≡ Some d → Clash (maps.get clauses.live) (assumed_by clauses.assumptions ++ complements (rest_of them d)))
       → (last : Clashed) → last.rest.items ≡ rest_of them seen → HasClashed clauses them last
   clashed_now clash last is = record {
-    left = λ l h. (filter_has (is_left them) seen l (subst (λ ls. has ls l ≡ true) is h)).1;
-    clashes = λ _.
-        clash_more (maps.get clauses.live) (assumed_by clauses.assumptions) (rest_of them there.0) last.rest.items
-        (λ l h. let w = filter_has (is_left them) there.0 l h in
-        subst (λ ls. has ls l ≡ true) (sym is) (has-filter (is_left them) seen l (same_there there.0 seen there.2 l w.0) w.1))
+    left = grind (arith, filter_has);
+    clashes = λ _. clash_more _ _ _ _ (grind (arith, filter_has, has-filter, same_there))
         (clash there.0 there.1);
   }
 
 module _ (live : Live) (assumed : List Literal) (candidates : Candidates) where
   all_passed : (slots : List ℕ) → ((s : ℕ) (c : Clause) → live s ≡ Some c → is_candidate candidates c ≡ true → has slots s ≡ true) →
       ((s : ℕ) → has slots s ≡ true → PassesAt live assumed candidates s true) → AllClash live assumed (is_candidate candidates) (rest_of candidates)
-  all_passed slots listed passed k d at test = passed k (listed k d at test) d at test
+  all_passed slots listed passed k d at test = search rules
 
   one_quiet : (slot : ℕ) → IsSome (live slot) → PassesAt live assumed candidates slot false → SomeQuiet live assumed (is_candidate candidates) (rest_of candidates)
   one_quiet slot alive quiet =
-      let found = clause_there (live slot) alive in
-      let here = quiet found.0 found.1 in
-      record { slot = slot; clause = found.0; at = found.1; passes = here.0; quiet = here.1 }
+      let found = clause_there (live slot) alive in let here = quiet found.0 found.1 in
+      search rules
 
   -- the literals touch all that can be a candidate, and no live clause is touched
   pub none_is_one : (lits : List Literal) → ((c : Clause) → is_candidate candidates c ≡ true → list_any (λ l. has c (complement l)) lits ≡ true) → ((l : Literal) → has lits l ≡ true → (s : ℕ) → ¬ HasAt live (complement l) s) →
       AllClash live assumed (is_candidate candidates) (rest_of candidates)
   none_is_one lits touched none k d at test =
-      let w = any_some (λ l. has d (complement l)) lits (touched d test) in
-      absurd (none w.0 w.1 k (record { clause = d; at = at; member = w.2 }))
+      let w = any_some _ lits (touched d test) in
+      absurd (none w.0 w.1 k (grind arith))
 
 -- the walk comes to one of the slots
 module _ (before after : Propagation) (same : IsAsBefore before after) (candidates : Candidates) (slots : List ℕ) (i slot : ℕ) (inside : i < length slots) (is : slot ≡ slice_index slots i)
     (found : Bool) (answer : PassesAt (maps.get after.live) (assumed_by after.assumptions) candidates slot found) where
   item : slot ≡ get_or slots i slot
-  item = is ∙ sym (get_or_default_zero slots i slot inside)
+  item = grind (arith, get_or_default_zero)
 
   pub stops_at : ((s : ℕ) → has slots s ≡ true → IsSome (maps.get before.live s)) → found ≡ false → SomeQuiet (maps.get before.live) (assumed_by before.assumptions) (is_candidate candidates) (rest_of candidates)
   stops_at alive quiet = search (rules, arith, one_quiet, is_in, item, passes_before)
 
   pub passed_more : Passed before candidates (take i slots) → found ≡ true → Passed before candidates (take (i + 1) slots)
-  passed_more passed passes s h = elim (or_cases (has (take i slots) s) (eqb slot s) (sym (has_more slots i inside slot item s) ∙ h)) [
+  passed_more passed passes s h = elim (or_cases _ _ (grind (arith, has_more, item))) [
     | inl early ↦ passed s early
-    | inr here ↦ subst (λ k. PassesAt (maps.get before.live) (assumed_by before.assumptions) candidates k true) (eqb-true slot s here) (passes_before before after same candidates slot found true passes answer)
+    | inr here ↦ rw (eqb-true slot s here) at (passes_before before after same candidates slot found true passes answer)
   ]
 
 -- ---- The clauses that the literals touch, all of them in these slots
@@ -154,6 +141,5 @@ can_try before after same room quiet slots i slot inside is alive =
 pub all_touched_passed : (p : Propagation) (them : Candidates) (lits : List Literal) → ((c : Clause) → is_candidate them c ≡ true → list_any (λ l. has c (complement l)) lits ≡ true)
     → (slots items : List ℕ) → items ≡ slots → ((s : ℕ) → IsTouchedAt p.live lits s → has slots s ≡ true) → Passed p them items
     → AllClash (maps.get p.live) (assumed_by p.assumptions) (is_candidate them) (rest_of them)
-all_touched_passed p them lits touched slots items is all passed =
-    all_passed (maps.get p.live) (assumed_by p.assumptions) them items
-    (λ s c at test. subst (λ ls. has ls s ≡ true) (sym is) (all s (record { clause = c; at = at; touched = touched c test }))) passed
+all_touched_passed p them lits touched slots items is all passed = all_passed _ _ them items
+    (grind arith) passed

@@ -1,27 +1,25 @@
 -- What deletions lose, from what propagation over the slots says.
-use Rattle.std.proofs.Common.{◌≡◌, ℕ, ◌≤◌, Bool, true, false, Some, is_some, IsSome, Ok, Result}
-use Rattle.std.proofs.Common.{List, [], ◌++◌, slice_get, subst, arith, IfOk, OnErr, refl, sym, inl}
-use Rattle.std.proofs.Common.{inr, ◌⊎◌, ◌↔◌, rules, ap}
-use Rattle.std.proofs.lemmas.Bool.{cases_Bool, false≢true}
-use Rattle.std.specs.{Ordering.nat_cmp, FinMap.FinMap}
-use Rattle.std.specs.FinMap as maps
-use Rattle.cnf_base.specs.Literals.{Literal, Clause, has, same_clause}
 use Rattle.cnf_base.proofs.MapLemmas.{after_remove, sum_remove}
-use Rattle.cnf_base.proofs.SetLemmas.{same_itself, same_symm, same_there, same_back}
+use Rattle.cnf_base.proofs.SetLemmas.{same_back, same_itself, same_symm, same_there}
+use Rattle.cnf_base.specs.Literals.{Clause, Literal, has, same_clause}
+use Rattle.drat_steps.proofs.DratLemmas.Steps.{covered_by_slots, reason-slots, slots-clash}
+use Rattle.drat_steps.proofs.DratLemmas.Steps.{slots-reason, slots-remove, slots_covered}
+use Rattle.propagation.specs.Assumptions.{Assuming, IsAnswer, IsValue, Propagation, assumed_by}
+use Rattle.std.proofs.Common.{Bool, IfOk, IsSome, List}
+use Rattle.std.proofs.Common.{Ok, OnErr, Result, Some, [], ap, arith, false, inl, inr, is_some}
+use Rattle.std.proofs.Common.{refl, rules, slice_get, subst, sym, true, ℕ, ◌↔◌, ◌≡◌, ◌≤◌, ◌⊎◌}
+use Rattle.std.{proofs.lemmas.Bool.cases_Bool, proofs.lemmas.Bool.false≢true, specs.FinMap.FinMap}
+use Rattle.theory.proofs.LawLemmas.Losses.{no_reason_kept, none_held, still_held}
+use Rattle.theory.proofs.PropagationLemmas.Covers.{Covers, clash_covers, forced_covers}
+use Rattle.theory.specs.Propagation.{Clash, Forced, IsRootReason, Live, by_both}
 use Rattle.theory.specs.declared.accepted.Accepted.TheVariants.{Deleted}
 use Rattle.theory.specs.{Drat.SameLive, Drat.take_off, Losses.DeleteLoses}
-use Rattle.theory.specs.Propagation.{Live, Forced, Clash, IsRootReason, by_both}
-use Rattle.theory.proofs.{DratLemmas.Copies.covers_of, PropagationLemmas.Forced.clash_through}
-use Rattle.theory.proofs.LawLemmas.Losses.{none_held, still_held, no_reason_kept}
-use Rattle.theory.proofs.PropagationLemmas.Covers.{Covers, forced_covers, clash_covers}
-use Rattle.propagation.specs.Assumptions.{IsValue, IsAnswer, Propagation, Assuming, assumed_by}
-use Rattle.propagation.specs.declared.answer.Answer.{Answer}
+use Rattle.trail.specs.declared.value.Value.TheVariants.{False, Open, True}
+use Rattle.{clause_db.specs.Store.literals_in, theory.proofs.PropagationLemmas.Forced.clash_through}
+use Rattle.{propagation.specs.declared.answer.Answer.Answer, trail.specs.declared.value.Value.Value}
+use Rattle.{std.specs.Ordering.nat_cmp, theory.proofs.DratLemmas.Copies.covers_of}
+use Rattle.std.specs.FinMap as maps
 use Rattle.propagation.specs.declared.answer.Answer.TheVariants as answers
-use Rattle.clause_db.specs.Store.{literals_in}
-use Rattle.trail.specs.declared.value.Value.{Value}
-use Rattle.trail.specs.declared.value.Value.TheVariants.{True, False, Open}
-use Rattle.drat_steps.proofs.DratLemmas.Slots.{slots-clash, slots_covered, covered_by_slots}
-use Rattle.drat_steps.proofs.DratLemmas.Slots.{slots-reason, reason-slots, slots-remove}
 
 -- ---- The clause in the slot, however the step writes it
 
@@ -33,16 +31,16 @@ module _ (live : FinMap nat_cmp Clause) (slot : ℕ) (c lits : Clause) (there : 
   Loses = DeleteLoses (maps.values live) lits Deleted
 
   removed : Covers (maps.get left) (maps.get live)
-  removed k d at = (k, d, after_remove live slot k d at, same_itself d)
+  removed k d at = grind (arith, after_remove, same_itself)
 
   off : SameLive (maps.values left) (take_off lits (maps.values live))
-  off = slots-remove live slot lits c there (same_symm c lits same)
+  off = grind (arith, slots-remove, same_symm)
 
   listed : (l : Literal) → Forced (maps.get live) [] l → Forced (slice_get (maps.values live)) [] l
-  listed l f = forced_covers _ _ (slots_covered live) [] l f
+  listed l f = grind (arith, forced_covers, slots_covered)
 
   left_listed : (l : Literal) → Forced (maps.get left) [] l → Forced (slice_get (take_off lits (maps.values live))) [] l
-  left_listed l f = forced_covers _ _ (covers_of _ _ off) [] l (forced_covers _ _ (slots_covered left) [] l f)
+  left_listed l f = forced_covers _ _ (covers_of _ _ off) [] l (grind (arith, forced_covers, slots_covered))
 
   left_slots : (l : Literal) → Forced (slice_get (take_off lits (maps.values live))) [] l → Forced (maps.get left) [] l
   left_slots l f =
@@ -67,7 +65,7 @@ module _ (live : FinMap nat_cmp Clause) (slot : ℕ) (c lits : Clause) (there : 
     pub loses_nothing : ((l : Literal) → has c l ≡ true → ¬ Forced (maps.get live) [] l) → ¬ Loses
     loses_nothing none (inl p) = quiet_listed p.0
     loses_nothing none (inr p) =
-        none_held (maps.values live) lits quiet_listed (λ l member f. none l (same_back c lits same l member) (forced_covers _ _ (covered_by_slots live) [] l f)) p.1
+        none_held _ lits quiet_listed (λ l member f. none l (same_back c lits same l member) (grind (arith, forced_covers, covered_by_slots))) p.1
 
     -- one did
     module _ (l : Literal) (member : has c l ≡ true) (held : Forced (maps.get live) [] l) where
@@ -82,7 +80,7 @@ module _ (live : FinMap nat_cmp Clause) (slot : ℕ) (c lits : Clause) (there : 
           | inl is ↦ is
           | inr not ↦ elim (stays not) [
             | inl still ↦ absurd (keeps_all still loses)
-            | inr clash ↦ absurd (quiet (clash_covers _ _ removed [] clash))
+            | inr clash ↦ search (rules, arith, clash_covers, removed)
           ]
         ],
       )
@@ -99,14 +97,14 @@ pub unlost : (had : Bool) (before after : Propagation) (slot : ℕ) (lits : Clau
     → ((e : Clause) → maps.get after.live slot ≡ Some e → ¬ IsRootReason (maps.get after.live) e)
     → (had ≡ true) ↔ ((had ≡ true) ⊎ DeleteLoses (maps.values before.live) lits Deleted)
 unlost had before after slot lits same found none =
-    let None : FinMap nat_cmp Clause → Type 0 = λ m. (e : Clause) → maps.get m slot ≡ Some e
+    let None : FinMap _ _ → Type 0 = λ m. (e : Clause) → maps.get m slot ≡ Some e
     → ¬ IsRootReason (maps.get m) e in
     noted_before had _ (reasonless before.live slot found.0 lits found.1 found.2
     (subst None (ap (λ s. s.live) same) none found.0 found.1))
 
 -- a loss was noted before
 pub noted_already : (had : Bool) (X : Type 0) → had ≡ true → (had ≡ true) ↔ ((had ≡ true) ⊎ X)
-noted_already had X is = (λ h. inl h, λ either. is)
+noted_already had X is = grind arith
 
 -- nothing was noted before
 pub noted_now : (had told : Bool) (X : Type 0) → had ≡ false → (told ≡ true) ↔ X → (told ≡ true) ↔ ((had ≡ true) ⊎ X)
@@ -124,13 +122,13 @@ not_forced live assumed l Open quiet is not f = is.0 f
 
 module _ {E : Type 0} (before after : Propagation) (answer : Answer) (idle : before.assumptions ≡ []) (assumed : Assuming {E = E} before after [] (Ok answer)) where
   answered : IsAnswer (maps.get before.live) [] answer
-  answered = subst (λ xs. IsAnswer (maps.get before.live) (assumed_by xs ++ []) answer) idle assumed.answer
+  answered = rw idle at assumed.answer
 
   pub has_clashed : answer ≡ answers.Clash → Clash (maps.get before.live) []
-  has_clashed is = subst (IsAnswer (maps.get before.live) []) is answered
+  has_clashed is = rw is at answered
 
   pub is_quiet : answer ≡ answers.Quiet → ¬ Clash (maps.get before.live) []
-  is_quiet is = subst (IsAnswer (maps.get before.live) []) is answered
+  is_quiet is = rw is at answered
 
   module _ (is : answer ≡ answers.Quiet) where
     abbrev now : List Literal
@@ -147,7 +145,7 @@ module _ {E : Type 0} (before after : Propagation) (answer : Answer) (idle : bef
 
     pub no_clash_now : ¬ Clash (maps.get after.live) now
     no_clash_now clash =
-        is_quiet is (clash_through (maps.get before.live) now [] (λ a h. absurd (none_assumed a h)) (subst (λ m. Clash (maps.get m) now) assumed.live clash))
+        is_quiet is (clash_through _ _ [] (λ a h. absurd (none_assumed a h)) (rw assumed.live at clash))
 
 -- ---- Results
 

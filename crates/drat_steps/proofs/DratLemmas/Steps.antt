@@ -1,33 +1,104 @@
--- The answers to a DRAT step, from what propagation over the slots says.
-use Rattle.std.proofs.Common.{◌≡◌, ◌≢◌, ℕ, Bool, true, false, cond, Some, None, Ok, Err, List, []}
-use Rattle.std.proofs.Common.{◌∷◌, ◌++◌, slice_get, ◌+◌, refl, sym, ap, ◌∙◌, subst, arith, rules}
-use Rattle.std.proofs.lemmas.{Bool.false_from_ne_true, List.map-append, List.Folds.list_any_at}
-use Rattle.std.proofs.lemmas.Option.{slice_get_within, get_or_from_slice_get, none-some, same_Some}
-use Rattle.std.specs.{List.list_any, Ordering.nat_cmp, FinMap.FinMap}
+-- A map from slots to clauses, whose values are the live clauses.
+use Rattle.cnf_base.proofs.MapLemmas.{inserted_is, sum_insert, sum_remove}
+use Rattle.cnf_base.proofs.SetLemmas.{any_from, any_none, any_some, both_pass, has-complements}
+use Rattle.cnf_base.proofs.SetLemmas.{has-filter, has_append_cases, has_append_left, same_trans}
+use Rattle.cnf_base.proofs.SetLemmas.{has_append_right, has_head, same_itself, same_symm}
+use Rattle.cnf_base.specs.Literals.{Literal, complement, complements, has, same_clause, without}
+use Rattle.drat_steps.specs.Code.Candidates.{AllClash, Searched, SomeQuiet}
+use Rattle.proofs.specs.Steps.{clause_part, witness_part}
+use Rattle.propagation.proofs.PropagationLemmas.Counts.{below_found, both, tied}
+use Rattle.std.proofs.Common.{Bool, Err, List, None, Ok, Some, T, []}
+use Rattle.std.proofs.Common.{ap, arith, cond, drop, eq-eqb, eqb, false, filter, inl, inr, length}
+use Rattle.std.proofs.Common.{map, not, refl, rules, slice_get, subst, suc, sym, take, take_while}
+use Rattle.std.proofs.Common.{true, zero, ℕ, ◌&&◌, ◌++◌, ◌+◌, ◌||◌, ◌↔◌, ◌∙◌, ◌∷◌, ◌≡◌, ◌≢◌, ◌⊎◌}
+use Rattle.std.proofs.lemmas.Bool.{cases_Bool, false_from_ne_true, true≢false}
+use Rattle.std.proofs.lemmas.List.{map-append, Folds.list_any_at}
+use Rattle.std.proofs.lemmas.Option.{get_or_from_slice_get, none-some, same_Some, slice_get_within}
+use Rattle.std.specs.FinMap.{FinMap, find, get-entries, is_sorted}
+use Rattle.std.specs.{List.list_any, Ordering.eq_by_cmp, Ordering.nat_cmp}
+use Rattle.theory.proofs.DratLemmas.Copies.{alive_at, copies-cons, copies-take_off, pr_covers}
+use Rattle.theory.proofs.PropagationLemmas.Covers.{Covers, clash_covers, reason_covers}
+use Rattle.theory.proofs.PropagationLemmas.Forced.{clash_by_false, clash_through, forced_assumed}
+use Rattle.theory.proofs.{DratLemmas.Copies.rat_covers, PropagationLemmas.Conflicts.not_both}
+use Rattle.theory.specs.Drat.{AnswersListed, AnswersWithWitness, SameLive, copies_of, take_off}
+use Rattle.theory.specs.Propagation.{HasPr, HasRat, HasRup, IsRootReason, Live, open_literals}
+use Rattle.theory.specs.declared.accepted.Accepted.TheVariants.{Deleted, Ignored, Pr, Rat}
+use Rattle.theory.specs.declared.refusal.Refusal.TheVariants.{InconsistentSet, NeitherRupNorPr}
+use Rattle.theory.specs.declared.refusal.Refusal.TheVariants.{NeitherRupNorRat, NotRup}
+use Rattle.theory.specs.{Drat.AnswersAdd, declared.drat_rules.DratRules.DratRules}
+use Rattle.theory.specs.{Drat.AnswersDelete, Lrat.AnswersChain, Lrat.conflict, Propagation.Clash}
+use Rattle.theory.specs.{Sets.SameSet, Sets.conflicts, declared.accepted.Accepted.Accepted}
+use Rattle.trail.specs.{Reduced.is_reduced, declared.literal_set.LiteralSet.LiteralSet}
+use Rattle.{cnf_base.proofs.LiteralLemmas.complement-complement, trail.specs.LiteralSet.in_set}
+use Rattle.{cnf_base.specs.Literals.Clause, propagation.specs.Assumptions.Propagation}
 use Rattle.std.specs.FinMap as maps
-use Rattle.cnf_base.specs.Literals.{Literal, Clause, complement, complements, has, without}
-use Rattle.cnf_base.{specs.Literals.same_clause, proofs.MapLemmas.inserted_is}
-use Rattle.cnf_base.proofs.SetLemmas.{has_append_left, has_append_right, has_append_cases, has_head}
-use Rattle.cnf_base.proofs.SetLemmas.{both_pass, same_symm, same_trans}
-use Rattle.theory.specs.{Sets.SameSet, declared.accepted.Accepted.Accepted}
-use Rattle.theory.specs.declared.accepted.Accepted.TheVariants.{Rat, Deleted, Ignored}
-use Rattle.theory.specs.{declared.drat_rules.DratRules.DratRules, Lrat.AnswersChain, Lrat.conflict}
-use Rattle.theory.specs.declared.refusal.Refusal.TheVariants.{NotRup, NeitherRupNorRat}
-use Rattle.theory.specs.Propagation.{Live, Clash, HasRup, IsRootReason}
-use Rattle.theory.specs.Drat.{AnswersAdd, AnswersDelete, take_off, copies_of, SameLive}
-use Rattle.theory.proofs.PropagationLemmas.Forced.{forced_assumed, clash_through}
-use Rattle.theory.proofs.DratLemmas.Copies.{copies-cons, alive_at}
-use Rattle.propagation.specs.Assumptions.{Propagation}
-use Rattle.drat_steps.specs.Code.Candidates.{AllClash, SomeQuiet, Searched}
-use Rattle.drat_steps.proofs.DratLemmas.Slots.{slots-insert, slots-remove, slots-clash, slots-rat}
-use Rattle.drat_steps.proofs.DratLemmas.Slots.{slots_covered, covered_by_slots, slots-reason}
-use Rattle.drat_steps.proofs.DratLemmas.Slots.{reason-slots}
+
+abbrev clauses_in : List (ℕ × Clause) → List Clause
+clauses_in es = map (λ e. e.1) es
+
+-- a clause at a slot that was free is one copy more
+pub slots-insert : (m : FinMap nat_cmp Clause) (k : ℕ) (c : Clause) → maps.get m k ≡ None → SameLive (maps.values (maps.insert m k c)) (c ∷ maps.values m)
+slots-insert m k c absent = search (rules, arith, sum_insert, copies-cons)
+
+eq_itself : (k : ℕ) → eq_by_cmp nat_cmp k k ≡ true
+eq_itself k = grind (arith, eq-eqb)
+
+-- a slot that is freed is one copy less
+pub slots-remove : (m : FinMap nat_cmp Clause) (k : ℕ) (c d : Clause) → maps.get m k ≡ Some d → same_clause c d ≡ true → SameLive (maps.values (maps.remove m k)) (take_off c (maps.values m))
+slots-remove m k c d at same =
+    search (rules, arith, both_pass, same_trans, same_symm, sum_remove, copies-take_off)
+
+-- ---- Looking a slot up, and standing in the list of values
+
+find_listed : (es : List (ℕ × Clause)) (k : ℕ) (c : Clause) → find nat_cmp k es ≡ Some c → (j : ℕ) × (slice_get (clauses_in es) j ≡ Some c)
+find_listed [] k c at = absurd (none-some c at)
+find_listed (x ∷ es) k c at = elim (cases_Bool (eq_by_cmp nat_cmp k x.0)) [
+  | inl e ↦ (zero, grind arith)
+  | inr e ↦ let w = find_listed es k c (grind arith) in (suc w.0, w.1)
+]
+
+listed_found : (es : List (ℕ × Clause)) → T (is_sorted nat_cmp es) → (j : ℕ) (c : Clause) → slice_get (clauses_in es) j ≡ Some c → (k : ℕ) × (find nat_cmp k es ≡ Some c)
+listed_found [] sorted j c at = absurd (none-some c at)
+listed_found (x ∷ es) sorted zero c at = (x.0, ap (λ b. cond b (Some x.1) (find nat_cmp x.0 es)) (eq_itself x.0) ∙ at)
+listed_found (x ∷ es) sorted (suc j) c at =
+    search (
+      rules,
+      arith,
+      both,
+      below_found,
+      false_from_ne_true,
+      tied,
+      (listed_found es (grind (arith, both)) j c at),
+    )
+
+pub slots_covered : (m : FinMap nat_cmp Clause) → Covers (maps.get m) (slice_get (maps.values m))
+slots_covered m k c at = let w = find_listed _ _ _ (sym (get-entries m k) ∙ at) in (w.0, c, w.1, same_itself c)
+
+pub covered_by_slots : (m : FinMap nat_cmp Clause) → Covers (slice_get (maps.values m)) (maps.get m)
+covered_by_slots m j c at = let w = listed_found _ (maps.entries_sorted m) j c at in (w.0, c, get-entries m w.0 ∙ w.1, same_itself c)
+
+-- propagation, RAT and PR over the slots are those over the list of values
+pub slots-clash : (m : FinMap nat_cmp Clause) (assumed : List Literal) → Clash (maps.get m) assumed ↔ Clash (slice_get (maps.values m)) assumed
+slots-clash m assumed = search (rules, arith, clash_covers, slots_covered, covered_by_slots)
+
+pub slots-rat : (m : FinMap nat_cmp Clause) (c : Clause) (pivot : Literal) → HasRat (maps.get m) c pivot ↔ HasRat (slice_get (maps.values m)) c pivot
+slots-rat m c pivot = search (rules, arith, rat_covers, slots_covered, covered_by_slots)
+
+pub slots-pr : (m : FinMap nat_cmp Clause) (c set : List Literal) → HasPr (maps.get m) c set ↔ HasPr (slice_get (maps.values m)) c set
+slots-pr m c set = search (rules, arith, pr_covers, slots_covered, covered_by_slots)
+
+-- a clause that is the reason of a root-level literal, however it is written
+pub slots-reason : (m : FinMap nat_cmp Clause) (c d : Clause) → same_clause c d ≡ true → IsRootReason (maps.get m) c → IsRootReason (slice_get (maps.values m)) d
+slots-reason m c d same r = reason_covers _ _ (slots_covered m) c d same r
+
+pub reason-slots : (m : FinMap nat_cmp Clause) (c d : Clause) → same_clause c d ≡ true → IsRootReason (slice_get (maps.values m)) c → IsRootReason (maps.get m) d
+reason-slots m c d same r = reason_covers _ _ (covered_by_slots m) c d same r
 
 -- ---- RUP and RAT
 
 -- a clash needs no literal twice
 pub clash_same : (live : Live) (first second : List Literal) → ((a : Literal) → has first a ≡ true → has second a ≡ true) → Clash live first → Clash live second
-clash_same live first second into = clash_through live first second (λ a h. forced_assumed live second a (into a h))
+clash_same live first second into = search (rules, arith, clash_through, forced_assumed)
 
 module _ (c : Clause) (assumed : List Literal) (same : SameSet assumed (complements c)) (d : Clause) where
   pub there : (a : Literal) → has (assumed ++ complements d) a ≡ true → has (complements (c ++ d)) a ≡ true
@@ -44,16 +115,16 @@ module _ (live : FinMap nat_cmp Clause) where
   no_rup_listed c none rup = none ((slots-clash live (complements c)).1 rup)
 
   pub answers_rup : (c : Clause) (word : Accepted) → AnswersChain (λ _. None) c [] conflict (Ok word) → Clash (maps.get live) (complements c) → AnswersAdd (slice_get (maps.values live)) c (Ok word)
-  answers_rup [] word is clash = subst (AnswersAdd (slice_get (maps.values live)) []) (sym is) (rup_listed [] clash)
-  answers_rup (l ∷ c) word is clash = subst (AnswersAdd (slice_get (maps.values live)) (l ∷ c)) (sym is) (rup_listed (l ∷ c) clash)
+  answers_rup [] word is clash = subst (AnswersAdd _ []) (sym is) (rup_listed [] clash)
+  answers_rup (l ∷ c) word is clash = subst (AnswersAdd _ (l ∷ c)) (sym is) (rup_listed (l ∷ c) clash)
 
   module _ (pivot : Literal) (rest assumed : List Literal) (same : SameSet assumed (complements (pivot ∷ rest))) (none : ¬ HasRup (maps.get live) (pivot ∷ rest)) where
     pub answers_rat : AllClash (maps.get live) assumed (λ d. has d (complement pivot)) (λ d. without d (complement pivot)) → AnswersAdd (slice_get (maps.values live)) (pivot ∷ rest) (Ok Rat)
     answers_rat all = (
       no_rup_listed (pivot ∷ rest) none,
-      (slots-rat live (pivot ∷ rest) pivot).0 (record {
+      (slots-rat _ _ _).0 (record {
         holds_pivot = has_head pivot rest;
-        candidates = λ k d at member. clash_same (maps.get live) _ _ (there (pivot ∷ rest) assumed same (without d (complement pivot))) (all k d at member);
+        candidates = λ k d at member. clash_same _ _ _ (there (pivot ∷ rest) assumed same _) (all k d at member);
       }),
     )
 
@@ -61,9 +132,8 @@ module _ (live : FinMap nat_cmp Clause) where
     answers_neither some = (
       refl,
       no_rup_listed (pivot ∷ rest) none,
-      λ rat.
-          some.quiet (clash_same (maps.get live) _ _ (back (pivot ∷ rest) assumed same (without some.clause (complement pivot)))
-          (((slots-rat live (pivot ∷ rest) pivot).1 rat).candidates some.slot some.clause some.at some.passes)),
+      λ rat. some.quiet (clash_same _ _ _ (back (pivot ∷ rest) assumed same _)
+          (((slots-rat _ _ _).1 rat).candidates some.slot some.clause some.at some.passes)),
     )
 
 abbrev SearchedHolding : Live → List Literal → Literal → Bool → Type 0
@@ -73,39 +143,37 @@ SearchedHolding live assumed l = Searched live assumed (λ d. has d l) (λ d. wi
 answers_at : (live : FinMap nat_cmp Clause) (c : List Literal) (pivot : Literal) (rest assumed : List Literal) → c ≡ pivot ∷ rest → SameSet assumed (complements c) → ¬ HasRup (maps.get live) c →
     (b : Bool) → SearchedHolding (maps.get live) assumed (complement pivot) b → AnswersAdd (slice_get (maps.values live)) c (cond b (Ok Rat) (Err (NeitherRupNorRat pivot)))
 answers_at live c pivot rest assumed is same none true all =
-    subst (λ c. AnswersAdd (slice_get (maps.values live)) c (Ok Rat)) (sym is) (answers_rat live pivot rest assumed (subst (λ c. SameSet assumed (complements c)) is same) (subst (λ c. ¬ HasRup (maps.get live) c) is none) all)
+    rw is (answers_rat live pivot rest assumed (rw is at same) (rw is at none) all)
 answers_at live c pivot rest assumed is same none false some =
-    subst (λ c. AnswersAdd (slice_get (maps.values live)) c (Err (NeitherRupNorRat pivot))) (sym is) (answers_neither live pivot rest assumed (subst (λ c. SameSet assumed (complements c)) is same) (subst (λ c. ¬ HasRup (maps.get live) c) is none) some)
+    rw is (answers_neither live pivot rest assumed (rw is at same) (rw is at none) some)
 
 pub answers_none : (live : FinMap nat_cmp Clause) (c : List Literal) → None ≡ slice_get c 0 → ¬ HasRup (maps.get live) c → AnswersAdd (slice_get (maps.values live)) c (Err NotRup)
 answers_none live [] first none = no_rup_listed live [] none
-answers_none live (l ∷ c) first none = absurd (none-some l first)
+answers_none live (l ∷ c) first none = grind (arith, none-some)
 
 -- the clause begins with the pivot, whose candidates were searched
 pub answers_searched : (live : FinMap nat_cmp Clause) (c : List Literal) (pivot : Literal) → Some pivot ≡ slice_get c 0 → (assumed : List Literal) → SameSet assumed (complements c) → ¬ HasRup (maps.get live) c →
     (opposite : Literal) → opposite ≡ complement pivot → (found b : Bool) → found ≡ b → SearchedHolding (maps.get live) assumed opposite found → AnswersAdd (slice_get (maps.values live)) c (cond b (Ok Rat) (Err (NeitherRupNorRat pivot)))
 answers_searched live [] pivot first assumed same none opposite is found b value searched = cc
 answers_searched live (l ∷ c) pivot first assumed same none opposite is found b value searched =
-    answers_at live (l ∷ c) pivot c assumed (ap (λ k. k ∷ c) (same_Some l pivot (sym first))) same none b
-    (subst (SearchedHolding (maps.get live) assumed (complement pivot)) value (subst (λ l. SearchedHolding (maps.get live) assumed l found) is searched))
+    answers_at live (l ∷ c) pivot c assumed (grind (arith, same_Some)) same none b (grind arith)
 
 pub no_clash : (first second : FinMap nat_cmp Clause) (c assumed : List Literal) → second ≡ first → ¬ Clash (maps.get first) assumed → assumed ≡ complements c → ¬ HasRup (maps.get second) c
-no_clash first second c assumed is none same rup =
-    none (subst (Clash (maps.get first)) (sym same) (subst (λ m. Clash (maps.get m) (complements c)) is rup))
+no_clash first second c assumed is none same rup = none (subst (Clash _) (sym same) (rw is at rup))
 
 -- ---- What is alive
 
 module _ (old new : FinMap nat_cmp Clause) (slot : ℕ) (c lits : Clause) (free : maps.get old slot ≡ None) (at : maps.get new slot ≡ Some c) (same : same_clause c lits ≡ true)
     (others : (s : ℕ) → s ≢ slot → maps.get new s ≡ maps.get old s) where
   is_insert : new ≡ maps.insert old slot c
-  is_insert = inserted_is old new slot c at others
+  is_insert = grind (arith, inserted_is)
 
   -- a clause in a slot that was free is one copy more
   pub one_more : SameLive (maps.values new) (lits ∷ maps.values old)
   one_more = record {
     copies = λ e. ap (λ m. copies_of e (maps.values m)) is_insert
         ∙ (slots-insert old slot c free).copies e ∙ copies-cons e c (maps.values old)
-        ∙ ap (λ b. cond b 1 0 + copies_of e (maps.values old)) (both_pass (same_clause e c) (same_clause e lits) (λ h. same_trans e c lits h same) (λ h. same_trans e lits c h (same_symm c lits same)))
+        ∙ ap (λ b. cond b 1 0 + copies_of e (maps.values old)) (grind (arith, both_pass, same_trans, same_symm))
         ∙ sym (copies-cons e lits (maps.values old));
   }
 
@@ -114,8 +182,8 @@ module _ (old new : FinMap nat_cmp Clause) (slot : ℕ) (c lits : Clause) (free 
 module _ (live : FinMap nat_cmp Clause) (lits : Clause) where
   alive_listed : (slot : ℕ) (c : Clause) → maps.get live slot ≡ Some c → same_clause c lits ≡ true → list_any (same_clause lits) (maps.values live) ≡ true
   alive_listed slot c at same =
-      let w = slots_covered live slot c at in
-      found (maps.values live) w.0 w.1 w.2 (same_trans lits c w.1 (same_symm c lits same) w.3)
+      let w = slots_covered _ _ _ at in
+      found _ w.0 w.1 w.2 (grind (arith, same_trans, same_symm))
     where
       found : (over : List Clause) (j : ℕ) (d : Clause) → slice_get over j ≡ Some d → same_clause lits d ≡ true → list_any (same_clause lits) over ≡ true
       found over j d at same = list_any_at (same_clause lits) over j [] (slice_get_within over j d at) (subst (λ x. same_clause lits x ≡ true) (sym (get_or_from_slice_get over j d [] at)) same)
@@ -135,7 +203,94 @@ module _ (before after : Propagation) (same : after ≡ before) (rules : DratRul
   pub not_kept_deleted : ((c : Clause) → maps.get after.live slot ≡ Some c → ¬ ((rules.keep_units ≡ true) × IsRootReason (maps.get after.live) c)) → AnswersDelete rules (maps.values before.live) lits (Ok Deleted)
   not_kept_deleted leaves = (
     alive_listed before.live lits slot found.0 found.1 found.2,
-    λ kept.
-        subst (λ s. (c : Clause) → maps.get s.live slot ≡ Some c → ¬ ((rules.keep_units ≡ true) × IsRootReason (maps.get s.live) c)) same leaves found.0 found.1
+    λ kept. (rw same at leaves) found.0 found.1
         (kept.0, reason-slots before.live lits found.0 (same_symm found.0 lits found.2) kept.1),
   )
+
+-- ---- The set that was filled with the witness
+
+module _ (set : LiteralSet) (witness : List Literal) (filled : (l : Literal) → in_set set l ≡ has witness l) where
+  pub touched_if_reduced : (d : Clause) → is_reduced (in_set set) d ≡ true → list_any (λ l. has d (complement l)) witness ≡ true
+  touched_if_reduced d reduced = grind (arith, any_some, list_any, any_from, complement-complement)
+
+  searched_filled : (live : Live) (assumed : List Literal) (found : Bool) → Searched live assumed (is_reduced (in_set set)) (λ c. filter (λ l. not (in_set set (complement l))) c) found → Searched live assumed (is_reduced (has witness)) (open_literals witness) found
+  searched_filled live assumed found h = subst (λ (f : Literal → Bool). Searched live assumed (is_reduced f) (λ c. filter (λ l. not (f (complement l))) c) found) (λ i l. filled l i) h
+
+  pub conflicts_filled : list_any (λ l. in_set set (complement l)) witness ≡ conflicts witness
+  conflicts_filled = search rules
+
+pub listed_inconsistent : (live : List Clause) (c witness : List Literal) → conflicts witness ≡ true → AnswersListed (slice_get live) c witness (Err InconsistentSet)
+listed_inconsistent live c witness h = search rules
+
+-- ---- What an addition lists
+
+-- a witness that is listed begins with the clause's first literal
+pub parts_meet : (lits : List Literal) → (witness_part lits ≡ []) ⊎ ((l : Literal) × (has (clause_part lits) l ≡ true) × (has (witness_part lits) l ≡ true))
+parts_meet [] = inl refl
+parts_meet (first ∷ rest) = elim (from_first rest) [
+  | inl none ↦ inl none
+  | inr there ↦ grind (arith, has_head, there)
+]
+  where
+    by_test : (b : Bool) (l : Literal) (ls : List Literal) (n : ℕ) → eqb l first ≡ b → (drop (length (take n ls)) ls ≡ []) ⊎ (has (drop (length (take n ls)) ls) first ≡ true) →
+        (drop (length (take (cond (not b) (1 + n) 0) (l ∷ ls))) (l ∷ ls) ≡ []) ⊎ (has (drop (length (take (cond (not b) (1 + n) 0) (l ∷ ls))) (l ∷ ls)) first ≡ true)
+    by_test true l ls n e h = inr (ap (λ b. b || has ls first) e)
+    by_test false l ls n e h = search rules
+
+    from_first : (ls : List Literal) → (drop (length (take_while (λ l. not (eqb l first)) ls)) ls ≡ []) ⊎ (has (drop (length (take_while (λ l. not (eqb l first)) ls)) ls) first ≡ true)
+    from_first [] = inl refl
+    from_first (l ∷ ls) = by_test (eqb l first) l ls _ refl (from_first ls)
+
+-- ---- The answers
+
+module _ (live : FinMap nat_cmp Clause) (c witness assumed : List Literal) (same : SameSet assumed (complements c)) where
+  -- a clause that the witness does not reduce meets it, or is false where the clause and all of it are assumed false
+  others_from : AllClash (maps.get live) assumed (is_reduced (has witness)) (open_literals witness) → (k : ℕ) (d : Clause) → maps.get live k ≡ Some d →
+      ((l : Literal) × (has d l ≡ true) × (has witness l ≡ true)) ⊎ HasRup (maps.get live) (c ++ open_literals witness d)
+  others_from all k d at = elim (cases_Bool (list_any (has witness) d)) [
+    | inl met ↦ inl (any_some (has witness) d met)
+    | inr unmet ↦ elim (cases_Bool (list_any (λ l. has witness (complement l)) d)) [
+      | inl touched ↦ inr (clash_same _ _ _ (grind (arith, there)) (all k d at (grind arith)))
+      | inr untouched ↦ inr (clash_by_false _ _ _ _ at (grind (arith, forced_assumed, has-complements, has_append_right, has-filter, any_none)))
+    ]
+  ]
+
+  second_of : (a b : Bool) → (a && not b) ≡ true → b ≡ false
+  second_of a b h = search rules
+
+  some_not_pr : SomeQuiet (maps.get live) assumed (is_reduced (has witness)) (open_literals witness) → ¬ HasPr (maps.get live) c witness
+  some_not_pr some pr = elim (pr.others some.slot some.clause some.at) [
+    | inl met ↦ grind (arith, true≢false, any_from, second_of)
+    | inr rup ↦ some.quiet (clash_same _ _ _ (grind (arith, back)) rup)
+  ]
+
+  module _ (consistent : conflicts witness ≡ false) (meets : (l : Literal) × (has c l ≡ true) × (has witness l ≡ true)) (none : ¬ HasRup (maps.get live) c) where
+    pub answers_pr : AllClash (maps.get live) assumed (is_reduced (has witness)) (open_literals witness) → AnswersWithWitness (slice_get (maps.values live)) c witness (Ok Pr)
+    answers_pr all = (
+      consistent,
+      no_rup_listed live c none,
+      (slots-pr _ _ _).0 (record { consistent = grind (arith, not_both); meets = meets; others = others_from all }),
+    )
+
+    -- the clauses that the witness reduces were searched
+    answers_reduced : (found b : Bool) → found ≡ b → Searched (maps.get live) assumed (is_reduced (has witness)) (open_literals witness) found → AnswersWithWitness (slice_get (maps.values live)) c witness (cond b (Ok Pr) (Err NeitherRupNorPr))
+    answers_reduced true true value all = answers_pr all
+    answers_reduced false false value some = (consistent, no_rup_listed live c none, λ pr. some_not_pr some ((slots-pr _ _ _).1 pr))
+    answers_reduced true false value all = absurd (true≢false value)
+    answers_reduced false true value some = grind (arith, true≢false)
+
+    pub answers_filled : (set : LiteralSet) → ((l : Literal) → in_set set l ≡ has witness l) → (found b : Bool) → found ≡ b →
+        Searched (maps.get live) assumed (is_reduced (in_set set)) (λ d. filter (λ l. not (in_set set (complement l))) d) found → AnswersWithWitness (slice_get (maps.values live)) c witness (cond b (Ok Pr) (Err NeitherRupNorPr))
+    answers_filled set filled found b value searched = answers_reduced found b value (searched_filled set witness filled (maps.get live) assumed found searched)
+
+pub parts_given : (lits c witness : List Literal) → c ≡ clause_part lits → witness ≡ witness_part lits → (witness ≡ []) ⊎ ((l : Literal) × (has c l ≡ true) × (has witness l ≡ true))
+parts_given lits c witness c_is set_is = search (rules, arith, witness_part, parts_meet)
+
+-- the clause has RUP, whether the addition lists a witness or not
+pub listed_rup : (live : FinMap nat_cmp Clause) (c witness : List Literal) (word : Accepted) → AnswersChain (λ _. None) c [] conflict (Ok word) → conflicts witness ≡ false → (witness ≡ []) ⊎ ((l : Literal) × (has c l ≡ true) × (has witness l ≡ true)) →
+    Clash (maps.get live) (complements c) → AnswersListed (slice_get (maps.values live)) c witness (Ok word)
+listed_rup live c [] word is consistent meets clash = answers_rup live c word is clash
+listed_rup live [] (w ∷ witness) word is consistent (inl none) clash = cc
+listed_rup live [] (w ∷ witness) word is consistent (inr met) clash = cc
+listed_rup live (l ∷ c) (w ∷ witness) word is consistent meets clash =
+    subst (AnswersWithWitness _ (l ∷ c) (w ∷ witness)) (sym is) (consistent, rup_listed live (l ∷ c) clash)

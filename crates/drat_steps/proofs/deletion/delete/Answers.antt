@@ -1,11 +1,10 @@
-use Rattle.std.proofs.Common.{arith, sym, ap, ◌∙◌, subst, ◌≡◌, true, ◌↔◌}
+use Rattle.drat_steps.proofs.DratLemmas.Steps.{none_listed, not_kept_deleted, taken_off}
+use Rattle.drat_steps.proofs.DratLemmas.{Losses.noted_now, Losses.unlost, Steps.kept_ignored}
+use Rattle.std.proofs.Common.{ap, arith, subst, sym, true, ◌↔◌, ◌∙◌, ◌≡◌}
 use Rattle.std.{proofs.lemmas.Bool.false≢true, specs.FinMap.FinMap, specs.Ordering.nat_cmp}
-use Rattle.std.specs.FinMap as maps
-use Rattle.cnf_base.specs.Literals.{Clause}
 use Rattle.theory.specs.{Losses.DeleteLoses, declared.accepted.Accepted.TheVariants.Deleted}
-use Rattle.drat_steps.proofs.DratLemmas.Losses.{noted_already, noted_now, unlost}
-use Rattle.drat_steps.proofs.DratLemmas.Steps.{kept_ignored, none_listed, not_kept_deleted}
-use Rattle.drat_steps.proofs.DratLemmas.Steps.{taken_off}
+use Rattle.{cnf_base.specs.Literals.Clause, drat_steps.proofs.DratLemmas.Losses.noted_already}
+use Rattle.std.specs.FinMap as maps
 use Rattle.drat_steps.proofs.deletion.delete.Goals as goal
 
 pub returns-then-rules-clause-answers : goal.returns-then-rules-clause-answers
@@ -23,7 +22,7 @@ returns-then-branch-clause-answers g c =
 
 pub returns-then-rules-2-clause-answers : goal.returns-then-rules-2-clause-answers
 returns-then-rules-2-clause-answers g c =
-    not_kept_deleted (g.P.Propagate.state c.args.clauses.now) _ c.in-Some.ensures.same c.args.rules c.args.lits.now c.in-Some.slot c.in-Some.ensures.found
+    not_kept_deleted _ _ c.in-Some.ensures.same c.args.rules _ _ c.in-Some.ensures.found
     (λ d there kept. c.in_ok-is_root_reason.ensures.no c.if-branch.false d there kept.1)
 
 pub returns-then-rules-2-clause-live : goal.returns-then-rules-2-clause-live
@@ -37,7 +36,7 @@ returns-then-rules-2-clause-lost g c =
 
 pub returns-then-has_lost_literal-clause-answers : goal.returns-then-has_lost_literal-clause-answers
 returns-then-has_lost_literal-clause-answers g c =
-    not_kept_deleted (g.P.Propagate.state c.args.clauses.now) _ c.in-Some.ensures.same c.args.rules c.args.lits.now c.in-Some.slot c.in-Some.ensures.found
+    not_kept_deleted _ _ c.in-Some.ensures.same c.args.rules _ _ c.in-Some.ensures.found
     (λ d there kept. false≢true (sym c.if-rules-2.false ∙ kept.0))
 
 pub returns-then-has_lost_literal-clause-live : goal.returns-then-has_lost_literal-clause-live
@@ -50,7 +49,7 @@ returns-then-has_lost_literal-clause-lost g c = grind (arith, noted_already)
 
 pub returns-then-not-branch-clause-answers : goal.returns-then-not-branch-clause-answers
 returns-then-not-branch-clause-answers g c =
-    not_kept_deleted (g.P.Propagate.state c.args.clauses.now) _ c.in-Some.ensures.same c.args.rules c.args.lits.now c.in-Some.slot c.in-Some.ensures.found
+    not_kept_deleted _ _ c.in-Some.ensures.same c.args.rules _ _ c.in-Some.ensures.found
     (λ d there kept. false≢true (sym c.if-rules-2.false ∙ kept.0))
 
 pub returns-then-not-branch-clause-live : goal.returns-then-not-branch-clause-live
@@ -64,7 +63,7 @@ returns-then-not-branch-clause-lost g c =
 
 pub returns-clause-answers : goal.returns-clause-answers
 returns-clause-answers g c =
-    not_kept_deleted (g.P.Propagate.state c.args.clauses.now) _ c.in-Some.ensures.same c.args.rules c.args.lits.now c.in-Some.slot c.in-Some.ensures.found
+    not_kept_deleted _ _ c.in-Some.ensures.same c.args.rules _ _ c.in-Some.ensures.found
     (λ d there kept. false≢true (sym c.if-rules-2.false ∙ kept.0))
 
 pub returns-clause-live : goal.returns-clause-live

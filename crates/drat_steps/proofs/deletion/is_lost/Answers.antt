@@ -1,10 +1,9 @@
-use Rattle.std.proofs.Common.{arith, not, sym, ap, ◌∙◌, inr}
-use Rattle.std.specs.FinMap as maps
-use Rattle.std.proofs.lemmas.Bool.{false≢true, true≢false}
-use Rattle.propagation.specs.Assumptions.{assumed_by}
-use Rattle.drat_steps.proofs.DratLemmas.Losses.{not_forced, has_clashed, no_clash_now, forced_now}
-use Rattle.drat_steps.proofs.DratLemmas.Losses.{forced_before}
+use Rattle.drat_steps.proofs.DratLemmas.Losses.{forced_now, has_clashed, no_clash_now, not_forced}
 use Rattle.drat_steps.proofs.deletion.is_lost.Goals.{in-Clash, in-Quiet, in-True, in_default}
+use Rattle.std.proofs.Common.{ap, arith, inr, not, sym, ◌∙◌}
+use Rattle.{drat_steps.proofs.DratLemmas.Losses.forced_before, std.proofs.lemmas.Bool.false≢true}
+use Rattle.{propagation.specs.Assumptions.assumed_by, std.proofs.lemmas.Bool.true≢false}
+use Rattle.std.specs.FinMap as maps
 use Rattle.drat_steps.proofs.deletion.is_lost.Goals as goal
 
 pub returns-clause-yes : goal.returns-clause-yes
@@ -24,8 +23,7 @@ returns-clause-yes g c is f =
 
 pub returns-clause-no : goal.returns-clause-no
 returns-clause-no g c is =
-    let old = g.P.Propagate.state c.args.clauses.now in
-    let now = g.P.Propagate.state c.assume.new.self in
+    let old = g.P.Propagate.state _ in let now = g.P.Propagate.state _ in
     let idle = c.requires.nothing_assumed in
     elim c.match-branch-2.branch [
       | in-Clash w ↦ inr (has_clashed old now _ idle c.in_ok-assume.ensures.assumed w.in-Clash.is)

@@ -1,12 +1,11 @@
-use Rattle.std.proofs.Common.{◌≡◌, ◌⊎◌, [], true, false, Some, IfOk, ap, ◌∙◌, subst, arith}
-use Rattle.std.{specs.Ordering.nat_cmp, specs.FinMap.FinMap, proofs.lemmas.Bool.false≢true}
+use Rattle.drat_steps.proofs.DratLemmas.Losses.{forced_before, forced_now, has_clashed}
+use Rattle.drat_steps.proofs.DratLemmas.Losses.{if_ok_both, is_quiet, loses_held, loses_nothing}
+use Rattle.drat_steps.proofs.DratLemmas.Losses.{loses_past_clash, no_clash_now, on_err_too}
+use Rattle.std.proofs.Common.{IfOk, [], ap, arith, false, subst, true, ◌∙◌, ◌≡◌, ◌⊎◌}
+use Rattle.std.{proofs.lemmas.Bool.false≢true, specs.FinMap.FinMap, specs.Ordering.nat_cmp}
+use Rattle.theory.specs.Propagation.{Clash, Forced}
+use Rattle.{cnf_base.specs.Literals.Clause, drat_steps.proofs.DratLemmas.Losses.fewer_literals}
 use Rattle.std.specs.FinMap as maps
-use Rattle.cnf_base.specs.Literals.{Clause}
-use Rattle.theory.specs.Propagation.{Forced, Clash}
-use Rattle.drat_steps.proofs.DratLemmas.Losses.{loses_past_clash, loses_nothing, loses_held}
-use Rattle.drat_steps.proofs.DratLemmas.Losses.{has_clashed, is_quiet, no_clash_now, forced_now}
-use Rattle.drat_steps.proofs.DratLemmas.Losses.{forced_before, if_ok_both, on_err_too}
-use Rattle.drat_steps.proofs.DratLemmas.Losses.{fewer_literals}
 use Rattle.drat_steps.proofs.deletion.remove_reason.Goals as goal
 
 pub returns-in-Clash-clause-loses : goal.returns-in-Clash-clause-loses
@@ -17,7 +16,7 @@ returns-in-Clash-clause-loses g c d lits there same =
 
 pub true_literal-held-requires-clause-no_clash : goal.true_literal-held-requires-clause-no_clash
 true_literal-held-requires-clause-no_clash g c =
-    no_clash_now (g.P.Propagate.state c.args.clauses.now) _ _ c.requires.idle.nothing_assumed c.in_ok-assume.ensures.assumed c.in_default.is
+    no_clash_now _ _ _ c.requires.idle.nothing_assumed c.in_ok-assume.ensures.assumed c.in_default.is
 
 pub returns-in-Some-clause-loses : goal.returns-in-Some-clause-loses
 returns-in-Some-clause-loses g c =
@@ -40,10 +39,10 @@ returns-in-Some-clause-refused g c = grind (arith, fewer_literals, on_err_too)
 
 pub returns-in-None-clause-loses : goal.returns-in-None-clause-loses
 returns-in-None-clause-loses g c d lits there same =
-    let old = g.P.Propagate.state c.args.clauses.now in
+    let old = g.P.Propagate.state _ in
     let shown = ap (λ m. maps.get m c.args.slot) c.in_ok-assume.ensures.assumed.live ∙ there in (
       λ h. absurd (false≢true h),
       λ loses.
           absurd (loses_nothing old.live c.args.slot d lits there same (is_quiet old _ _ c.requires.idle.nothing_assumed c.in_ok-assume.ensures.assumed c.in_default.is)
-          (λ l member f. c.in-None.ensures.none d l shown member (forced_now old _ _ c.requires.idle.nothing_assumed c.in_ok-assume.ensures.assumed c.in_default.is l f)) loses),
+          (grind (arith, forced_now)) loses),
     )

@@ -1,8 +1,7 @@
-use Rattle.std.proofs.Common.{◌≡◌, ℕ, true, take}
-use Rattle.std.specs.FinMap as maps
-use Rattle.cnf_base.specs.Literals.{has}
-use Rattle.propagation.specs.Assumptions.{assumed_by}
+use Rattle.std.proofs.Common.{take, true, ℕ, ◌≡◌}
 use Rattle.theory.specs.Propagation.{Forced}
+use Rattle.{cnf_base.specs.Literals.has, propagation.specs.Assumptions.assumed_by}
+use Rattle.std.specs.FinMap as maps
 use Rattle.drat_steps.proofs.deletion.true_literal.Given as goal
 
 abbrev pub invariant-loop-l : goal.invariant-loop-l

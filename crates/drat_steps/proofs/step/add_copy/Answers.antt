@@ -1,5 +1,4 @@
-use Rattle.std.proofs.Common.{arith}
-use Rattle.drat_steps.proofs.DratLemmas.Steps.{one_more}
+use Rattle.{drat_steps.proofs.DratLemmas.Steps.one_more, std.proofs.Common.arith}
 use Rattle.drat_steps.proofs.step.add_copy.Goals as goal
 
 pub returns-clause-live : goal.returns-clause-live

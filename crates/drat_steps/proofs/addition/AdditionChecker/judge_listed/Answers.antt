@@ -1,5 +1,5 @@
 use Rattle.std.proofs.Common.{sym, ◌∙◌}
-use Rattle.drat_steps.proofs.DratLemmas.Witnesses.{conflicts_filled, listed_inconsistent}
+use Rattle.drat_steps.proofs.DratLemmas.Steps.{conflicts_filled, listed_inconsistent}
 use Rattle.drat_steps.proofs.addition.AdditionChecker.judge_listed.Goals as goal
 
 pub returns-then-falsifies-clause-answers : goal.returns-then-falsifies-clause-answers

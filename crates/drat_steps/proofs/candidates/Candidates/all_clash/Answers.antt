@@ -1,15 +1,12 @@
+use Rattle.drat_steps.proofs.DratLemmas.Candidates.{Passed, all_touched_passed}
+use Rattle.drat_steps.proofs.DratLemmas.Candidates.{can_try, clashed_after, none_is_one}
+use Rattle.drat_steps.proofs.DratLemmas.Candidates.{passed_more, stops_at, touched_alive}
 use Rattle.std.proofs.{Common.arith, Common.subst, lemmas.List.take_all}
-use Rattle.propagation.specs.Assumptions.{assumed_by}
-use Rattle.drat_steps.proofs.DratLemmas.Candidates.{Passed, all_touched_passed, can_try}
-use Rattle.drat_steps.proofs.DratLemmas.Candidates.{clashed_after, none_is_one, passed_more}
-use Rattle.drat_steps.proofs.DratLemmas.Candidates.{stops_at, touched_alive}
 use Rattle.drat_steps.proofs.candidates.Candidates.all_clash.Goals as goal
-use Rattle.std.specs.FinMap as maps
 
 pub returns-then-none_touched-clause-searched : goal.returns-then-none_touched-clause-searched
 returns-then-none_touched-clause-searched g c =
-    let now = g.P.Propagate.state c.args.clauses.now in
-    none_is_one (maps.get now.live) (assumed_by now.assumptions) c.args.self.now c.args.lits.now c.requires.touched (c.none_touched.ensures c.if-none_touched.true)
+    none_is_one _ _ _ _ c.requires.touched (c.none_touched.ensures c.if-none_touched.true)
 
 pub passes-requires-clause-can_try : goal.passes-requires-clause-can_try
 passes-requires-clause-can_try g c = grind (arith, can_try, touched_alive)
@@ -21,13 +18,13 @@ pub loop-slot-preserved : goal.loop-slot-preserved
 loop-slot-preserved g c =
     let inv = c.loop-slot.invariant in
     record {
-      passed = passed_more (g.P.Propagate.state c.args.clauses.now) (g.P.Propagate.state c.loop-slot.clauses) inv.same c.args.self.now c.as_slice-slot-items.result.now c.loop-slot.slot-index c.at.result c.loop-slot-test.true c.at.ensures _ c.in_ok-passes.ensures.passes inv.passed c.if-not-branch.false;
+      passed = passed_more _ _ inv.same _ _ _ c.at.result c.loop-slot-test.true c.at.ensures _ c.in_ok-passes.ensures.passes inv.passed c.if-not-branch.false;
       same = grind arith;
       clashed = grind (arith, clashed_after);
     }
 
 pub returns-clause-searched : goal.returns-clause-searched
 returns-clause-searched g c =
-    let now = g.P.Propagate.state c.args.clauses.now in
-    all_touched_passed now c.args.self.now c.args.lits.now c.requires.touched _ _ c.as_slice-slot-items.ensures.value c.in_ok-touched.ensures.all
-    (subst (λ slots. Passed now c.args.self.now slots) (take_all c.loop-slot.slot-index c.as_slice-slot-items.result.now c.loop-slot-test.false) c.loop-slot.invariant.passed)
+    let now = g.P.Propagate.state _ in
+    all_touched_passed now _ _ c.requires.touched _ _ c.as_slice-slot-items.ensures.value c.in_ok-touched.ensures.all
+    (subst (λ slots. Passed now c.args.self.now slots) (grind (arith, take_all)) c.loop-slot.invariant.passed)

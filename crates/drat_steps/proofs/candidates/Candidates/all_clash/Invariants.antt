@@ -1,6 +1,5 @@
-use Rattle.std.proofs.Common.{take}
-use Rattle.drat_steps.specs.Code.{Candidates.HasClashed, Assumed.IsAsBefore}
-use Rattle.drat_steps.proofs.DratLemmas.Candidates.{Passed}
+use Rattle.drat_steps.{proofs.DratLemmas.Candidates.Passed, specs.Code.Assumed.IsAsBefore}
+use Rattle.{drat_steps.specs.Code.Candidates.HasClashed, std.proofs.Common.take}
 use Rattle.drat_steps.proofs.candidates.Candidates.all_clash.Given as goal
 
 abbrev pub invariant-loop-slot : goal.invariant-loop-slot

@@ -1,10 +1,9 @@
 -- A literal of the rest is true, and so forced; its complement is assumed.
-use Rattle.std.proofs.{Common.arith, Common.sym, Common.◌∙◌, lemmas.Bool.false≢true}
-use Rattle.cnf_base.proofs.WalkLemmas.{is_in}
-use Rattle.propagation.specs.Assumptions.{assumed_by}
-use Rattle.theory.specs.Propagation.{Forced}
 use Rattle.drat_steps.proofs.DratLemmas.Candidates.{clashes_by_true}
 use Rattle.drat_steps.proofs.candidates.Candidates.clashes_at_once.Goals.{in-True, in_default}
+use Rattle.std.proofs.Common.{arith, sym, ◌∙◌}
+use Rattle.{cnf_base.proofs.WalkLemmas.is_in, propagation.specs.Assumptions.assumed_by}
+use Rattle.{std.proofs.lemmas.Bool.false≢true, theory.specs.Propagation.Forced}
 use Rattle.drat_steps.proofs.candidates.Candidates.clashes_at_once.Goals as goal
 use Rattle.std.specs.FinMap as maps
 

@@ -1,10 +1,10 @@
 -- A deletion, after which the clauses that are left may stand elsewhere.
-use Rattle.{proofs.specs.Steps.Step, std.proofs.Common.rules, steps.specs.Code.Naming.with_lits}
-use Rattle.std.proofs.Common.{List, Ok, arith, refl, subst, sym, ◌∙◌, ◌≡◌}
-use Rattle.{cnf_base.specs.Literals.Clause, steps.proofs.SessionLemmas.keeps_taken}
-use Rattle.theory.specs.{Drat.SameLive, Drat.after_drat, Drat.delete, Rules.Same, Rules.after}
-use Rattle.theory.specs.{Drat.drat_step_of, Rules.by_copies, declared.accepted.Accepted.Accepted}
-use Rattle.{cnf_base.specs.Literals.Literal, theory.specs.declared.drat_rules.DratRules.DratRules}
+use Rattle.cnf_base.specs.Literals.{Clause, Literal}
+use Rattle.std.proofs.Common.{List, Ok, arith, refl, rules, ◌∙◌, ◌≡◌}
+use Rattle.steps.{proofs.StateLemmas.keeps_taken, specs.Code.Naming.with_lits}
+use Rattle.theory.specs.declared.{accepted.Accepted.Accepted, drat_rules.DratRules.DratRules}
+use Rattle.theory.specs.{Drat.SameLive, Drat.after_drat, Rules.Same, Rules.after, Rules.by_copies}
+use Rattle.{proofs.specs.Steps.Step, theory.specs.Drat.delete}
 use Rattle.proofs.specs.declared.step_buf.StepKind.TheVariants as kinds
 use Rattle.std.specs.FinMap as maps
 use Rattle.steps.proofs.drat.DratJudgeJudge.step.Goals as goal
@@ -17,7 +17,7 @@ returns-in-Add-clause-keeps_models g c =
 taken_off : (r : DratRules) (old left gathered : List Clause) (lits : List Literal) (step : Step) (word : Accepted) → step.kind ≡ kinds.Delete → SameLive left (after_drat old (delete lits) word)
     → SameLive gathered left → Same (by_copies r gathered) (after (by_copies r old) (with_lits lits step) word)
 taken_off r old left gathered lits step word is same together =
-    (refl, subst (λ kind. SameLive gathered (after_drat old (drat_step_of r kind lits) word)) (sym is) (record { copies = λ e. together.copies e ∙ same.copies e }))
+    (refl, rw is (record { copies = λ e. together.copies e ∙ same.copies e }))
 
 pub returns-in_ok-word-in-Delete-clause-state : goal.returns-in_ok-word-in-Delete-clause-state
 returns-in_ok-word-in-Delete-clause-state g c = grind (arith, taken_off)

@@ -1,6 +1,6 @@
 use Rattle.theory.specs.{Lrat.SameClauses, declared.accepted.Accepted.TheVariants.Deleted}
 use Rattle.theory.specs.{Lrat.LratState, Lrat.after_lrat, Lrat.lrat_step, Rules.by_ids}
-use Rattle.{live_clauses.specs.LiveClauses.lrat_state, steps.proofs.SessionLemmas.keeps_taken}
+use Rattle.{live_clauses.specs.LiveClauses.lrat_state, steps.proofs.StateLemmas.keeps_taken}
 use Rattle.steps.{proofs.LratLemmas.ready_without, specs.Code.Naming.with_lits}
 use Rattle.std.proofs.Common.{Ok, map, nat_abs, rules, sym, ◌∙◌, ◌≡◌}
 use Rattle.steps.proofs.{LratLemmas.deleted_same, lrat.LratJudgeJudge.step.Goals.In-None}
@@ -9,8 +9,7 @@ use Rattle.std.specs.FinMap as maps
 
 -- what is left
 left : (c : In-None) → SameClauses (maps.get c.delete_all.new.live.live) (after_lrat (lrat_state c.args.self.now.held) (lrat_step (with_lits c.args.lits.now c.args.step.now))).live × (c.delete_all.new.live.top ≡ (after_lrat (lrat_state c.args.self.now.held) (lrat_step (with_lits c.args.lits.now c.args.step.now))).top)
-left c =
-    deleted_same (lrat_state c.args.self.now.held) (with_lits c.args.lits.now c.args.step.now) c.hints.result.now (maps.get c.delete_all.new.live.live) c.delete_all.new.live.top (sym c.kind.ensures ∙ c.in-Delete.is) c.hints.ensures.value
+left c = deleted_same _ _ _ _ _ (sym c.kind.ensures ∙ c.in-Delete.is) c.hints.ensures.value
     c.in-None.ensures.live c.in-None.ensures.top
 
 pub returns-in-None-clause-state : goal.returns-in-None-clause-state

@@ -1,8 +1,7 @@
-use Rattle.std.proofs.Common.{◌≡◌, ℕ, true, [], take, drop}
 use Rattle.cnf_base.specs.Literals.{complement, has}
-use Rattle.theory.specs.{Lrat.groups_refusal, Lrat.groups_of, Sets.SameSet}
-use Rattle.live_clauses.specs.LiveClauses.{Holds}
-use Rattle.steps.specs.Code.Groups.{named_in}
+use Rattle.std.proofs.Common.{[], drop, take, true, ℕ, ◌≡◌}
+use Rattle.theory.specs.{Lrat.groups_of, Lrat.groups_refusal, Sets.SameSet}
+use Rattle.{live_clauses.specs.LiveClauses.Holds, steps.specs.Code.Groups.named_in}
 use Rattle.std.specs.FinMap as maps
 use Rattle.steps.proofs.lrat.candidates.judge_groups.Given as goal
 

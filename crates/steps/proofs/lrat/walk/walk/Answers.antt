@@ -38,19 +38,13 @@ loop-i-preserved c =
     }
 
 pub returns-in_default-clause-end : goal.returns-in_default-clause-end
-returns-in_default-clause-end c =
-    let left_is = units_more c.args.hints.now c.loop-i.i (omega arith) (search rules) c.unsigned_abs-k.result c.if-hint-lt0.false c.unsigned_abs-k.ensures.value in
-    grind (arith, walk_unknown, nat_abs)
+returns-in_default-clause-end c = grind (arith, units_more, walk_unknown)
 
 pub returns-in-Nothing-clause-end : goal.returns-in-Nothing-clause-end
-returns-in-Nothing-clause-end c =
-    let left_is = units_more c.args.hints.now c.loop-i.i (omega arith) (search rules) c.unsigned_abs-k.result c.if-hint-lt0.false c.unsigned_abs-k.ensures.value in
-    grind (arith, walk_nothing, nat_abs)
+returns-in-Nothing-clause-end c = grind (arith, units_more, walk_nothing)
 
 pub returns-in-More-clause-end : goal.returns-in-More-clause-end
-returns-in-More-clause-end c =
-    let left_is = units_more c.args.hints.now c.loop-i.i (omega arith) (search rules) c.unsigned_abs-k.result c.if-hint-lt0.false c.unsigned_abs-k.ensures.value in
-    grind (arith, walk_more, nat_abs)
+returns-in-More-clause-end c = grind (arith, units_more, walk_more)
 
 pub returns-clause-end : goal.returns-clause-end
 returns-clause-end c = grind (arith, drop_all)

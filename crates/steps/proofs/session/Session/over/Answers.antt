@@ -1,5 +1,5 @@
 use Rattle.std.proofs.Common.{◌≡◌, min, ap, ◌∙◌}
-use Rattle.steps.proofs.SessionLemmas.{none_held}
+use Rattle.steps.proofs.StateLemmas.{none_held}
 use Rattle.steps.proofs.session.Session.over.Goals as goal
 
 pub returns : goal.returns
