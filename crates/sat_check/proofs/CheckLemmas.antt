@@ -51,14 +51,7 @@ not_passed p rest reach words ending last d = search rules
 
 -- no fault is told where no input is malformed
 pub TellsFault-none : (formula second : Option Fault) (checked : Checked) → checked.fault ≡ None → (checked.status ≡ Malformed → ⊥) → TellsFault formula second checked
-TellsFault-none formula second checked none not = record { malformed = λ m. absurd (not m); only = λ _. none }
-
--- nor a loss where no step was refused
-no_loss : (checked : Checked) (X : Type 0) → checked.refused ≡ None → checked.literal_lost ≡ false → IsTrue checked.literal_lost ↔ (IsSome checked.refused × X)
-no_loss checked X none quiet = search rules
-
-pub TellsLoss-none : (rule : Rule) (fault : Option Fault) (clauses : List Clause) (p : Proof) (checked : Checked) → checked.refused ≡ None → checked.literal_lost ≡ false → TellsLoss (system_of rule) (LostBySteps rule) fault clauses p checked
-TellsLoss-none rule fault clauses p checked none quiet = search (rules, no_loss, none, quiet)
+TellsFault-none formula second checked none not = grind arith
 
 -- no input is malformed where a run was cut short, or a verdict was written
 pub cut_short_not : (s : Status) → is_cut_short s ≡ true → s ≡ Malformed → ⊥
@@ -73,8 +66,7 @@ told_not s now told m = let P : Status → Type 0 = λ x. IsTold x now in subst 
 -- no step decides where none is to come
 pub LeavesRest-none : (s : View) (fault : Option Fault) (end : Option ℕ) (rest : Suffix) (checked : Checked) → checked.refused ≡ None → checked.literal_lost ≡ false → TellsFault None fault checked
     → PassesNoEnd (record { steps = []; fault = fault; fault_end = end }) rest → LeavesRest s (record { steps = []; fault = fault; fault_end = end }) rest checked
-LeavesRest-none s fault end rest checked none quiet tells reach =
-    search (rules, none, no_loss, none-some)
+LeavesRest-none s fault end rest checked none quiet tells reach = search (rules, none, none-some)
 
 -- no verdict was answered
 pub LeavesRest-broken : (s : View) (p : Proof) (rest : Suffix) (checked : Checked) → checked.refused ≡ None → checked.literal_lost ≡ false → (IsVerdict checked.status → ⊥) → TellsFault None p.fault checked → PassesNoEnd p rest
@@ -117,16 +109,11 @@ module _ (s : View) (step : Step) (end : StepEnd) (offset : ℕ) (p : Proof) (re
       later_step (x ∷ ps) w [] verified e = absurd (let bad = e.1 in cc)
       later_step ps w ws ending e = refl
 
-      later_end : (w : Accepted) (ws : List Accepted) (ending : Ending) → refused_end p.steps ws ending ≡ refused_end (here ∷ p.steps) (w ∷ ws) ending
-      later_end w ws ending = search rules
-
       -- this word came first, and the others from the state that the step left
       split : (words : List Accepted) (ending : Ending) → Ends s.state (step ∷ bare_steps p) words ending
           → (ws : List Accepted) × (words ≡ word ∷ ws) × Ends t.state (bare_steps p) ws ending
-      split [] ending e = absurd (ok_err word e.0 (answer_unique s.state step _ _ a e.2))
-      split (w ∷ ws) ending e = let is = ok_is w word (answer_unique s.state step _ _ e.0 a) in
-          let ends = MatchBool-at_false _ _ (ap is_last is ∙ not_last) e.1 in
-          (ws, ap (λ x. x ∷ ws) is, ends_same (bare_steps p) ws ending (after s.state step word) t.state (same_sym t.state (after s.state step word) same) (rw is at ends))
+      split words ending e =
+          grind (arith, ok_err, answer_unique, ok_is, MatchBool-at_false, ends_same, same_sym)
 
       -- a literal was lost before this step, by it or after it
       over : (ws : List Accepted) → (IsTrue t.has_lost_literal ⊎ HasLost t.state (bare_steps p) ws) ↔ (IsTrue s.has_lost_literal ⊎ HasLost s.state (step ∷ bare_steps p) (word ∷ ws))
@@ -151,7 +138,7 @@ LeavesProof-checked rule s clauses l p old new rest checked unverified leaves = 
     refused = λ words ending whole v e. leaves.refused words ending v (ends words ending e);
     only = leaves.only;
     loss = record {
-      lost = λ words ending whole v e. loaded words (leaves.lost words ending v (ends words ending e));
+      lost = λ words ending whole v e. loaded words (leaves.lost words ending v (ends _ _ e));
       only = leaves.none_lost;
     };
     malformed = leaves.malformed;
@@ -239,7 +226,7 @@ module _ (trace : Bool) (start now new : Standing) (first session : View) (accep
   ended checked last i j k r p rest o leaves = (
     _,
     p.0 r rest,
-    Outcome-after checked.status was.held lines.held last.held so_far.written r (Writes-all was lines (text_of so_far.written) so_far.wrote so_far.whole) o,
+    search (Outcome-after, Writes-all, so_far.wrote, so_far.whole),
     p.1 k checked leaves,
   )
 
@@ -260,7 +247,7 @@ module _ (trace : Bool) (start now new : Standing) (first session : View) (accep
         (λ left checked leaves.
             p.1 left checked (rw q.0.2 (LeavesRest-step session step q.0.0 k.offset (new.to_come k) left checked t goes.word goes.answers goes.not_last goes.state goes.lost leaves))),
       ));
-      wrote = rw (text_of-append so_far.written (traced trace number goes.word)) (Writes-then _ _ _ _ _ so_far.wrote goes.wrote);
+      wrote = rw (text_of-append _ _) (Writes-then _ _ _ _ _ so_far.wrote goes.wrote);
       whole = goes.whole;
       sound = goes.sound;
       finite = grind (arith, same_finite, after_finite);
@@ -283,14 +270,14 @@ module _ (trace : Bool) (start now new : Standing) (first session : View) (accep
     Checking-stop checked last stops refuses told only loss none_lost none not = Along-then _ _ _ _ _ _ so_far.run gives (λ i j k m p q.
         let s = stops so_far.count k.offset q.0.0 (new.to_come k) counts so_far.least so_far.finite in
         ended checked last i j k s.0 p (rw q.0.2 s.1) s.2
-        (rw q.0.2 (LeavesRest-decided session step q.0.0 k.offset (new.to_come k) k checked refuses (λ v. told v ∙ q.0.1) only loss none_lost (grind (arith, TellsFault-none)) (rw (← q.0.2) q.1))))
+        (rw q.0.2 (LeavesRest-decided _ _ _ _ _ _ _ refuses (λ v. told v ∙ q.0.1) only loss none_lost (grind (arith, TellsFault-none)) (rw (← q.0.2) q.1))))
 
   module _ (step : Step) (checked : Checked) (none : checked.refused ≡ None) (quiet : checked.literal_lost ≡ false) (last : Sink) where
     pub Checking-end : Along now.stream new.stream (Gave (Ok false) None step)
         → Outcome checked.status lines.held last.held (end_report None) → TellsFault None None checked → Along start.stream new.stream (λ i j. Ended checked last i j)
     Checking-end gives o tells = Along-then _ _ _ _ _ _ so_far.run gives (λ i j k m p q.
         ended checked last i j k (end_report None) p (rw q.0.1 (grind arith)) o
-        (grind (arith, LeavesRest-none)))
+        (grind arith))
 
     -- what is told where the proof has this fault
     abbrev TellsOf : Fault → Type 0
@@ -301,7 +288,7 @@ module _ (trace : Bool) (start now new : Standing) (first session : View) (accep
         → (f ≡ OutOfMemory → (r : Report) → Outcome checked.status lines.held last.held r) → ((f ≡ OutOfMemory → ⊥) → Outcome checked.status lines.held last.held (end_report (Some f)))
         → TellsOf f → Along start.stream new.stream (λ i j. Ended checked last i j)
     Checking-fault end OutOfMemory gives memory other tells = Along-then _ _ _ _ _ _ so_far.run gives (λ i j k m p q.
-        let some = Rest-some trace session.state so_far.count session.peak so_far.finite (now.to_come j) in
+        let some = Rest-some _ _ _ _ so_far.finite _ in
         ended checked last i j k some.0 p some.1 (memory refl some.0)
         (LeavesRest-broken session (now.to_come j) k checked none quiet (no_verdict checked.status lines.held last.held [] (memory refl (record { lines = []; status = Malformed })))
         (record { malformed = λ m. absurd (tells.2 refl m); only = tells.1 }) q.1))
@@ -328,7 +315,7 @@ reports_nothing rule trace steps formula proof new checked was now same none qui
       fact = λ i j s t. let some = some_report rule trace i (steps j) in (
         grind arith,
         grind arith,
-        record { unread = λ n. none; refused = λ words ending whole is e. absurd (no_verdict checked.status was.held now.held [] (o (record { lines = []; status = Malformed })) (inr is)); only = λ _. none; loss = grind (arith, TellsLoss-none); malformed = grind (arith, TellsFault-none) },
+        record { unread = λ n. none; refused = λ words ending whole is e. absurd (no_verdict _ _ _ _ (o (record { lines = []; status = Malformed })) (inr is)); only = λ _. none; loss = grind arith; malformed = grind (arith, TellsFault-none) },
         unread_fault i formula formula refl,
       );
     })
@@ -363,7 +350,7 @@ module _ (rule : Rule) (trace : Bool) (to_come : ProofReading → Suffix → Pro
   reports_run other same reader made f run =
       let fresh : ProofReading = fresh_reading (unread_stream proof borrows) in
       let Q : Suffix → Suffix → Type 0 = λ j k. Did f fresh j k × (bytes_read proof last.reader + j.offset ≤ k.offset + 65536) in
-      let begun : Along (unread_stream proof borrows) last (Did f fresh) = search (rules, made, is, run) in
+      let begun : Along (unread_stream proof borrows) last (Did f fresh) = grind arith in
       let within = Along-within (unread_stream proof borrows) last (Did f fresh) (omega arith) begun in
       rw (kept, ← same) (record {
         first = f;

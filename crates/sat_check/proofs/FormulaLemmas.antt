@@ -1,41 +1,40 @@
 -- A formula is read, and loaded, clause by clause; what has no fault was read to its end.
-use Rattle.cnf_base.proofs.SeenLemmas.{Seen-fact}
-use Rattle.cnf_base.proofs.{SeenLemmas.Seen-nothing, SeenLemmas.Seen-run, SetLemmas.same_itself}
+use Rattle.cnf_base.proofs.SeenLemmas.{Seen-fact, Seen-nothing, Seen-run}
+use Rattle.cnf_base.proofs.SetLemmas.{same_itself}
 use Rattle.cnf_base.proofs.StreamLemmas.{Along-map, Along-none, Along-then, Along-within}
-use Rattle.cnf_base.specs.{Code.Seen.OfSeen, Grammar.word_lines, Literals.Clause, Literals.Literal}
-use Rattle.cnf_base.specs.{Literals.has, Literals.same_clause, Literals.size, Printing.input_of}
-use Rattle.cnf_base.specs.Stream.{Along, Input, Reader, Stream, Suffix}
-use Rattle.cnf_base.specs.{Stream.bytes_read, Stream.from_start, Stream.unread_stream, Text.Listed}
-use Rattle.cnf_base.specs.Text.{Listing, Spot, is_comment, lines_listing}
-use Rattle.cnf_base.specs.{Text.lines_of, Text.listing_of, declared.fault.Fault.Fault}
+use Rattle.cnf_base.specs.{Code.Seen.OfSeen, Grammar.word_lines}
+use Rattle.cnf_base.specs.Literals.{Clause, Literal, has, same_clause, size}
+use Rattle.cnf_base.specs.{Printing.input_of, Stream.Along, Stream.Input}
+use Rattle.cnf_base.specs.Stream.{Reader, Stream, Suffix, bytes_read, from_start, unread_stream}
+use Rattle.cnf_base.specs.Text.{Listed, Listing, Spot, is_comment, lines_listing, lines_of}
+use Rattle.cnf_base.specs.{Text.listing_of, declared.fault.Fault.Fault}
 use Rattle.cnf_base.specs.declared.fault.{Fault.TheVariants.OutOfMemory, TextFault.TextFault}
 use Rattle.cnf_base.specs.declared.input.Ending.{Ending, TheVariants.End, TheVariants.Failed}
 use Rattle.{cnf_base.specs.declared.place.Place.Place, dimacs.proofs.ModelGrammar.model_grammar}
 use Rattle.dimacs.specs.Claim.{IsConsistent, Said, claim_among, claim_of, nothing}
-use Rattle.dimacs.specs.Formula.{Body, Formula, body_among, body_on_word, ends_at}
-use Rattle.dimacs.specs.Formula.{formula_at, formula_of, formula_with, header_of, judged, opened}
+use Rattle.dimacs.specs.Formula.{Body, body_among, body_on_word, ends_at, formula_at}
+use Rattle.dimacs.specs.Formula.{formula_of, formula_with, header_of, judged, opened}
 use Rattle.dimacs.specs.{Grammar.ModelText, Printing.IsModel, Reading.FormulaReading}
-use Rattle.dimacs.specs.Reading.{GivesClause, GivesEnd, PassesNoEnd, clauses_to_come}
-use Rattle.dimacs.specs.{Reading.ends_to_come, Reading.unopened, declared.header.Header.Header}
-use Rattle.{drat_steps.proofs.DratLemmas.Steps.none_listed, sat_check.specs.Code.Checking.IsLoaded}
-use Rattle.sat_check.specs.Code.{Checking.Loads, Checking.LoadsBody, FormulaReach.LeavesFault}
-use Rattle.{sat_check.specs.FormulaReach.ReadsNoFurtherThanFault, std.proofs.Common.Bool}
-use Rattle.std.proofs.Common.{Err, List, None, Ok, Option, Result, Some, [], ap, append-nil}
-use Rattle.std.proofs.Common.{append_assoc, arith, false, length, length-append, max, refl, reverse}
-use Rattle.std.proofs.Common.{rules, subst, suc, sym, true, zero, ℕ, ◌++◌, ◌+◌, ◌-◌, ◌||◌, ◌∙◌}
-use Rattle.std.proofs.{Common.◌∷◌, Common.◌≡◌, Common.◌≤◌, lemmas.List.Folds.list_any-append}
-use Rattle.std.proofs.lemmas.List.Sorted.{IsPermutation-reverse, list_any-IsPermutation}
-use Rattle.std.proofs.lemmas.List.{Sums.sum_by-append, length_push, reverse-reverse}
-use Rattle.std.{proofs.lemmas.Option.none-some, specs.FinMap.get-empty, specs.Ordering.nat_cmp}
-use Rattle.std.specs.Prelude.{IfOk, slice_get}
+use Rattle.dimacs.specs.Reading.{GivesClause, GivesEnd, PassesNoEnd, clauses_to_come, ends_to_come}
+use Rattle.dimacs.specs.{Reading.unopened, declared.header.Header.Header}
+use Rattle.drat_steps.proofs.DratLemmas.Steps.{none_listed}
+use Rattle.sat_check.specs.Code.Checking.{IsLoaded, Loads, LoadsBody}
+use Rattle.sat_check.specs.{Code.FormulaReach.LeavesFault, FormulaReach.ReadsNoFurtherThanFault}
+use Rattle.std.proofs.Common.{Bool, Err, List, None, Ok, Option, Result, Some, []}
+use Rattle.std.proofs.Common.{ap, append-nil, append_assoc, arith, false, length}
+use Rattle.std.proofs.Common.{length-append, max, refl, reverse, rules, subst, suc, sym}
+use Rattle.std.proofs.Common.{true, zero, ℕ, ◌++◌, ◌+◌, ◌-◌, ◌||◌, ◌∙◌, ◌∷◌, ◌≡◌, ◌≤◌}
+use Rattle.std.proofs.lemmas.List.{Folds.list_any-append, Sorted.IsPermutation-reverse}
+use Rattle.std.proofs.lemmas.List.{Sorted.list_any-IsPermutation, Sums.sum_by-append, length_push}
+use Rattle.std.proofs.lemmas.{List.reverse-reverse, Option.none-some}
+use Rattle.std.specs.{FinMap.get-empty, Ordering.nat_cmp, Prelude.IfOk, Prelude.slice_get}
 use Rattle.steps.specs.{ProofSession.View, Session.SessionState, Session.fresh, Session.view_of}
 use Rattle.theory.proofs.DratLemmas.Copies.{copies-cons, none_alive}
-use Rattle.theory.proofs.LawLemmas.{Existence.numbered_above, Rules.same_trans}
-use Rattle.theory.proofs.{LawLemmas.Rules.sum_same, LratLemmas.LiveSets.SameClauses-eq}
-use Rattle.theory.proofs.LratLemmas.{SameSets.with_same, States.numbered_push}
-use Rattle.theory.{proofs.LratLemmas.Sums.sum_with, specs.Lrat.lrat_start, specs.Lrat.numbered}
-use Rattle.theory.specs.{Rules.Rule, Rules.Same, Rules.State, Rules.by_copies}
-use Rattle.theory.specs.Rules.{by_ids, drat, lrat, rule_of, start, sum_of, with_input}
+use Rattle.theory.proofs.LawLemmas.{Existence.numbered_above, Rules.same_trans, Rules.sum_same}
+use Rattle.theory.proofs.LratLemmas.{LiveSets.SameClauses-eq, SameSets.with_same}
+use Rattle.theory.proofs.LratLemmas.{States.numbered_push, Sums.sum_with}
+use Rattle.theory.specs.{Lrat.lrat_start, Lrat.numbered, Rules.Rule, Rules.Same, Rules.State}
+use Rattle.theory.specs.Rules.{by_copies, by_ids, drat, lrat, rule_of, start, sum_of, with_input}
 use Rattle.theory.specs.{Sizes.size_at, Sizes.sum_to, Sizes.total, Verdicts.is_empty}
 use Rattle.cnf_base.specs.declared.token.Token.TheVariants as token
 use Rattle.std.specs.FinMap as maps
@@ -109,8 +108,8 @@ later_left read old i k n offset passed least at = let on = passed.2 in
     (grind (arith, past_first))
 
 -- so the token at fault wasn't
-pub fault_left : (read : List Clause) (old : FormulaReading) (i k : Suffix) → NonePassed old read i k
-    → LeavesFault (clauses_to_come old i).clauses (ends_to_come old i) k
+pub fault_left : (read : List Clause) (old : FormulaReading) (i k : Suffix)
+    → NonePassed old read i k → LeavesFault (clauses_to_come old i).clauses (ends_to_come old i) k
 fault_left read old i k passed offset at =
     let all : length (clauses_to_come old i).clauses ≡ length read + length passed.0.clauses =
     grind (arith, length-append) in
@@ -129,8 +128,8 @@ Reads-start r none = record {
 }
 
 module _ (old now new : FormulaReading) (clauses : List Clause) (so_far : Reads old now clauses) (c : Clause) where
-  pub Reads-clause : Gave now new (Ok true) c
-      → new.complete ≡ now.complete + 1 → new.header ≡ now.header → Reads old new (clauses ++ c ∷ [])
+  pub Reads-clause : Gave now new (Ok true) c → new.complete ≡ now.complete + 1
+      → new.header ≡ now.header → Reads old new (clauses ++ c ∷ [])
   Reads-clause gives count header = record {
     count = grind (arith, length_push);
     run = Along-then _ _ _ _ _ _ so_far.run gives (λ i j k m p q. (
@@ -154,18 +153,12 @@ clause_told now new result answer c gives is = search rules
 
 -- ---- The token at fault
 
--- what is left of a formula is what is left of what is to come after its header
-pub opened_left : (x : Formula) (h : Header) (b : Body) (ends to_come : List ℕ) (rest : Suffix) → x ≡ opened h b → ends ≡ to_come
-    → LeavesFault b.clauses to_come rest → LeavesFault x.clauses ends rest
-opened_left x h b ends to_come rest is same leaves = search rules
-
 -- where nothing was read it wasn't passed
 pub unread_fault : (i : Input) (old new : Reader) → old ≡ new → ReadsNoFurtherThanFault i old new
 unread_fault i old new same offset at = search rules
 
 -- ---- Clauses go into a session one by one
 
--- no clause has a number past the last
 -- one clause more, and its size more
 total_push : (cs : List Clause) (c : Clause) → total (lrat_start (cs ++ c ∷ [])) ≡ total (lrat_start cs) + size c
 total_push cs c = ap (λ n. sum_to n (λ k. size_at (numbered (cs ++ c ∷ []) k))) (length_push cs c)
@@ -259,7 +252,7 @@ AllLoads rule s left new result = OfSeen left new (λ i. Loads rule s result (fo
 
 -- nothing was read
 pub loads_refused : (rule : Rule) (s : View) (left new : Reader) (result : Result Header Fault) → left ≡ new → result ≡ Err OutOfMemory → AllLoads rule s left new result
-loads_refused rule s left new result same is = search (rules, arith, seen_nothing, unread_fault)
+loads_refused rule s left new result same is = search (rules, arith, seen_nothing)
 
 module _ (rule : Rule) (s : View) (left : Reader) (borrows : List ℕ) (source : Stream) (is : source ≡ unread_stream left borrows) where
   -- what was loaded of a formula from a place on, and that the token at fault wasn't passed
@@ -268,10 +261,9 @@ module _ (rule : Rule) (s : View) (left : Reader) (borrows : List ℕ) (source :
 
   all_loads : (last : Stream) (new : Reader) (result : Result Header Fault) → new ≡ last.reader
       → Along source last (Loaded result source.place) → AllLoads rule s left new result
-  all_loads last new result kept run =
-      seen_map left new _ (λ i. Loads rule s result (formula_of i) × ReadsNoFurtherThanFault i left new)
-      (seen_within (Loaded result) left borrows source last new is kept run)
-      (grind arith)
+  all_loads last new result kept run = seen_map left new _
+      (λ i. Loads rule s result (formula_of i) × ReadsNoFurtherThanFault i left new)
+      (seen_within (Loaded result) left borrows source last new is kept run) (grind arith)
 
   pub loads_fault : (f : Fault) (last : Stream) (new : Reader) → new ≡ last.reader
       → Along source last (λ i j. (formula_at source.place i ≡ unopened f) × PassesNoEnd (ends_at source.place i) j) → AllLoads rule s left new (Err f)
@@ -286,10 +278,10 @@ module _ (rule : Rule) (s : View) (left : Reader) (borrows : List ℕ) (source :
     pub loads_body : (h : Header) → h ≡ r.header → Rest (Ok tt) → AllLoads rule s left new (Ok h)
     loads_body h same body = all_loads last new (Ok h) kept (search (rules, Along-then, same))
 
-    pub loads_body_fault : (f : Fault) (result : Result Header Fault) → result ≡ Err f → Rest (Err f)
-        → AllLoads rule s left new result
+    pub loads_body_fault : (f : Fault) (result : Result Header Fault) → result ≡ Err f
+        → Rest (Err f) → AllLoads rule s left new result
     loads_body_fault f result is body =
-        rw is (all_loads last new (Err f) kept (grind (arith, Along-then, opened_left)))
+        rw is (all_loads last new (Err f) kept (grind (arith, Along-then)))
 
 -- ---- What is left of a text ends as the text does
 
@@ -334,8 +326,7 @@ formula_ends i whole = by i.ending refl
   where
     of_header : (r : Result (Header × Listing) (Fault × List ℕ)) →
         IfOk r (λ h. h.1.ending ≡ Failed) → (formula_with r).fault ≡ None → ⊥
-    of_header (Ok h) failed whole = search (rules, body_failed)
-    of_header (Err f) failed whole = cc
+    of_header r failed whole = grind (arith, body_failed)
 
     by : (e : Ending) → i.ending ≡ e → e ≡ End
     by End is = refl

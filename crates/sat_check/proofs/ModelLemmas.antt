@@ -22,8 +22,7 @@ use Rattle.sat_check.proofs.FormulaLemmas.{FaultAfter, Gave, NonePassed, Reads, 
 use Rattle.sat_check.proofs.FormulaLemmas.{Reads-done, Reads-fault, Reads-start, claim_consistent}
 use Rattle.sat_check.proofs.FormulaLemmas.{fault_left, later_left, seen_map, seen_nothing, seen_within}
 use Rattle.sat_check.proofs.{FormulaLemmas.unread_fault, OutcomeLemmas.both_told}
-use Rattle.sat_check.proofs.{OutcomeLemmas.written_model, ReportLemmas.fault_is_no_verdict}
-use Rattle.sat_check.proofs.ReportLemmas.{outcome_complete, outcome_verified}
+use Rattle.sat_check.proofs.{OutcomeLemmas.written_model}
 use Rattle.std.proofs.lemmas.List.{length_push}
 use Rattle.sat_check.specs.{Code.FormulaReach.LeavesFault, FormulaReach.ReadsNoFurtherThanFault}
 use Rattle.sat_check.specs.Code.Judging.{LeavesUnmet, Judges, ReadsToUnmet, judged_report, unmet_in}
@@ -66,7 +65,7 @@ pub record Judging (listed : List Literal) (old now : FormulaReading) (met : ℕ
   pub count : met ≡ length clauses
 
 pub Judging-start : (listed : List Literal) (r : FormulaReading) → r.complete ≡ 0 → Judging listed r r 0
-Judging-start listed r none = record { clauses = []; reads = Reads-start r none; all = refl; count = refl }
+Judging-start listed r none = grind (arith, Reads-start)
 
 module _ (listed : List Literal) (old now new : FormulaReading) (met : ℕ) (so_far : Judging listed old now met) (c : Clause) where
   pub Judging-clause : Gave now new (Ok true) c → meets listed c ≡ true
@@ -116,8 +115,7 @@ unread_unmet listed i left new same k offset unmet at = search rules
 
 -- nothing was read
 pub judges_refused : (listed : List Literal) (left new : Reader) (result : Result Judgement Fault) → left ≡ new → result ≡ Err OutOfMemory → AllJudges listed left new result
-judges_refused listed left new result same is =
-    search (rules, arith, seen_nothing, unread_unmet, unread_fault)
+judges_refused listed left new result same is = search (rules, arith, seen_nothing)
 
 module _ (listed : List Literal) (left : Reader) (borrows : List ℕ) (source : Stream) (is : source ≡ unread_stream left borrows)
     (last : Stream) (new : Reader) (kept : new ≡ last.reader) where
@@ -129,7 +127,7 @@ module _ (listed : List Literal) (left : Reader) (borrows : List ℕ) (source : 
   all_judges : (result : Result Judgement Fault)
       → Along source last (λ i j. Leaves result (formula_at source.place i) (ends_at source.place i) j) → AllJudges listed left new result
   all_judges result run = seen_map left new _ _
-      (seen_within (λ p i j. Leaves result (formula_at p i) (ends_at p i) j) left borrows source last new is kept run) (λ i x. (
+      (seen_within (λ p i j. Leaves result (formula_at p i) (ends_at p i) j) _ _ _ _ _ is kept run) (λ i x. (
         x.1.0,
         λ k offset unmet at. grind arith,
         λ offset at. grind arith,
@@ -150,8 +148,7 @@ module _ (listed : List Literal) (left : Reader) (borrows : List ℕ) (source : 
 -- ---- Literals that are the same set meet the same clauses
 
 meets_same : (xs ys : List Literal) → ((l : Literal) → has xs l ≡ has ys l) → (c : Clause) → meets xs c ≡ meets ys c
-meets_same xs ys same [] = refl
-meets_same xs ys same (l ∷ c) = search rules
+meets_same xs ys same c = grind arith
 
 first_unmet_same : (k : ℕ) (xs ys : List Literal) → ((l : Literal) → has xs l ≡ has ys l) → (cs : List Clause) → first_unmet k xs cs ≡ first_unmet k ys cs
 first_unmet_same k xs ys same [] = refl
@@ -194,7 +191,7 @@ module _ (status : Status) (was now : Sink) where
 
   -- no fault ends in a positive verdict
   pub fault_unverified : (name : List ℕ) (e : Fault) → WritesFault name e status was now → status ≡ Verified → ⊥
-  fault_unverified name e told is = search (rules, fault_is_no_verdict, outcome_verified)
+  fault_unverified name e told is = search rules
 
 -- ---- What a verified model says
 
@@ -211,19 +208,11 @@ none_unmet k listed (c ∷ cs) all =
 
 -- the report of a verified model comes only where its claim meets every clause, and the formula has no fault
 pub verified_satisfied : (claim : Result (List Literal) Fault) (f : Formula) → (claim_report claim f).status ≡ Verified → IfOk claim IsConsistent → Satisfies claim f.clauses × (f.fault ≡ None)
-verified_satisfied claim f h h2 = search (rules, fault_is_no_verdict, all_met)
-
--- and of such a claim and formula it is the report
-pub satisfied_verified : (claim : Result (List Literal) Fault) (f : Formula) → f.fault ≡ None → Satisfies claim f.clauses → (claim_report claim f).status ≡ Verified
-satisfied_verified claim f whole s = search (rules, none_unmet)
+verified_satisfied claim f h h2 = search (rules, all_met)
 
 -- Consistent literals give an assignment: what is listed is true, and no other variable is.
 abbrev pub assigned : List Literal → Assignment
 assigned listed v = has listed (2 * v)
-
--- a literal, or its complement, says that its variable is true
-even_half : (l : Literal) → (l % 2 == 0) ≡ true → 2 * (l / 2) ≡ l
-even_half l h = grind (arith, nat_tests)
 
 odd_half : (l : Literal) → (l % 2 == 0) ≡ false → 2 * (l / 2) ≡ complement l
 unfolding complement
@@ -232,7 +221,7 @@ odd_half l h = grind (arith, nat_tests)
 -- under it each listed literal is true
 pub listed_holds : (listed : List Literal) → IsConsistent listed → (l : Literal) → has listed l ≡ true → holds (assigned listed) l ≡ true
 unfolding holds
-listed_holds listed consistent l h = search (rules, even_half, odd_half)
+listed_holds listed consistent l h = search (rules, odd_half)
 
 -- so a clause with a listed literal is satisfied, and the formula has a model
 satisfied_model : (claim : Result (List Literal) Fault) (clauses : List Clause) → Satisfies claim clauses → HasModel (slice_get clauses)
@@ -245,11 +234,11 @@ satisfied_model claim clauses s = (
 -- what follows from the report of a model
 model_consequences : (i j : Input) (old new : Option (List ℕ)) (status : Status) → Outcome status old new (model_report i j) → ModelConsequences i j old new status
 model_consequences i j old new status o = record {
-  whole = λ is. (said (grind (arith, outcome_verified))).1;
-  satisfied = λ is. (said (grind (arith, outcome_verified))).0;
-  complete = search (rules, outcome_complete, satisfied_verified);
-  has_model = λ is. satisfied_model (claim_of j) (formula_of i).clauses (said (grind (arith, outcome_verified))).0;
-  written = λ w. satisfied_model (claim_of j) (formula_of i).clauses (said (grind (arith, written_model))).0;
+  whole = λ is. (said (grind arith)).1;
+  satisfied = λ is. (said (grind arith)).0;
+  complete = search (rules, none_unmet);
+  has_model = λ is. satisfied_model (claim_of j) (formula_of i).clauses (said (grind arith)).0;
+  written = λ w. satisfied_model _ (formula_of i).clauses (said (grind (arith, written_model))).0;
 }
   where
     said : (model_report i j).status ≡ Verified → Satisfies (claim_of j) (formula_of i).clauses × ((formula_of i).fault ≡ None)
@@ -269,8 +258,8 @@ pub both_check_model : (formula formula_new output output_new : Reader) (Told : 
     → OfBothSeen formula formula_new output output_new (Made formula formula_new Told status old new)
     → OfBothSeen formula formula_new output output_new (λ i j. ChecksModel i j first last status × ReadsFormulaNoFurther (claim_of j) i formula formula_new × Told i j)
 both_check_model formula formula_new output output_new Told status old new first last before after =
-    both_told formula formula_new output output_new (Made formula formula_new Told status) _ old new first last
-    before after (λ i j x. grind (arith, checks_model))
+    both_told formula formula_new output output_new (Made formula formula_new Told status) _ old new
+    first last before after (λ i j x. grind (arith, checks_model))
 
 -- ---- What is told of a fault
 
@@ -319,7 +308,7 @@ pub formula_needed : (model : List ℕ) (claim : Result (List ℕ) Fault) (i : I
     → ReadsNoFurtherThanFault i old new → ReadsFormulaNoFurther claim i old new
 formula_needed model claim i old new same reads fault = record {
   unread = λ f is. absurd (rw is at same);
-  past = λ listed k is unmet. let alike = first_unmet_same 1 model listed (rw is at same) (formula_of i).clauses in
-      reads_no_further listed i old new (λ m offset e at. reads m offset (alike ∙ e) at) k unmet;
+  past = λ listed k is unmet. reads_no_further listed i old new (λ m offset e at. reads m offset
+      (first_unmet_same 1 model listed (rw is at same) (formula_of i).clauses ∙ e) at) k unmet;
   fault = fault;
 }

@@ -1,31 +1,29 @@
 -- What a run wrote, and how it ended.
-use Rattle.std.proofs.Common.{Bool, List, None, Option, Some, [], ap, append_assoc, arith, codes}
-use Rattle.std.proofs.Common.{false, length, min, not, refl, rules, subst, suc, sym, true, zero, ℕ}
-use Rattle.std.proofs.Common.{◌%◌, ◌&&◌, ◌++◌, ◌+◌, ◌-◌, ◌/◌, ◌==◌, ◌^◌, ◌||◌, ◌∙◌, ◌∷◌, ◌≡◌}
-use Rattle.cnf_base.proofs.TextLemmas.{append_nil}
-use Rattle.cnf_base.specs.{Literals.Clause, Literals.Literal, Printing.line_of, Seen.OfBothSeen}
-use Rattle.cnf_base.specs.{Stream.Input, Stream.Reader, Text.lines_of}
-use Rattle.cnf_base.specs.declared.fault.{BinaryFault.BinaryFault, Fault.Fault, TextFault.TextFault}
-use Rattle.dimacs.specs.{Formula.Formula, Formula.formula_of, declared.header.Header.Header}
-use Rattle.{proofs.specs.Reading.Proof, report.specs.Lines.Certificate, report.specs.Lines.a_model}
-use Rattle.{theory.specs.declared.refusal.Refusal.Refusal, writers.proofs.LineLemmas.Appends-then}
-use Rattle.report.specs.Lines.{a_proof, binary_text, fault_line, fault_status, formula_line}
-use Rattle.report.specs.Lines.{kind_text, refusal_line, sentence, shown, sign_text, steps_line}
-use Rattle.report.specs.{Lines.with_cause, Lines.word_text, declared.status.Status.Status}
-use Rattle.report.specs.declared.status.Status.TheVariants.{Malformed, NotVerified, OutOfMemory}
-use Rattle.report.specs.declared.status.Status.TheVariants.{Verified, WriteFailed}
+use Rattle.cnf_base.{proofs.TextLemmas.append_nil, specs.Literals.Clause}
+use Rattle.cnf_base.specs.{Literals.Literal, Printing.line_of, Seen.OfBothSeen, Stream.Input}
+use Rattle.cnf_base.specs.{Stream.Reader, Text.lines_of, declared.fault.Fault.Fault}
+use Rattle.dimacs.specs.Formula.{Formula, formula_of}
+use Rattle.{dimacs.specs.declared.header.Header.Header, proofs.specs.Reading.Proof}
+use Rattle.report.specs.Lines.{Certificate, a_model, a_proof, fault_line, fault_status}
+use Rattle.report.specs.Lines.{formula_line, refusal_line, sentence, shown, steps_line, with_cause}
+use Rattle.report.specs.declared.status.Status.{Status, TheVariants.Malformed}
+use Rattle.report.specs.declared.status.Status.TheVariants.{OutOfMemory, Verified, WriteFailed}
 use Rattle.sat_check.specs.Code.Reach.{IsVerdict}
 use Rattle.sat_check.specs.ModelReport.{claim_report, clauses_report, first_unmet, met_report}
 use Rattle.sat_check.specs.Report.{HasWritten, Outcome, Report, ReportsFormula, concluded}
 use Rattle.sat_check.specs.Report.{proof_report, text_of, trace_lines, verdict_report, with_lines}
-use Rattle.std.proofs.lemmas.Bool.{and_parts, Decides.nat_tests}
+use Rattle.std.proofs.Common.{Bool, List, None, Option, Some, [], ap, append_assoc, arith, codes}
+use Rattle.std.proofs.Common.{false, min, not, refl, rules, subst, suc, sym, true, zero, ℕ}
+use Rattle.std.proofs.Common.{◌%◌, ◌&&◌, ◌++◌, ◌+◌, ◌-◌, ◌/◌, ◌==◌, ◌^◌, ◌||◌, ◌∙◌, ◌∷◌, ◌≡◌}
+use Rattle.std.proofs.lemmas.Bool.{Decides.nat_tests, and_parts}
 use Rattle.std.proofs.lemmas.Grind.{common_steps, flat_map-append}
-use Rattle.std.proofs.lemmas.List.{append_cancel_left, Folds.list_all-append, Folds.list_any-append}
+use Rattle.std.proofs.lemmas.List.{Folds.list_all-append, Folds.list_any-append, append_cancel_left}
 use Rattle.std.specs.Fmt.{digit_glyph, digits, digits_onto}
-use Rattle.std.specs.{Io.KnownBytes.Appends, List.list_all, List.list_any, Prelude.Err, Prelude.Ok}
-use Rattle.std.specs.{Prelude.OnOk, Prelude.Result, Prelude.decimal, Str.bytes_eq}
+use Rattle.std.specs.{Io.KnownBytes.Appends, List.list_all, List.list_any, Prelude.Err}
+use Rattle.std.specs.{Prelude.Ok, Prelude.OnOk, Prelude.Result, Prelude.decimal, Str.bytes_eq}
 use Rattle.theory.specs.{Rules.Rule, Verdicts.Ending, Verdicts.no_empty_clause, Verdicts.refused}
 use Rattle.theory.specs.{Verdicts.system_of, Verdicts.verified, declared.accepted.Accepted.Accepted}
+use Rattle.{theory.specs.declared.refusal.Refusal.Refusal, writers.proofs.LineLemmas.Appends-then}
 use Rattle.writers.{proofs.LineLemmas.Writes-nothing, specs.Lines.Sink, specs.Lines.Writes}
 
 pub text_of-append : (front back : List (List ℕ)) → text_of (front ++ back) ≡ text_of front ++ text_of back
@@ -40,8 +38,8 @@ pub Outcome-all : (status : Status) (old new : Option (List ℕ)) (r : Report) �
 Outcome-all status old new r h h2 = search rules
 
 -- what was written of a report of another status is no verdict's
-pub no_verdict : (status : Status) (old new : Option (List ℕ)) (lines : List (List ℕ)) → Outcome status old new (record { lines = lines; status = Malformed })
-    → IsVerdict status → ⊥
+pub no_verdict : (status : Status) (old new : Option (List ℕ)) (lines : List (List ℕ))
+    → Outcome status old new (record { lines = lines; status = Malformed }) → IsVerdict status → ⊥
 no_verdict status old new lines o v = search rules
 
 -- lines, and then the rest of a report
@@ -88,7 +86,7 @@ Outcome-line status old now new text r w sound o =
 
 -- the bytes of a line, by the text that they are
 written : (old new : Sink) (bytes text : List ℕ) → bytes ≡ text → Writes old new (line_of bytes) → Writes old new (line_of text)
-written old new bytes text e w = let P : List ℕ → Type 0 = λ b. Writes old new (line_of b) in subst P e w
+written old new bytes text e w = grind arith
 
 module _ (certificate : Certificate) (status : Status) (old first second last : Sink) (text : List ℕ) where
   -- a conclusion that broke off in its first line, in its second, or at the flush; and a whole one
@@ -97,9 +95,9 @@ module _ (certificate : Certificate) (status : Status) (old first second last : 
 
   module _ (bytes : List ℕ) (e : bytes ≡ text) (w : Writes old first (line_of bytes)) (sound : first.is_broken ≡ false) (last_bytes : List ℕ) (is : last_bytes ≡ sentence certificate status) (v : Writes first second (line_of last_bytes)) where
     pub concluded-second : Outcome WriteFailed old.held second.held (concluded certificate text status)
-    concluded-second =
-        Outcome-line WriteFailed old first second.held text (record { lines = sentence certificate status ∷ []; status = status }) (written old first bytes text e w) sound
-        (grind (arith, Outcome-broken, written))
+    concluded-second = Outcome-line WriteFailed old first second.held text
+        (record { lines = sentence certificate status ∷ []; status = status })
+        (written old first bytes text e w) sound (grind (arith, Outcome-broken, written))
 
     module _ (also : second.is_broken ≡ false) (flushed : Writes second last []) where
       pub concluded-flush : Outcome WriteFailed old.held last.held (concluded certificate text status)
@@ -109,8 +107,7 @@ module _ (certificate : Certificate) (status : Status) (old first second last : 
           (grind (arith, Outcome-closed)))
 
       pub concluded-whole : last.is_broken ≡ false → Outcome status old.held last.held (concluded certificate text status)
-      concluded-whole end =
-          grind (arith, common_steps, nat_tests, Outcome-line, written, Outcome-all, Writes-all)
+      concluded-whole end = grind (arith, common_steps, nat_tests, written, Outcome-all)
 
 -- a line that broke off
 pub line-broken : (old new : Sink) (bytes text : List ℕ) (r : Report) → bytes ≡ text → Writes old new (line_of bytes) → Outcome WriteFailed old.held new.held (with_lines (text ∷ []) r)
@@ -142,13 +139,10 @@ both_told one one_new two two_new P Q old new first last before after next both 
 abbrev has_no_feed : List ℕ → Bool
 has_no_feed bytes = list_all (λ b. not (b == 10)) bytes
 
-glyph_test : (d : ℕ) → (digit_glyph false d == 10) ≡ false
-glyph_test d = grind (arith, nat_tests)
-
 digits_test : (k n : ℕ) (acc : List ℕ) → has_no_feed acc ≡ true → has_no_feed (digits_onto k 10 false n acc) ≡ true
 digits_test zero n acc e = e
 digits_test (suc k) n acc e =
-    search (rules, glyph_test, (digits_test k (n / 10) (digit_glyph false (n % 10) ∷ acc)))
+    search (rules, (digits_test k (n / 10) (digit_glyph false (n % 10) ∷ acc)))
 
 -- a text without a line feed
 abbrev IsPlain : List ℕ → Type 0
@@ -200,12 +194,11 @@ among_lines b bs [] [] rest all whole written = absurd (let bad : false ≡ true
 among_lines b bs [] (p ∷ ps) rest all whole written = cc
 among_lines b bs (line ∷ lines) part rest all whole written =
     let both = and_parts (has_no_feed line) (list_all has_no_feed lines) all in
-    let cut = cut_at line (text_of lines) part rest (sym (append_assoc line (10 ∷ []) (text_of lines)) ∙ whole) in
-    elim cut [
+    elim (cut_at line (text_of lines) part rest
+    (sym (append_assoc line (10 ∷ []) (text_of lines)) ∙ whole)) [
       | within x is ↦ search (rules, and_parts, list_all-append, uncut_line, begins_same)
       | past x is more ↦
-          let told = sym (ap (λ y. list_any (bytes_eq (b ∷ bs)) (lines_of y)) is ∙ ap (list_any (bytes_eq (b ∷ bs))) (cut_line line x both.0)) ∙ written in
-          by_line line lines (lines_of x) told (among_lines b bs lines x rest both.1 more)
+          search (rules, by_line, cut_line, (among_lines b bs lines x rest both.1 more))
     ]
   where
     by_line : (line : List ℕ) (lines text : List (List ℕ)) → (bytes_eq (b ∷ bs) line || list_any (bytes_eq (b ∷ bs)) text) ≡ true
@@ -228,29 +221,14 @@ record Tells (certificate : Certificate) (r : Report) : Type 0 where
 concluded_tells : (certificate : Certificate) (line : List ℕ) (s : Status) → IsPlain line → begins (positive certificate) line ≡ false → Tells certificate (concluded certificate line s)
 concluded_tells certificate line s e other = search rules
 
-kind_plain : (k : TextFault) → IsPlain (kind_text k)
-kind_plain k = search rules
-
-binary_plain : (k : BinaryFault) → IsPlain (binary_text k)
-binary_plain k = search rules
-
 fault_plain : (name : List ℕ) (f : Fault) → IsPlain name → IsPlain (fault_line name f)
-fault_plain name f e = search (rules, arith, list_all-append, number_plain, kind_plain, binary_plain)
-
-fault_other : (certificate : Certificate) (name : List ℕ) (f : Fault) → begins (positive certificate) (fault_line name f) ≡ false
-fault_other certificate name f = search rules
+fault_plain name f e = search (rules, arith, list_all-append, number_plain)
 
 fault_tells : (certificate : Certificate) (name : List ℕ) (f : Fault) → IsPlain name → Tells certificate (concluded certificate (fault_line name f) (fault_status f))
-fault_tells certificate name f e = search (rules, concluded_tells, fault_plain, fault_other)
-
-word_plain : (w : Accepted) → IsPlain (word_text w)
-word_plain w = search rules
-
-sign_plain : (l : Literal) → IsPlain (sign_text l)
-sign_plain l = search rules
+fault_tells certificate name f e = search (rules, fault_plain)
 
 cause_plain : (front : List ℕ) (r : Refusal) → IsPlain front → IsPlain (with_cause front r)
-cause_plain front r e = search (rules, arith, list_all-append, number_plain, sign_plain)
+cause_plain front r e = search (rules, arith, list_all-append, number_plain)
 
 refusal_other : (n : ℕ) (r : Refusal) → begins (positive a_proof) (refusal_line n r) ≡ false
 refusal_other n r = search rules
@@ -265,8 +243,8 @@ steps_plain : (n peak : ℕ) → IsPlain (steps_line n peak)
 steps_plain n peak = search (rules, list_all-append, shown_plain)
 
 verdict_tells : (n peak : ℕ) (ending : Ending) (fault : Option Fault) → Tells a_proof (verdict_report n peak ending fault)
-verdict_tells n peak verified fault = search (rules, concluded_tells, steps_plain)
-verdict_tells n peak (refused r) fault = concluded_tells a_proof (refusal_line (n + 1) r) NotVerified (refusal_plain (n + 1) r) (refusal_other (n + 1) r)
+verdict_tells n peak verified fault = search (rules, steps_plain)
+verdict_tells n peak (refused r) f = grind (arith, concluded_tells, refusal_plain, refusal_other)
 verdict_tells n peak no_empty_clause None = search rules
 verdict_tells n peak no_empty_clause (Some f) = fault_tells a_proof (codes "proof") f refl
 
@@ -276,16 +254,16 @@ front_tells lines r e other t = search (rules, list_all-append, list_any-append)
 
 trace_plain : (n : ℕ) (words : List Accepted) → list_all has_no_feed (trace_lines n words) ≡ true
 trace_plain n [] = refl
-trace_plain n (w ∷ ws) =
-    search (rules, list_all-append, shown_plain, word_plain, (trace_plain (n + 1) ws))
+trace_plain n (w ∷ ws) = search (rules, list_all-append, shown_plain, (trace_plain (n + 1) ws))
 
 trace_other : (n : ℕ) (words : List Accepted) → list_any (begins (positive a_proof)) (trace_lines n words) ≡ false
 trace_other n [] = refl
 trace_other n (w ∷ ws) = trace_other (n + 1) ws
 
 proof_tells : (trace : Bool) (n peak : ℕ) (words : List Accepted) (ending : Ending) (fault : Option Fault) → Tells a_proof (proof_report trace n peak words ending fault)
-proof_tells true n peak words ending fault = front_tells (trace_lines (n + 1) words) _ (trace_plain (n + 1) words) (trace_other (n + 1) words) (verdict_tells (n + length words) peak ending fault)
-proof_tells false n peak words ending fault = search (rules, front_tells, verdict_tells)
+proof_tells true n peak words ending fault =
+    search (rules, front_tells, trace_plain, trace_other, verdict_tells)
+proof_tells false n peak words ending fault = search (rules, verdict_tells)
 
 formula_plain : (h : Header) → IsPlain (formula_line h)
 formula_plain h = search (rules, list_all-append, number_plain)
@@ -301,11 +279,11 @@ report_tells rule trace i p r reports = by (formula_of i).header (formula_of i).
 
 -- the lines of a model's report
 met_tells : (n : ℕ) (fault : Option Fault) → Tells a_model (met_report n fault)
-met_tells n None = search (rules, concluded_tells, shown_plain, list_all-append)
+met_tells n None = search (rules, shown_plain, list_all-append)
 met_tells n (Some f) = fault_tells a_model (codes "formula") f refl
 
 unmet_tells : (unmet : Option ℕ) (f : Formula) → Tells a_model (clauses_report unmet f)
-unmet_tells unmet f = search (rules, concluded_tells, shown_plain, list_all-append, met_tells)
+unmet_tells unmet f = search (rules, shown_plain, list_all-append, met_tells)
 
 claim_tells : (claim : Result (List Literal) Fault) (f : Formula) → Tells a_model (claim_report claim f)
 claim_tells (Ok listed) f = unmet_tells (first_unmet 1 listed f.clauses) f

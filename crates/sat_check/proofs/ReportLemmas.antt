@@ -1,30 +1,30 @@
 -- A report: the rest of it, step by step, and what status 0 and a written `s VERIFIED` mean.
-use Rattle.cnf_base.specs.{Literals.Clause, Printing.line_of, Seen.OfBothSeen, Stream.Input}
-use Rattle.cnf_base.specs.{Stream.Reader, Text.Listing, Text.listing_of, declared.fault.Fault.Fault}
-use Rattle.cnf_base.specs.declared.fault.Fault.TheVariants.{OutOfMemory}
+use Rattle.cnf_base.specs.{Literals.Clause, Printing.line_of, Seen.OfBothSeen}
+use Rattle.cnf_base.specs.{Stream.Input, Stream.Reader, Text.Listing, Text.listing_of}
+use Rattle.cnf_base.specs.declared.fault.Fault.{Fault, TheVariants.OutOfMemory}
 use Rattle.dimacs.specs.Formula.{Formula, formula_of, formula_with, header_of}
 use Rattle.{dimacs.specs.declared.header.Header.Header, proofs.specs.Reading.Proof}
 use Rattle.proofs.specs.{Reading.with_step, Steps.Step, declared.step_end.StepEnd.StepEnd}
 use Rattle.report.specs.Lines.{a_proof, fault_line, fault_status, formula_line, refusal_line, shown}
-use Rattle.report.specs.{Lines.steps_line, Lines.with_cause, declared.status.Status.Status}
+use Rattle.report.specs.{Lines.steps_line, declared.status.Status.Status}
 use Rattle.report.specs.declared.status.Status.TheVariants.{Malformed, NotVerified, Verified}
-use Rattle.sat_check.proofs.OutcomeLemmas.{Outcome-after, Outcome-line}
-use Rattle.sat_check.proofs.OutcomeLemmas.{Writes-all, both_told, no_verdict, written_verified}
+use Rattle.sat_check.proofs.OutcomeLemmas.{Outcome-after, Outcome-line, Writes-all}
+use Rattle.sat_check.proofs.OutcomeLemmas.{both_told, no_verdict, written_verified}
 use Rattle.sat_check.specs.Code.Checking.{AllReports, IsLoaded, IsRefused, Loads, Rest, RunsInto}
 use Rattle.sat_check.specs.Code.Checking.{Stops, counted, end_report, is_memory, peak_of, traced}
 use Rattle.sat_check.specs.{Code.Reach.IsVerdict, FormulaReach.ReadsNoFurtherThanFault}
-use Rattle.sat_check.specs.{Reach.ReadsNoFurther, Reach.TellsWhy, Report.Checks, Report.ChecksProof}
-use Rattle.sat_check.specs.Report.{IsUnlessBroken, Outcome, ProofConsequences, Report}
-use Rattle.sat_check.specs.Report.{Reports, ReportsAreUnique, ReportsFormula, Verifies, bare_steps}
-use Rattle.sat_check.specs.Report.{concluded, proof_report, text_of}
-use Rattle.sat_check.specs.{Report.with_lines, Runs.RunsPlaced, declared.checked.Checked.Checked}
-use Rattle.std.proofs.Common.{Bool, Err, List, None, Ok, Option, Some, [], ap, arith, codes, cond}
-use Rattle.std.proofs.Common.{false, length, max, refl, rules, slice_get, true, ℕ, ◌++◌, ◌+◌, ◌∙◌}
-use Rattle.std.{proofs.Common.◌∷◌, proofs.Common.◌≡◌, proofs.Common.◌≤◌, specs.Prelude.Result}
-use Rattle.{steps.specs.ProofSession.View, theory.proofs.LawLemmas.Existence.after_finite}
-use Rattle.theory.proofs.LawLemmas.{Existence.same_finite, Existence.start_finite, Rules.after_same}
-use Rattle.theory.proofs.LawLemmas.{Rules.sum_same, Verdicts.ends_same, Verdicts.some_ending}
-use Rattle.theory.proofs.LawLemmas.Verdicts.{some_verdict, verdict_sound, verdict_unique}
+use Rattle.sat_check.specs.Reach.{ReadsNoFurther, TellsWhy}
+use Rattle.sat_check.specs.Report.{Checks, ChecksProof, Outcome, ProofConsequences, Report}
+use Rattle.sat_check.specs.Report.{Reports, ReportsAreUnique, ReportsFormula, Verifies}
+use Rattle.sat_check.specs.Report.{bare_steps, concluded, proof_report, text_of, with_lines}
+use Rattle.sat_check.specs.{Runs.RunsPlaced, declared.checked.Checked.Checked}
+use Rattle.std.proofs.Common.{Bool, Err, List, None, Ok, Option, Some, [], ap, arith, codes, false}
+use Rattle.std.proofs.Common.{length, max, refl, rules, slice_get, true, ℕ, ◌+◌, ◌∙◌, ◌∷◌, ◌≡◌, ◌≤◌}
+use Rattle.{std.specs.Prelude.Result, steps.specs.ProofSession.View}
+use Rattle.theory.proofs.LawLemmas.Existence.{after_finite, same_finite, start_finite}
+use Rattle.theory.proofs.LawLemmas.Rules.{after_same, sum_same}
+use Rattle.theory.proofs.LawLemmas.Verdicts.{ends_same, some_ending, some_verdict}
+use Rattle.theory.proofs.LawLemmas.Verdicts.{verdict_sound, verdict_unique}
 use Rattle.theory.specs.{Answers.UnlessOutOfMemory, Losses.LostBySteps, Models.HasModel}
 use Rattle.theory.specs.Rules.{Answers, IsFinite, Rule, Same, State, after, start, sum_of}
 use Rattle.theory.specs.Verdicts.{is_last, refused, system_of, verified}
@@ -34,16 +34,12 @@ use Rattle.writers.specs.Lines.{Sink, Writes}
 
 -- ---- What a report says
 
--- no fault is a positive verdict
-pub fault_is_no_verdict : (f : Fault) → fault_status f ≡ Verified → ⊥
-fault_is_no_verdict f h = search rules
-
 -- a report of status 0 is that of a proof that verifies the formula
 pub report_verified : (rule : Rule) (trace : Bool) (i : Input) (p : Proof) (r : Report) → ReportsFormula (system_of rule) trace (formula_of i).header (formula_of i).clauses (formula_of i).fault p r → r.status ≡ Verified → Verifies (system_of rule) (formula_of i) p
 report_verified rule trace i p r reports is = by (formula_of i).header (formula_of i).fault refl reports
   where
     by : (header : Option Header) (fault : Option Fault) → (formula_of i).fault ≡ fault → ReportsFormula (system_of rule) trace header (formula_of i).clauses fault p r → Verifies (system_of rule) (formula_of i) p
-    by header fault whole e = search (rules, fault_is_no_verdict)
+    by header fault whole e = search rules
 
 -- and the report of such a proof has status 0
 pub verifies_reported : (rule : Rule) (trace : Bool) (i : Input) (p : Proof) (r : Report) → Verifies (system_of rule) (formula_of i) p → ReportsFormula (system_of rule) trace (formula_of i).header (formula_of i).clauses (formula_of i).fault p r → r.status ≡ Verified
@@ -56,25 +52,17 @@ verifies_reported rule trace i p r v reports = by (formula_of i).header (formula
 pub verifies_sound : (rule : Rule) (f : Formula) (p : Proof) → Verifies (system_of rule) f p → ¬ HasModel (slice_get f.clauses)
 verifies_sound rule f p v = verdict_sound rule f.clauses (bare_steps p) v.words v.verdict
 
--- status 0 is that of the report
-pub outcome_verified : (status : Status) (old new : Option (List ℕ)) (r : Report) → status ≡ Verified → Outcome status old new r → r.status ≡ Verified
-outcome_verified status old new r is o = search rules
-
--- where the report has status 0, so has the run, unless memory or the writer failed
-pub outcome_complete : (status : Status) (old new : Option (List ℕ)) (r : Report) → r.status ≡ Verified → Outcome status old new r → IsUnlessBroken Verified status
-outcome_complete status old new r h h2 = search rules
-
 -- what follows from the report of a proof
 proof_consequences : (rule : Rule) (trace : Bool) (i : Input) (p : Proof) (old new : Option (List ℕ)) (status : Status) → Reports (system_of rule) trace i p old new status → ProofConsequences (system_of rule) i p old new status
 proof_consequences rule trace i p old new status x = record {
-  verified = search (rules, report_verified, outcome_verified);
-  complete = search (rules, outcome_complete, verifies_reported);
-  sound = λ is. refuted (grind (arith, outcome_verified));
+  verified = search (rules, report_verified);
+  complete = search (rules, verifies_reported);
+  sound = λ is. refuted (grind arith);
   written = λ w. refuted (grind (arith, written_verified));
 }
   where
     refuted : x.report.status ≡ Verified → ¬ HasModel (slice_get (formula_of i).clauses)
-    refuted is = verifies_sound rule (formula_of i) p (report_verified rule trace i p x.report x.reports is)
+    refuted is = verifies_sound _ _ _ (report_verified rule trace i p x.report x.reports is)
 
 -- all that is promised of a check of a proof
 pub checks_proof : (rule : Rule) (trace : Bool) (i : Input) (p : Proof) (old new : Option (List ℕ)) (status : Status) → Reports (system_of rule) trace i p old new status → ChecksProof (system_of rule) trace i p old new status
@@ -93,7 +81,7 @@ both_check_proof rule trace steps formula formula_new proof proof_new checked ol
     both_told formula formula_new proof proof_new (λ x y i j. Reports (system_of rule) trace i (steps j) x y checked.status
     × ReadsNoFurther (system_of rule) (formula_of i) (steps j) proof proof_new × TellsWhy (system_of rule) (LostBySteps rule) (formula_of i).fault (formula_of i).clauses (steps j) checked
     × ReadsNoFurtherThanFault i formula formula_new)
-    _ old new first last before after (λ i j x. (checks_proof rule trace i (steps j) first last checked.status x.0, x.1, x.2, x.3))
+    _ old new first last before after (λ i j x. (checks_proof _ _ _ _ _ _ _ x.0, x.1, x.2, x.3))
 
 -- a run into lines over a writer, said of the writer
 pub runs_placed : (rule : Rule) (trace : Bool) (steps : Input → Proof) (formula formula_new proof proof_new : Reader) (checked : Checked) (was now : Sink) (old new : Option (List ℕ)) (had_failed has_failed is_flushed : Bool)
@@ -101,7 +89,7 @@ pub runs_placed : (rule : Rule) (trace : Bool) (steps : Input → Proof) (formul
     → RunsInto rule trace steps formula formula_new proof proof_new was now checked
     → RunsPlaced (system_of rule) (LostBySteps rule) trace steps formula formula_new proof proof_new old new had_failed has_failed is_flushed checked
 runs_placed rule trace steps formula formula_new proof proof_new checked was now old new had_failed has_failed is_flushed before after had has flushed runs =
-    search (rules, (both_check_proof rule trace steps formula formula_new proof proof_new checked was.held now.held old new before after runs.report))
+    search (rules, (both_check_proof _ _ _ _ _ _ _ _ _ _ _ _ before after runs.report))
 
 -- ---- A formula and a proof have at most one report
 
@@ -121,7 +109,7 @@ pub traced_same : (trace : Bool) (m n : ℕ) (word : Accepted) → m ≡ counted
 traced_same trace m n word e = search (rules, (shown_same m n e))
 
 pub refusal_same : (m n : ℕ) (r : Refusal) → m ≡ counted n → refusal_line m r ≡ refusal_line n r
-refusal_same m n r e = ap (λ t. with_cause (codes "c step " ++ t ++ codes ": ") r) (shown_same m n e)
+refusal_same m n r e = grind (arith, shown_same)
 
 pub steps_same : (m n p q : ℕ) → m ≡ counted n → p ≡ q → steps_line m p ≡ steps_line n q
 steps_same m n p q e f = cc (shown_same m n e)
@@ -142,10 +130,6 @@ pub peak_none : (steps : List Step) (state : State) → peak_of state steps [] �
 peak_none [] state = refl
 peak_none (step ∷ steps) state = refl
 
--- no line without a word
-no_trace : (trace : Bool) (r : Report) → with_lines (cond trace [] []) r ≡ r
-no_trace trace r = search rules
-
 module _ (trace : Bool) (s : State) (n peak : ℕ) where
   pub Rest-fault : (f : Fault) (end : Option ℕ) → Rest trace s n peak (record { steps = []; fault = Some f; fault_end = end }) (end_report (Some f))
   Rest-fault f end = search rules
@@ -157,7 +141,7 @@ module _ (trace : Bool) (s : State) (n peak : ℕ) where
   module _ (st : Step) (end : StepEnd) (offset : ℕ) (p : Proof) where
     pub Rest-refused : (r : Refusal) → Answers s st (Err r) → Rest trace s n peak (with_step st end offset p) (concluded a_proof (refusal_line (n + 1) r) NotVerified)
     Rest-refused r a =
-        record { words = []; ending = refused r; verdict = (r, refl, a); report = search (rules, no_trace) }
+        record { words = []; ending = refused r; verdict = (r, refl, a); report = search rules }
 
     pub Rest-verified : (t : State) → Answers s st (Ok Empty) → Same t (after s st Empty) → sum_of s ≤ peak
         → Rest trace s n peak (with_step st end offset p) (with_lines (traced trace (n + 1) Empty) (concluded a_proof (steps_line (n + 1) (max peak (sum_of t))) Verified))
@@ -179,9 +163,7 @@ module _ (trace : Bool) (s : State) (n peak : ℕ) where
     }
       where
         peaks : max (max peak (sum_of t)) (peak_of t (bare_steps p) rest.words) ≡ max peak (peak_of s (st ∷ bare_steps p) (word ∷ rest.words))
-        peaks = let later = peak_same (bare_steps p) rest.words t (after s st word) same in
-            let low = peak_least (bare_steps p) rest.words t in
-            omega (arith, later, low, least)
+        peaks = grind (arith, peak_same, peak_least)
 
         count : n + 1 + length rest.words ≡ n + length (word ∷ rest.words)
         count = omega arith
@@ -200,12 +182,12 @@ module _ (trace : Bool) (number : ℕ) (old : View) (step : Step) (was now : Sin
       let some = Rest-some trace old.state n old.peak finite (with_step step end offset p) in
       (some.0, some.1, memory refl some.0)
   Stops-refused status r memory shown answers n offset end p is least finite =
-      (_, Rest-refused trace old.state n old.peak step end offset p r answers, rw (← refusal_same number (n + 1) r is) (shown refl))
+      (_, Rest-refused _ _ _ _ _ _ _ _ _ answers, rw (← refusal_same number (n + 1) r is) (shown refl))
 
   -- a step is refused, if there was memory
   pub was_refused : (status : Status) (r : Refusal) → (is_memory r ≡ true → (x : Report) → Outcome status was.held now.held x)
       → UnlessOutOfMemory (Err r) (Answers old.state step (Err r)) → IsVerdict status → IsRefused old.state step
-  was_refused status RefusedMemory memory answers v = absurd (no_verdict status was.held now.held [] (memory refl (record { lines = []; status = Malformed })) v)
+  was_refused status RefusedMemory memory answers v = absurd (no_verdict _ _ _ _ (memory refl (record { lines = []; status = Malformed })) v)
   was_refused status r memory answers v = (r, answers)
 
   module _ (new : View) (word : Accepted) (answers : Answers old.state step (Ok word))
@@ -225,12 +207,9 @@ module _ (trace : Bool) (number : ℕ) (old : View) (step : Step) (was now : Sin
         by : (v : Bool) → is_last word ≡ v → (x : Report) × Rest trace old.state n old.peak (with_step step end offset p) x × Outcome status was.held now.held x
         by true e = (_, verified_rest n offset end p (last_word word e) least, shown _)
         by false e =
-            let kept = same_finite new.state (after old.state step word) same (after_finite old.state step word finite) in
-            let some = Rest-some trace new.state (n + 1) (max old.peak (sum_of new.state)) kept p in (
-              _,
-              Rest-step trace old.state n old.peak step end offset p word new.state some.0 answers e same least some.1,
-              shown some.0,
-            )
+            let some = Rest-some _ _ _ _ (same_finite new.state (after old.state step word) same
+            (after_finite old.state step word finite)) _ in
+            (_, Rest-step _ _ _ _ _ _ _ _ _ _ some.0 answers e same least some.1, shown some.0)
 
     -- the accepted empty clause
     pub Stops-verified : (status : Status) (mid : Sink) (m : ℕ) → is_last word ≡ true → m ≡ new.peak
@@ -239,8 +218,7 @@ module _ (trace : Bool) (number : ℕ) (old : View) (step : Step) (was now : Sin
     Stops-verified status mid m e shown wrote whole o n offset end p is least finite = (
       _,
       verified_rest n offset end p (last_word word e) least,
-      rw (← traced_same trace number (n + 1) word is) (Outcome-after status was.held mid.held now.held (traced trace number word) _ (Writes-all was mid (text_of (traced trace number word)) wrote whole)
-          (grind (arith, steps_same))),
+      search (rules, traced_same, Outcome-after, Writes-all, steps_same),
     )
 
 -- ---- A whole report
@@ -305,5 +283,5 @@ pub verified_report : (rule : Rule) (s : View) (clauses : List Clause) (l : IsLo
 verified_report rule s clauses l trace h p status was mid now m is shown wrote whole o = (
   _,
   checks_verified rule s clauses l trace h p is,
-  Outcome-line status was mid now.held (formula_line h) (concluded a_proof (steps_line 0 s.peak) Verified) wrote whole (rw (← steps_same 0 0 m s.peak refl shown) o),
+  Outcome-line _ _ _ _ _ _ wrote whole (rw (← steps_same 0 0 m s.peak refl shown) o),
 )

@@ -1,30 +1,29 @@
 -- The theorem, by the report and the grammars, and a run by DRAT's own proof system.
-use Rattle.cnf_base.proofs.{SeenLemmas.seen_is_some, SetLemmas.all_each, SetLemmas.any_from}
-use Rattle.cnf_base.{proofs.SetLemmas.any_some, proofs.SetLemmas.each_all, specs.Literals.Clause}
-use Rattle.cnf_base.specs.{Literals.Literal, Literals.has, Literals.size, Printing.input_of}
-use Rattle.cnf_base.specs.{Seen.IsSeen, Seen.OfBothSeen, Seen.Seen, Stream.Input, Stream.Reader}
-use Rattle.cnf_base.specs.{Stream.tells_failure, declared.fault.Fault.Fault}
+use Rattle.cnf_base.proofs.SeenLemmas.{seen_is_some}
+use Rattle.cnf_base.proofs.SetLemmas.{all_each, any_from, any_some, each_all}
+use Rattle.cnf_base.specs.Literals.{Clause, Literal, has, size}
+use Rattle.cnf_base.specs.{Printing.input_of, Seen.IsSeen, Seen.OfBothSeen, Seen.Seen, Stream.Input}
+use Rattle.cnf_base.specs.{Stream.Reader, Stream.tells_failure, declared.fault.Fault.Fault}
 use Rattle.cnf_base.specs.declared.input.Ending.TheVariants.{End, Failed}
 use Rattle.dimacs.{proofs.FormulaGrammar.formula_grammar, specs.Claim.claim_of}
 use Rattle.dimacs.specs.{Formula.Formula, Formula.formula_of, declared.header.Header.Header}
-use Rattle.proofs.proofs.{BinaryGrammar.binary_both_ways, DratGrammar.drat_both_ways}
-use Rattle.proofs.{proofs.LratGrammar.lrat_both_ways, specs.Grammar.IsLratText}
-use Rattle.proofs.specs.{Lrat.lrat_steps, Reading.Proof}
-use Rattle.{proofs.specs.Steps.Step, report.specs.declared.status.Status.Status}
-use Rattle.sat_check.proofs.FormulaLemmas.{claim_consistent, claim_ends, claim_text, formula_ends}
-use Rattle.sat_check.proofs.FormulaLemmas.{formula_header, has_reverse}
+use Rattle.proofs.proofs.BinaryGrammar.{binary_both_ways}
+use Rattle.proofs.proofs.{DratGrammar.drat_both_ways, LratGrammar.lrat_both_ways}
+use Rattle.proofs.specs.{Grammar.IsLratText, Lrat.lrat_steps, Reading.Proof, Steps.Step}
+use Rattle.report.specs.declared.status.Status.{Status}
+use Rattle.sat_check.proofs.FormulaLemmas.{claim_consistent, claim_ends, claim_text}
+use Rattle.sat_check.proofs.FormulaLemmas.{formula_ends, formula_header, has_reverse}
 use Rattle.sat_check.proofs.ModelLemmas.{Made, assigned, listed_holds, verified_satisfied}
 use Rattle.sat_check.proofs.OutcomeLemmas.{written_model, written_verified}
-use Rattle.sat_check.proofs.ReportLemmas.{outcome_verified, report_verified, verifies_sound}
+use Rattle.sat_check.proofs.ReportLemmas.{report_verified, verifies_sound}
 use Rattle.sat_check.specs.{Code.Checking.peak_of, ModelReport.Satisfies, ModelReport.meets}
 use Rattle.sat_check.specs.{ModelReport.model_report, Reach.ReadsNoFurther, Reach.TellsWhy}
-use Rattle.sat_check.specs.Report.{ChecksProof, Outcome, ProofConsequences, Report, Reports}
-use Rattle.sat_check.specs.Report.{ReportsFormula, Verifies, bare_steps}
-use Rattle.sat_check.specs.{Report.drat_proof, Report.peak_by, Runs.IsDratProof, Runs.IsVerifiedBy}
-use Rattle.sat_check.specs.{Runs.Runs, Runs.RunsPlaced, Theorem.IsAnswered, Theorem.IsFormulaText}
-use Rattle.sat_check.specs.Theorem.{IsSatisfied, ShowsSatisfied, ShowsUnsatisfiable, StepsVerify}
-use Rattle.{sat_check.specs.declared.checked.Checked.Checked, std.proofs.Common.Bool}
-use Rattle.std.proofs.Common.{List, None, Option, Some, [], ap, append-nil, arith, codes}
+use Rattle.sat_check.specs.Report.{ChecksProof, Outcome, Report, Reports, ReportsFormula, Verifies}
+use Rattle.sat_check.specs.{Report.bare_steps, Report.drat_proof, Report.peak_by, Runs.IsDratProof}
+use Rattle.sat_check.specs.{Runs.IsVerifiedBy, Runs.Runs, Runs.RunsPlaced, Theorem.IsAnswered}
+use Rattle.sat_check.specs.Theorem.{IsFormulaText, IsSatisfied, ShowsSatisfied, ShowsUnsatisfiable}
+use Rattle.sat_check.specs.{Theorem.StepsVerify, declared.checked.Checked.Checked}
+use Rattle.std.proofs.Common.{Bool, List, None, Option, Some, [], ap, append-nil, arith, codes}
 use Rattle.std.proofs.Common.{false, max, min, refl, reverse, rules, slice_get, true, ℕ, ◌-◌, ◌^◌}
 use Rattle.std.proofs.{Common.◌∷◌, Common.◌≡◌, Common.◌⊎◌, lemmas.Bool.false_from_ne_true}
 use Rattle.std.proofs.lemmas.List.Sums.{AllPass-from_list_all, list_all-from_AllPass}
@@ -93,10 +92,10 @@ module _ (rule : Rule) (trace : Bool) (steps : Input → Proof)
     (Fact : Input → Input → Type 0) (both : OfBothSeen formula formula_new proof proof_new Fact)
     (told : (i j : Input) → Fact i j → Reports (system_of rule) trace i (steps j) old new status) where
   -- a positive answer is that of a proof which verifies the formula
-  verifies : IsAnswered (codes "s VERIFIED") status old new → (i j : Input) →
-      IsSeen both.first i → IsSeen both.second j → Verifies (system_of rule) (formula_of i) (steps j)
+  verifies : IsAnswered (codes "s VERIFIED") status old new → (i j : Input) → IsSeen both.first i
+      → IsSeen both.second j → Verifies (system_of rule) (formula_of i) (steps j)
   verifies answer i j seen also = let x = told i j (both.fact i j seen also) in
-      report_verified rule trace i (steps j) x.report x.reports (grind (arith, outcome_verified, written_verified))
+      report_verified rule trace i (steps j) x.report x.reports (grind (arith, written_verified))
 
   -- so the formula was read whole
   whole_formula : IsAnswered (codes "s VERIFIED") status old new → (bytes : List ℕ) →
@@ -174,8 +173,8 @@ module _ (formula formula_new output output_new : Reader) (old new : Option (Lis
   confirms : IsAnswered (codes "s MODEL VERIFIED") status old new → (i j : Input) →
       IsSeen both.first i → IsSeen both.second j
       → Satisfies (claim_of j) (formula_of i).clauses × ((formula_of i).fault ≡ None)
-  confirms answer i j seen also = let o = told i j (both.fact i j seen also) in
-      verified_satisfied (claim_of j) (formula_of i) (grind (arith, outcome_verified, written_model)) (claim_consistent j)
+  confirms answer i j seen also = verified_satisfied (claim_of j) (formula_of i)
+      (grind (arith, written_model)) (claim_consistent j)
 
   pub shows_satisfied : ShowsSatisfied formula.left output.left status old new
   shows_satisfied bytes output_bytes holds also_holds answer =
@@ -239,11 +238,8 @@ module _ {S T : Type 0} (one : ProofSystem S) (other : ProofSystem T) (alike : A
   pub reports_by : (trace : Bool) (i : Input) (p : Proof) (old new : Option (List ℕ)) (status : Status) → Reports one trace i p old new status → Reports other trace i p old new status
   reports_by trace i p old new status x = search (rules, formula_by)
 
-  consequences_by : (i : Input) (p : Proof) (old new : Option (List ℕ)) (status : Status) → ProofConsequences one i p old new status → ProofConsequences other i p old new status
-  consequences_by i p old new status x = search rules
-
   pub proof_by : (trace : Bool) (i : Input) (p : Proof) (old new : Option (List ℕ)) (status : Status) → ChecksProof one trace i p old new status → ChecksProof other trace i p old new status
-  proof_by trace i p old new status x = search (rules, reports_by, consequences_by)
+  proof_by trace i p old new status x = search (rules, reports_by)
 
   pub reach_by : (f : Formula) (p : Proof) (old new : Reader) → ReadsNoFurther one f p old new → ReadsNoFurther other f p old new
   reach_by f p old new x = search rules
@@ -266,8 +262,7 @@ module _ (rules : DratRules) where
   EndsHere live steps words ending = EndsBy (drat_system rules).MayAnswer (drat_system rules).next live steps words ending
 
   last_or : (A : Type 0) {B C : Type 0} (b : Bool) → (B → C) → MatchBool b A B → MatchBool b A C
-  last_or A true f x = x
-  last_or A false f x = f x
+  last_or x0 x1 x2 x3 = grind arith
 
   ends_to : (live : List Clause) (steps : List Step) (words : List Accepted) (ending : Ending) → Ends (by_copies rules live) steps words ending → EndsHere live steps words ending
   ends_to live (s ∷ ss) (w ∷ ws) ending e = (e.0, last_or ((ws ≡ []) × (ending ≡ verified)) (is_last w) (ends_to (after_drat live (drat_step rules s) w) ss ws ending) e.1)

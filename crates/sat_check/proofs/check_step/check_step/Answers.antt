@@ -1,7 +1,7 @@
 -- The step was refused, its line broke off, it is the last one, or the check goes on.
 use Rattle.sat_check.proofs.{OutcomeLemmas.no_verdict, ReportLemmas.Stops-refused}
 use Rattle.sat_check.proofs.ReportLemmas.{Stops-traced, Stops-verified, was_refused}
-use Rattle.std.proofs.Common.{inl, inr, rules}
+use Rattle.std.proofs.Common.{arith, inl, inr, rules}
 use Rattle.sat_check.proofs.check_step.check_step.Goals as goal
 
 pub returns-in-Err-clause-stops : goal.returns-in-Err-clause-stops
@@ -10,8 +10,15 @@ returns-in-Err-clause-stops g c =
 
 pub returns-in-Err-write_trace-clause-stops : goal.returns-in-Err-write_trace-clause-stops
 returns-in-Err-write_trace-clause-stops g c =
-    Stops-traced c.args.trace c.args.number (g.S.ProofSession.shown c.args.session.now) c.args.step.now c.args.lines.now c.write_trace.new.lines (g.S.ProofSession.shown c.step.new.self) c.in-Ok.word (c.in-Ok.ensures.answers c.requires.sound) c.in-Ok.ensures.state c.in-Ok.ensures.peak
-    c.in-Err-write_trace.status c.in-Err-write_trace.ensures.stopped
+    search (
+      rules,
+      arith,
+      Stops-traced,
+      c.in-Ok.ensures.answers,
+      c.in-Ok.ensures.state,
+      c.in-Ok.ensures.peak,
+      c.in-Err-write_trace.ensures.stopped,
+    )
 
 pub returns-then-is_last-clause-stops : goal.returns-then-is_last-clause-stops
 returns-then-is_last-clause-stops g c =

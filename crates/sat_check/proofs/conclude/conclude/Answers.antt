@@ -19,4 +19,4 @@ returns-then-is_err-3-clause-outcome g c = λ text is.
 
 pub returns-clause-outcome : goal.returns-clause-outcome
 returns-clause-outcome g c = λ text is.
-    concluded-whole (certificate_of c.args.subject) c.args.status _ _ _ _ text c.bytes.result.now (search rules) c.line-2.ensures.writes (search rules) _ c.sentence.ensures c.line-3.ensures.writes (search rules) c.finish.ensures.writes (search rules)
+    concluded-whole _ _ _ _ _ _ _ _ (search rules) c.line-2.ensures.writes (search rules) _ c.sentence.ensures c.line-3.ensures.writes (search rules) c.finish.ensures.writes (search rules)

@@ -4,7 +4,7 @@ use Rattle.std.proofs.Common.{refl, rules}
 use Rattle.sat_check.proofs.judge.judge.Goals as goal
 
 pub returns-in_err-piece-clause-judges : goal.returns-in_err-piece-clause-judges
-returns-in_err-piece-clause-judges g c = judges_refused c.args.model.now _ _ c.from_residual.result refl (search rules)
+returns-in_err-piece-clause-judges g c = judges_refused _ _ _ _ refl (search rules)
 
 pub returns-in-Ok-clause-judges : goal.returns-in-Ok-clause-judges
 returns-in-Ok-clause-judges g c =
@@ -12,4 +12,4 @@ returns-in-Ok-clause-judges g c =
 
 pub returns-in-Err-clause-judges : goal.returns-in-Err-clause-judges
 returns-in-Err-clause-judges g c = let last = c.in-Err.ensures.refused in
-    judges_fault c.args.model.now _ _ _ c.over.ensures last.0 _ (search rules) c.in-Err.refused.0 last.2
+    judges_fault _ _ _ _ c.over.ensures _ _ (search rules) _ last.2

@@ -14,8 +14,8 @@ returns-then-not-meets-clause-judges g c =
     Judging-unmet _ _ _ c.next.new.self _ c.loop-clause.invariant c.next.new.clause (clause_told c.loop-clause.reader c.next.new.self _ (Ok true) _ c.next.ensures.clause (search rules)) unmet
 
 pub loop-clause-preserved : goal.loop-clause-preserved
-loop-clause-preserved g c =
-    Judging-clause _ _ _ c.next.new.self _ c.loop-clause.invariant c.next.new.clause (grind (arith, clause_told)) (search rules) (search rules) (search rules)
+loop-clause-preserved g c = Judging-clause _ _ _ c.next.new.self _ c.loop-clause.invariant
+    c.next.new.clause (grind (arith, clause_told)) (search rules) (search rules) (search rules)
 
 pub returns-clause-judges : goal.returns-clause-judges
 returns-clause-judges g c = Judging-done _ _ _ c.next.new.self _ c.loop-clause.invariant c.next.new.clause (grind (arith, clause_told))

@@ -5,8 +5,7 @@ use Rattle.{std.proofs.Common.refl, std.proofs.Common.rules, theory.specs.Rules.
 use Rattle.sat_check.proofs.load.load.Goals as goal
 
 pub returns-in_err-piece-clause-loads : goal.returns-in_err-piece-clause-loads
-returns-in_err-piece-clause-loads g c =
-    loads_refused (rule_of (g.S.ProofSession.shown c.args.session.now).state) (g.S.ProofSession.shown c.args.session.now) _ _ c.from_residual.result refl (search rules)
+returns-in_err-piece-clause-loads g c = loads_refused _ _ _ _ _ refl (search rules)
 
 pub returns-in_ok-loaded-in-Ok-clause-loads : goal.returns-in_ok-loaded-in-Ok-clause-loads
 returns-in_ok-loaded-in-Ok-clause-loads g c =

@@ -12,10 +12,9 @@ returns-then-is_err-clause-loads g c =
     Loading-refused _ _ _ c.next.new.self _ c.loop-clause.invariant (g.S.ProofSession.shown c.input.new.self) c.next.new.clause (grind (arith, clause_told))
 
 pub loop-clause-preserved : goal.loop-clause-preserved
-loop-clause-preserved g c = let old = g.S.ProofSession.shown c.loop-clause.session in
-    let new = g.S.ProofSession.shown c.input.new.self in
-    Loading-clause _ _ _ c.next.new.self _ c.loop-clause.invariant _ c.next.new.clause (grind (arith, clause_told))
-    (loaded_more _ old new _ _ c.loop-clause.invariant.loaded (search rules) (search rules) (search rules) (search rules)
+loop-clause-preserved g c = Loading-clause _ _ _ c.next.new.self _ c.loop-clause.invariant _
+    c.next.new.clause (grind (arith, clause_told)) (loaded_more _ _ _ _ _
+    c.loop-clause.invariant.loaded (search rules) (search rules) (search rules) (search rules)
     (search rules) (search rules) (search rules)) (search rules) (search rules)
 
 pub returns-clause-loads : goal.returns-clause-loads

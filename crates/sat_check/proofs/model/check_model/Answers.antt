@@ -3,14 +3,12 @@ use Rattle.{cnf_base.proofs.SeenLemmas.Seen-nothing, dimacs.specs.Claim.claim_of
 use Rattle.{dimacs.specs.Formula.formula_of, sat_check.proofs.ModelLemmas.claimed_consistent}
 use Rattle.sat_check.proofs.ModelLemmas.{claimed_report, claimed_tells, fault_unverified}
 use Rattle.sat_check.proofs.ModelLemmas.{formula_left, formula_needed, output_fault, output_tells}
-use Rattle.{sat_check.specs.Report.Outcome, sat_check.specs.Report.Report, std.proofs.Common.arith}
-use Rattle.std.proofs.Common.{codes, sym, ◌∙◌}
+use Rattle.std.proofs.Common.{arith, codes, sym, ◌∙◌}
 use Rattle.sat_check.proofs.model.check_model.Goals as goal
 
 pub returns-in-Ok-clause-report : goal.returns-in-Ok-clause-report
 returns-in-Ok-clause-report g c = let checked = c.check_formula.ensures.report in
     let claims = c.in-Ok.ensures.claims in
-    let P : Report → Type 0 = Outcome c.check_formula.result.status c.args.lines.now.held c.check_formula.new.lines.held in
     record {
       first = checked.seen;
       second = claims.seen;

@@ -17,5 +17,5 @@ returns-clause-steps_verify g c = let options = c.of-options.result in
     rw c.of-options.ensures at
     (shows_steps (drat (rules_of options)) options.trace (drat_proof options.binary)
     _ _ _ _ _ _ _ _ c.run_drat_kept-session.ensures.checks (λ i j x.
-    drat_reported (rules_of options) options.trace i (drat_proof options.binary j) _ _ _ x.0.reports)
+    drat_reported _ _ _ _ _ _ _ x.0.reports)
     (IsDratProof options.binary) (drat_read options.binary))

@@ -7,11 +7,9 @@ pub returns-clause-runs : goal.returns-clause-runs
 returns-clause-runs g c = rw c.of.ensures at c.run_lrat_kept-session.ensures
 
 pub returns-clause-unsatisfiable : goal.returns-clause-unsatisfiable
-returns-clause-unsatisfiable g c =
-    shows_unsatisfiable lrat _ lrat_steps _ _ _ _ _ _ _ _ c.run_lrat_kept-session.ensures.checks
-    (λ i j x. x.0.reports)
+returns-clause-unsatisfiable g c = shows_unsatisfiable lrat _ lrat_steps _ _ _ _ _ _ _ _
+    c.run_lrat_kept-session.ensures.checks (λ i j x. x.0.reports)
 
 pub returns-clause-steps_verify : goal.returns-clause-steps_verify
-returns-clause-steps_verify g c =
-    shows_steps lrat _ lrat_steps _ _ _ _ _ _ _ _ c.run_lrat_kept-session.ensures.checks
-    (λ i j x. x.0.reports) IsLratText lrat_read
+returns-clause-steps_verify g c = shows_steps lrat _ lrat_steps _ _ _ _ _ _ _ _
+    c.run_lrat_kept-session.ensures.checks (λ i j x. x.0.reports) IsLratText lrat_read
