@@ -2,3 +2,4 @@
 pub mod ClauseSource
 pub mod State
 pub mod Visits
+pub mod Waiting

@@ -36,11 +36,13 @@ pub(crate) fn reserve_given(
     }
 }
 
-/// One more assumption, by a part of a clause, as [`Assumptions::assume`] makes it.
+/// One more assumption, by a part of a clause, as [`Assumptions::assume`] makes it. In a call of
+/// its own, since inlined there are copies for all parts, and the loop of propagation lies worse.
 ///
 /// # Errors
 ///
 /// As there.
+#[inline(never)]
 pub(crate) fn assume_from<P: Part>(
     store: &Store,
     assumptions: &mut Assumptions,

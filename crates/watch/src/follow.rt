@@ -6,18 +6,20 @@
 //!
 //! The values are asked for once for all visits up to the next literal that becomes true.
 
-ghost use Rattle.std.specs.Prelude.{◌≡◌, ◌≢◌, ℕ, ◌+◌, ◌≤◌, length, take, slice_get, Option, Some};
+ghost use Rattle.std.specs.Prelude.{◌≡◌, ◌≢◌, ℕ, ◌+◌, ◌≤◌, length, slice_get, Option, Some};
 ghost use Rattle.std.specs.Prelude.{IsTrue, IsFalse, IfOk, IfSome, IfNone, OnOk};
 ghost use Rattle.std.specs.List.{remove};
 ghost use Rattle.std.specs.FinMap as maps;
 ghost use Rattle.std.specs.FinMap.{FinMap};
 ghost use Rattle.std.specs.Ordering.{nat_cmp};
 ghost use Rattle.cnf_base.specs.Literals.{Clause, Literal, complement, has};
-ghost use Rattle.theory.specs.Sets.{conflicts};
 ghost use Rattle.propagation.specs.Assumptions.{AssumptionsState};
 ghost use Rattle.root_literals.specs.Order.{each_in_order};
-ghost use Rattle.root_literals.specs.Watched.{IsMet, IsWatched};
+ghost use Rattle.root_literals.specs.Watched.{IsMet};
 ghost use Rattle.root_literals.specs.Roots.{IsFalseAt};
+ghost use Rattle.root_literals.specs.Code.Propagated.{PropagatesTo};
+ghost use Rattle.watch_lists.specs.Lists.{entries_in, list_at};
+ghost use Rattle.watch_lists.specs.Watched.{IsListed};
 ghost use Rattle.watch.specs.Code.Visits.{AreMet, CanFollow, CanLook, CanVisit, Followed};
 ghost use Rattle.watch.specs.Code.Visits.{HasRoomForBlocking, IsExchangeAt, IsFoundAfter};
 ghost use Rattle.watch.specs.Code.Visits.{IsFoundNext, IsInHand, IsNextSlot, Visited, VisitsUnder};
@@ -239,8 +241,38 @@ fn visit_all(
     Ok(None)
 }
 
-/// Visits all clauses that watch a literal which became false, up to one that is false: its slot.
+/// Visits the clauses in the list of a literal that became false, which was taken out, up to one
+/// that is false: its slot. The list is put back.
 #[inline(always)]
+pub(crate) fn visit_list(
+    store: &mut Store,
+    lists: &mut WatchLists,
+    assumptions: &mut Assumptions,
+    reasons: &mut Filled<u32>,
+    l: Lit,
+    list: Vec<Watcher>,
+) -> Result<Option<u32>, OutOfMemory>
+    requires can { CanVisit store.old.live lists.old list.items assumptions.old (at reasons.old) l }
+    ensures clash { IfOk result (λ found. IfSome found (λ s.
+        IsFalseAt (maps.get (each_in_order store.new.live)) s assumptions.new.trail.lits)) }
+    ensures met { IfOk result (λ found. IfNone found ((s : ℕ) (c : Clause) →
+        maps.get store.new.live s ≡ Some c → IsMet c l assumptions.new.trail.lits)) }
+    ensures listed { IsListed (maps.get store.new.live) (list_at lists.new) }
+    ensures entries { entries_in lists.new ≡ entries_in lists.old + length list.items }
+    ensures propagates { PropagatesTo store.old.live store.new.live assumptions.old
+        assumptions.new (at reasons.old) (at reasons.new) }
+    ensures slots { store.new.slots ≡ store.old.slots }
+{
+    let mut cursor = Cursor::over(list);
+    let found = visit_all(store, lists, assumptions, reasons, &mut cursor, l);
+    lists.put_back(l, cursor.into_list());
+    found
+}
+
+/// Visits all clauses that watch a literal which became false, up to one that is false: its slot.
+/// Inlined where literals that waited are followed, it would make the loop over all others carry
+/// more numbers.
+#[inline(never)]
 pub(crate) fn follow(
     store: &mut Store,
     lists: &mut WatchLists,
@@ -261,42 +293,6 @@ pub(crate) fn follow(
     if !lists.has_list(l) {
         return Ok(None);
     }
-    let mut cursor = Cursor::over(lists.take_out(l));
-    let found = visit_all(store, lists, assumptions, reasons, &mut cursor, l);
-    lists.put_back(l, cursor.into_list());
-    found
-}
-
-/// Propagates the literals that are true from this place on, up to a clause that is false: its
-/// slot.
-pub(crate) fn propagate(
-    store: &mut Store,
-    lists: &mut WatchLists,
-    assumptions: &mut Assumptions,
-    reasons: &mut Filled<u32>,
-    from: usize,
-) -> Result<Option<u32>, OutOfMemory>
-    requires from { from ≤ length assumptions.old.trail.lits }
-    requires can { CanFollow store.old.live lists.old assumptions.old (at reasons.old) }
-    requires watched { IsWatched (maps.get store.old.live)
-        (take from assumptions.old.trail.lits) assumptions.old.trail.lits }
-    ensures clash { IfOk result (λ found. IfSome found (λ s.
-        IsFalseAt (maps.get (each_in_order store.new.live)) s assumptions.new.trail.lits)) }
-    ensures watched { IfOk result (λ found. IfNone found (IsWatched (maps.get store.new.live)
-        assumptions.new.trail.lits assumptions.new.trail.lits)) }
-    ensures quiet { IfOk result (λ found. IfNone found
-        (IsFalse (conflicts assumptions.new.trail.lits))) }
-    ensures followed { Followed store.old.live store.new.live lists.old lists.new
-        assumptions.old assumptions.new (at reasons.old) (at reasons.new) }
-    ensures slots { store.new.slots ≡ store.old.slots }
-{
-    let mut done = from;
-    while done < assumptions.trail().len() {
-        let l = assumptions.trail().lits()[done].neg();
-        match follow(store, lists, assumptions, reasons, l)? {
-            Some(slot) => return Ok(Some(slot)),
-            None => done += 1,
-        }
-    }
-    Ok(None)
+    let list = lists.take_out(l);
+    visit_list(store, lists, assumptions, reasons, l, list)
 }

@@ -1,6 +1,6 @@
 //! Propagation after an assumption.
 
-ghost use Rattle.std.specs.Prelude.{◌≡◌, ℕ, ◌≤◌, length, take, IfOk};
+ghost use Rattle.std.specs.Prelude.{◌≡◌, ◌≤◌, length, take, IfOk};
 ghost use Rattle.std.specs.FinMap as maps;
 ghost use Rattle.cnf_base.specs.Literals.{has};
 ghost use Rattle.tables.specs.Filled.{at};
@@ -12,7 +12,7 @@ ghost use Rattle.watch.specs.Code.Visits.{CanFollow, Followed};
 ghost use Rattle.theory.specs.Propagation.{IsClosed};
 ghost use Rattle.propagation.specs.declared.answer.Answer.TheVariants.{Quiet};
 
-use crate::follow::propagate;
+use crate::propagate::propagate;
 use clause_db::Store;
 use cnf_base::OutOfMemory;
 use propagation::{Answer, Assumptions};

@@ -1,6 +1,5 @@
 use Rattle.{cnf_base.proofs.MapLemmas.removed_back, std.proofs.Common.arith}
 use Rattle.watch.proofs.WatchLemmas.State.{closure_held, closure_shown}
-use Rattle.std.specs.FinMap as maps
 use Rattle.watch.proofs.clauses.insert_clause.Goals as goal
 
 pub enter-requires-clause-closure : goal.enter-requires-clause-closure

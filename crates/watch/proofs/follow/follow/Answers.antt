@@ -1,15 +1,13 @@
-use Rattle.std.proofs.Common.{[], ap, arith, cond, eq-eqb, refl, ◌∙◌}
+use Rattle.std.proofs.Common.{[], ap, cond, eq-eqb, refl, ◌∙◌}
 use Rattle.watch.proofs.WatchLemmas.Visits.{followed_none, hand_taken, listed_alike, none_met}
 use Rattle.watch_lists.specs.Lists.{list_at}
-use Rattle.std.specs.FinMap as maps
 use Rattle.watch.proofs.follow.follow.Goals as goal
 
-pub visit_all-found-requires : goal.visit_all-found-requires
-visit_all-found-requires c = let l = c.args.l in let lists = list_at c.args.lists.now in
-    let taken = c.take_out.new.self in let list = c.take_out.result.items in
-    let e = c.take_out.ensures in record {
-      front = c.over-cursor.ensures.visited;
-      can = simp c.over-cursor.ensures.entries (record {
+pub visit_list-requires : goal.visit_list-requires
+visit_list-requires c = let l = c.args.l in let lists = list_at c.args.lists.now in
+    let taken = c.take_out-list.new.self in let list = c.take_out-list.result.items in
+    let e = c.take_out-list.ensures in record {
+      can = record {
         hand = record {
           known = e.known l ∙ c.has_list.ensures.yes c.if-not-has_list.false;
           taken = e.others l ∙ ap (λ b. cond b [] (lists l)) (eq-eqb l l refl);
@@ -17,7 +15,7 @@ visit_all-found-requires c = let l = c.args.l in let lists = list_at c.args.list
         };
         is_false = c.requires.is_false;
         can_set = c.requires.can.can_set;
-      });
+      };
     }
 
 pub returns-then-not-has_list-clause-met : goal.returns-then-not-has_list-clause-met
@@ -26,7 +24,3 @@ returns-then-not-has_list-clause-met c =
 
 pub returns-then-not-has_list-clause-followed : goal.returns-then-not-has_list-clause-followed
 returns-then-not-has_list-clause-followed c = followed_none c.requires.can
-
-pub returns-clause-followed : goal.returns-clause-followed
-returns-clause-followed c = let visited = c.visit_all-found.ensures.visited in
-    grind (arith, listed_alike)

@@ -6,7 +6,6 @@ use Rattle.{std.proofs.lemmas.Option.same_Some, watch_lists.proofs.WatchListsLem
 use Rattle.watch.proofs.WatchLemmas.Visits.{found_next, put_same, room_found, visited_none}
 use Rattle.{trail.proofs.TrailLemmas.Longer.has_begun, watch_lists.specs.Lists.entries_in}
 use Rattle.{cnf_base.specs.Literals.has, tables.specs.Filled.at}
-use Rattle.std.specs.FinMap as maps
 use Rattle.watch.proofs.follow.visit_all.Goals as goal
 
 pub loop-at-init : goal.loop-at-init

@@ -2,7 +2,6 @@ use Rattle.clause_db.proofs.StoreLemmas.Options.{if_none_then, if_some_then}
 use Rattle.cnf_base.proofs.SetLemmas.{same_from, same_trans}
 use Rattle.root_literals.proofs.RootLemmas.Reasons.{same-in_order, seen_there, there_seen}
 use Rattle.{root_literals.specs.Order.in_order, std.proofs.Common.arith}
-use Rattle.std.specs.FinMap as maps
 use Rattle.watch.proofs.watch.WatchPropagate.find.Goals as goal
 
 pub returns-clause-found : goal.returns-clause-found
