@@ -4,3 +4,6 @@ pub mod Watched
 pub mod Kept
 pub mod Carried
 pub mod Unshared
+pub mod Arranged
+pub mod Shown
+pub mod Steps

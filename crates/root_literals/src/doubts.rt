@@ -40,6 +40,7 @@ fn is_met(trail: &Trail, clause: &[Lit]) -> bool
 
 /// Looks at the clause in the slot, if there is one, and makes its literal true that is left where
 /// all others are false. It takes no memory.
+#[tactic(auto, using(crate::proofs::RootLemmas::Steps::left_steps))]
 fn look(
     store: &Store,
     slot: u32,

@@ -8,6 +8,7 @@ use std::alloc::Global;
 use tables::Filled;
 
 /// The place of a literal, sought from both ends.
+#[tactic(auto, using(crate::proofs::RootLemmas::Steps::place_steps))]
 pub(crate) fn place_of(lits: &[Lit], l: Lit) -> usize
     requires { IsTrue (has lits.now l) }
     ensures inside { result < length lits.now }

@@ -124,6 +124,7 @@ impl Roots {
     }
 
     /// Makes room for the reasons of a literal and of its complement.
+    #[tactic(auto, using(crate::proofs::RootLemmas::Steps::room_steps))]
     pub fn reserve_variable(&mut self, l: Lit) -> Result<(), OutOfMemory>
         ensures room { OnOk result ((k : Literal) → k / 2 ≡ l / 2 →
             IsSome (at self.new.reasons k)) }

@@ -58,6 +58,7 @@ fn settle(store: &Store, assumptions: &mut Assumptions, roots: &mut Roots) -> Op
 
 /// Keeps the literals of the clauses of one literal too, where some may be missing, and leaves no
 /// doubt. It takes no memory.
+#[tactic(auto, using(crate::proofs::RootLemmas::Steps::begun_steps))]
 pub fn start(store: &Store, units: &SlotList, assumptions: &mut Assumptions, roots: &mut Roots)
     requires listed { IsUnitList (maps.get store.now.live) units.now }
     requires nothing_assumed { assumptions.old.assumptions ≡ [] }

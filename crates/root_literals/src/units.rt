@@ -25,6 +25,7 @@ fn literal_of(clause: &[Lit]) -> Option<Lit>
 
 /// Makes the literals of the clauses in these slots true, each of which has one or none, up to one
 /// that is false: its slot.
+#[tactic(auto, using(crate::proofs::RootLemmas::Carried::clashes))]
 pub(crate) fn set_units(
     store: &Store,
     slots: &[u32],

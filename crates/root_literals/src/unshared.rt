@@ -28,6 +28,7 @@ pub(crate) fn only_literal(clause: &[Lit]) -> Option<Lit>
 }
 
 /// The literal of the unit clause in the slot, where no other clause has it.
+#[tactic(auto, using(crate::proofs::RootLemmas::Unshared::absent_else))]
 pub(crate) fn unshared_literal(store: &Store, slot: Slot) -> Option<Lit>
     requires { IsSome (maps.get store.now.live slot) }
     ensures unit { IfSome result (λ l. maps.get store.now.live slot ≡ Some (l ∷ [])) }

@@ -56,6 +56,7 @@ fn count_down(counts: &mut Filled<u32>, l: Lit)
 
 /// Counts each of the literals once more, or some of them where there is no room for the count of
 /// one.
+#[tactic(auto, using(crate::proofs::RootLemmas::Steps::use_steps))]
 fn count_all(counts: &mut Filled<u32>, lits: &[Lit]) -> bool
     ensures { (k : ℕ) → unwrap_or (at counts.old k) 0
         + (if result && has lits.now k then 1 else 0) ≤ unwrap_or (at counts.new k) 0 }
@@ -69,6 +70,7 @@ fn count_all(counts: &mut Filled<u32>, lits: &[Lit]) -> bool
 }
 
 /// Counts each of the literals once less, where none is repeated.
+#[tactic(auto, using(clause_db::proofs::StoreLemmas::Counts::met_more))]
 fn release(counts: &mut Filled<u32>, lits: &[Lit])
     requires different { size lits.now ≡ length lits.now }
     ensures { (k : ℕ) → unwrap_or (at counts.old k) 0 ≤
@@ -146,6 +148,7 @@ impl Uses {
     }
 
     /// Whether it is known by the counts that no literal has a reason with `k`.
+    #[tactic(auto, using(crate::proofs::RootLemmas::Steps::unused_steps))]
     pub(crate) fn is_unused(
         &self,
         store: &Store,

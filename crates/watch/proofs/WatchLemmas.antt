@@ -2,4 +2,4 @@
 pub mod State
 pub mod Visits
 pub mod Moves
-pub mod Waiting
+pub mod Turns

@@ -12,6 +12,7 @@ use cnf_base::{Lit, OutOfMemory};
 use propagation::Closure;
 
 /// Stores a clause in a slot that is free, and fails only where memory is refused.
+#[tactic(auto, using(crate::proofs::WatchLemmas::State::clause_steps))]
 pub(crate) fn insert_clause(
     store: &mut Store,
     closure: &mut Closure,
@@ -40,6 +41,7 @@ pub(crate) fn insert_clause(
 }
 
 /// Takes the clause out of its slot. It takes no memory.
+#[tactic(auto, using(crate::proofs::WatchLemmas::State::clause_steps))]
 pub(crate) fn remove_clause(store: &mut Store, closure: &mut Closure, slot: Slot)
     requires alive { IsSome (maps.get store.old.live slot) }
     requires closure { IsClosure (maps.get (each_in_order store.old.live)) closure.old }

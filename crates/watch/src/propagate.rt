@@ -10,16 +10,15 @@ ghost use Rattle.root_literals.specs.Order.{each_in_order};
 ghost use Rattle.root_literals.specs.Watched.{IsMet, IsWatched};
 ghost use Rattle.root_literals.specs.Roots.{IsFalseAt};
 ghost use Rattle.watch.specs.Code.Visits.{CanFollow, Followed};
-ghost use Rattle.watch.specs.Code.Waiting.{count_of, waits};
+ghost use Rattle.watch_lists.specs.Waiting.{count_of, waits};
 ghost use Rattle.tables.specs.Filled.{at};
 
 use crate::follow::{follow, visit_list};
-use crate::waiting::Waiting;
 use clause_db::Store;
 use cnf_base::{Lit, OutOfMemory};
 use propagation::Assumptions;
 use tables::Filled;
-use watch_lists::WatchLists;
+use watch_lists::{Waiting, WatchLists};
 
 /// Visits all clauses that watch a literal which became false, up to one that is false: its slot.
 /// Or it lets the literal wait, where its list is long.

@@ -25,6 +25,7 @@ use watch_lists::{SlotList, WatchLists};
 /// # Errors
 ///
 /// Where memory runs out. Of what is true then nothing is known.
+#[tactic(auto, using(crate::proofs::WatchLemmas::Visits::follow_steps))]
 fn catch_up(
     store: &mut Store,
     lists: &mut WatchLists,

@@ -12,18 +12,16 @@ ghost use Rattle.propagation.specs.Slots.{most_slots};
 
 mod questions;
 
-use crate::arrange::arrange;
 use crate::assume::assume_part;
 use crate::clause_source::reserve_given;
 use crate::clauses::{insert_clause, remove_clause};
 use crate::gather::gathered;
-use crate::reason::is_reason_at_root;
 use crate::refresh::refresh;
 use crate::room::reserve_room;
 use clause_db::{Blocks, Slot, Store};
 use cnf_base::{Lit, OutOfMemory};
 use propagation::{Answer, Assumptions, ClauseSource, Closure, Propagate, is_sparse};
-use root_literals::Roots;
+use root_literals::{Roots, arrange, is_reason_at_root};
 use std::alloc::Global;
 use std::marker::Model;
 use trail::{Part, Value};
@@ -165,6 +163,7 @@ impl Watch {
     /// Where memory runs out. The lists are then still to be made.
     #[cold]
     #[inline(never)]
+    #[tactic(auto, using(crate::proofs::WatchLemmas::State::tautologies_there))]
     fn make_lists(&mut self) -> Result<(), OutOfMemory>
         requires { self.old.is_loading ≡ true }
         ensures same { self.new.propagation ≡ self.old.propagation }
@@ -198,6 +197,7 @@ impl Watch {
     /// # Errors
     ///
     /// Where memory runs out, and ever after. What is assumed is then as it was.
+    #[tactic(auto, using(crate::proofs::WatchLemmas::State::ordered_steps))]
     fn prepare(&mut self) -> Result<(), OutOfMemory>
         ensures live { self.new.propagation.live ≡ self.old.propagation.live }
         ensures live_alone { HoldsLiveAlone self.new.propagation }
@@ -233,6 +233,7 @@ impl Watch {
     /// Gathers the clauses, out of line: here is room for all of another one.
     #[cold]
     #[inline(never)]
+    #[tactic(auto, using(propagation::proofs::PropagationLemmas::Gather::needed_within))]
     fn gather_sparse(&mut self) -> Result<(), OutOfMemory>
         requires { self.old.propagation.assumptions ≡ [] }
         ensures live { SameLive (maps.values self.new.propagation.live)
@@ -282,6 +283,7 @@ impl Propagate for Watch {
         &self.store
     }
 
+    #[tactic(auto, using(crate::proofs::WatchLemmas::State::insert_steps))]
     fn insert(&mut self, lits: &[Lit]) -> Result<Slot, OutOfMemory> {
         reserve_room(&mut self.assumptions, &mut self.roots, lits)?;
         let slot = insert_clause(&mut self.store, &mut self.closure, lits)?;
@@ -307,6 +309,7 @@ impl Propagate for Watch {
         }
     }
 
+    #[tactic(auto, using(crate::proofs::WatchLemmas::State::remove_steps))]
     fn remove(&mut self, slot: Slot) {
         self.roots
             .leave(&self.store, &mut self.lists, &mut self.assumptions, slot);
@@ -340,6 +343,7 @@ impl Propagate for Watch {
         self.store.slots_touched(lits, slots)
     }
 
+    #[tactic(auto, using(crate::proofs::WatchLemmas::State::assume_steps))]
     fn assume_part<P: Part>(
         &mut self,
         source: &ClauseSource<'_>,

@@ -80,6 +80,7 @@ impl Cursor {
 
     /// Puts this in the place of the next entry, and keeps it.
     #[inline(always)]
+    #[tactic(auto, using(crate::proofs::WatchListsLemmas::Cursor::cursor_steps))]
     pub fn keep(&mut self, entry: Watcher)
         requires { self.old.visited < length self.old.entries }
         ensures entries { self.new.entries ≡
@@ -93,6 +94,7 @@ impl Cursor {
 
     /// Takes the next entry out.
     #[inline(always)]
+    #[tactic(auto, using(crate::proofs::WatchListsLemmas::Cursor::cursor_steps))]
     pub fn take_out(&mut self)
         requires { self.old.visited < length self.old.entries }
         ensures entries { self.new.entries ≡ remove self.old.entries self.old.visited }

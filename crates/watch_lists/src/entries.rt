@@ -47,6 +47,7 @@ fn watch_first_two(
 /// # Errors
 ///
 /// Where memory runs out, or no entry can have the slot. All lists then have what they had.
+#[tactic(auto, using(crate::proofs::WatchListsLemmas::Entries::entry_steps))]
 pub fn add_entries(
     store: &Store,
     lists: &mut WatchLists,
@@ -102,6 +103,7 @@ pub fn add_entries(
 }
 
 /// Takes the slot of a clause out of all lists that it stands in. It takes no memory.
+#[tactic(auto, using(crate::proofs::WatchListsLemmas::Entries::entry_steps))]
 pub fn remove_entries(
     store: &Store,
     lists: &mut WatchLists,

@@ -10,6 +10,7 @@ mod place_table;
 mod places;
 mod slot_list;
 mod taken;
+mod waiting;
 mod watcher;
 
 pub use cursor::Cursor;
@@ -17,4 +18,5 @@ pub use entries::{add_entries, remove_entries};
 pub use listing::listed;
 pub use lists::WatchLists;
 pub use slot_list::SlotList;
+pub use waiting::Waiting;
 pub use watcher::Watcher;

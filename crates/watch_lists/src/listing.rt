@@ -139,6 +139,7 @@ fn watch_in(
 }
 
 /// Fills the lists of a part.
+#[tactic(auto, using(crate::proofs::WatchListsLemmas::Entries::entry_steps))]
 fn fill(
     lists: &mut WatchLists,
     part: Part,

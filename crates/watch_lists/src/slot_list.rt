@@ -55,6 +55,7 @@ impl SlotList {
     }
 
     /// Whether it has the slot.
+    #[tactic(auto, using(crate::proofs::WatchListsLemmas::SlotList::place_steps))]
     pub fn has(&self, slot: u32) -> bool
         ensures { result ≡ has self.now slot }
     {
@@ -85,6 +86,7 @@ impl SlotList {
     }
 
     /// Takes a slot out. The last one takes its place. It takes no memory.
+    #[tactic(auto, using(crate::proofs::WatchListsLemmas::SlotList::place_steps))]
     pub fn remove(&mut self, slot: u32)
         requires { IsTrue (has self.old slot) }
         ensures times { (s : ℕ) → times_in s self.new + (if s == slot then 1 else 0) ≡

@@ -38,6 +38,7 @@ fn lacks(list: &[Watcher], code: u32) -> bool
 }
 
 /// The place of an entry with this code in a list that has one, from this place on.
+#[tactic(auto, using(crate::proofs::WatchListsLemmas::Lists::walk_steps))]
 fn place_from(list: &[Watcher], code: u32, from: usize) -> usize
     requires there { 0 < entries_with code list.now }
     requires absent { entries_with code (take from list.now) ≡ 0 }
@@ -54,6 +55,7 @@ fn place_from(list: &[Watcher], code: u32, from: usize) -> usize
 
 /// Goes over as many entries at once as long as none has the code, from this place on.
 #[inline(always)]
+#[tactic(auto, using(crate::proofs::WatchListsLemmas::Lists::coded_chunk))]
 fn pass_over(list: &[Watcher], code: u32, from: usize, at_once: usize) -> usize
     requires some { 0 < at_once }
     requires inside { from ≤ length list.now }
@@ -179,6 +181,7 @@ fn found_in(list: &[Watcher], code: u32, places: &Places, number: u32) -> Found
 
 /// Takes the entry of a slot with this mark out of a list that has one, and takes note of its
 /// place. The list has a number.
+#[tactic(auto, using(crate::proofs::WatchListsLemmas::Lists::taken_steps))]
 pub(crate) fn take_off(
     list: &mut Vec<Watcher>,
     slot: u32,

@@ -1,32 +1,32 @@
 -- Clauses in order are the same sets, and literals follow from their reasons.
 use Rattle.clause_db.specs.Store.{IsTouchedAt, literals_in}
 use Rattle.cnf_base.proofs.{LiteralLemmas.complement-complement, MapLemmas.get_insert}
-use Rattle.cnf_base.proofs.MapLemmas.{get_remove, inserted_is, remove_here, remove_other}
-use Rattle.cnf_base.proofs.{MapLemmas.same_maps, MemberLemmas.place_in_front, SetLemmas.both_pass}
+use Rattle.cnf_base.proofs.MapLemmas.{get_remove, inserted_is, remove_here, remove_other, same_maps}
+use Rattle.cnf_base.proofs.{MemberLemmas.place_in_front, SetLemmas.both_pass}
 use Rattle.cnf_base.proofs.SetLemmas.{complements_has, filter_has, has-complements, has-filter}
 use Rattle.cnf_base.proofs.SetLemmas.{has_append_left, has_append_right, has_cases, has_head}
-use Rattle.cnf_base.{proofs.SetLemmas.same_from, proofs.SizeLemmas.size_same, specs.Literals.Clause}
-use Rattle.cnf_base.specs.Literals.{Literal, complement, complements}
-use Rattle.cnf_base.specs.{Literals.has, Literals.same_clause, Literals.size, Maps.sum_over}
+use Rattle.cnf_base.proofs.{SetLemmas.same_from, SizeLemmas.size_same}
+use Rattle.cnf_base.specs.Literals.{Clause, Literal, complement, complements, has, same_clause}
+use Rattle.cnf_base.specs.{Literals.size, Maps.sum_over}
 use Rattle.{propagation.specs.Assumptions.HasAt, root_literals.proofs.RootLemmas.Watched.front_part}
-use Rattle.root_literals.specs.Order.{each_in_order, in_order}
-use Rattle.root_literals.specs.{Order.set_of, Roots.AreReasoned, Roots.FollowsReasons}
-use Rattle.root_literals.specs.{Roots.IsReasonAt, Uses.AreCounted, Uses.clause_in, Uses.is_in}
-use Rattle.root_literals.specs.{Uses.times, Uses.uses_of, declared.uses.Uses.Uses}
-use Rattle.std.proofs.Common.{Bool, List, Option, Some, T, [], ap, arith, cond, eqb, eqb-true}
-use Rattle.std.proofs.Common.{false, filter, get_or, inl, inr, is_lt, is_some, length, map, nat_cmp}
-use Rattle.std.proofs.Common.{option_map, refl, rules, subst, suc, sum_by, sym, take, take-take}
-use Rattle.std.proofs.Common.{true, zero, ℕ, ◌++◌, ◌+◌, ◌<◌, ◌||◌, ◌∙◌, ◌∷◌, ◌≡◌, ◌≢◌, ◌≤◌}
+use Rattle.root_literals.specs.Order.{each_in_order, in_order, set_of}
+use Rattle.root_literals.specs.Roots.{AreReasoned, FollowsReasons, IsReasonAt}
+use Rattle.root_literals.specs.Uses.{AreCounted, clause_in, is_in, times, uses_of}
+use Rattle.root_literals.specs.declared.uses.Uses.{Uses}
+use Rattle.std.proofs.Common.{Bool, List, Option, Some, [], ap, arith, cond, eqb, eqb-true}
+use Rattle.std.proofs.Common.{false, filter, get_or, inl, inr, is_lt, is_some, length}
+use Rattle.std.proofs.Common.{length-append, length-take, map, nat_cmp, option_map, refl, remove}
+use Rattle.std.proofs.Common.{rules, suc, sum_by, sym, take, take-take, take_all, true}
+use Rattle.std.proofs.Common.{true≢false, zero, ℕ, ◌++◌, ◌+◌, ◌<◌, ◌∙◌, ◌∷◌, ◌≡◌, ◌≢◌, ◌≤◌}
 use Rattle.std.proofs.lemmas.Bool.{Decides.nat_tests, cases_eq, cases_lt, false≢true, or_right}
-use Rattle.std.proofs.{Common.true≢false, lemmas.Grind.common_steps, lemmas.List.Edits.length-remove}
-use Rattle.std.proofs.{lemmas.List.Sums.sum_by-cons, Common.length-append, Common.length-take, lemmas.List.take-append-le}
-use Rattle.std.proofs.{Common.take-take, Common.take_all, lemmas.List.take_more, lemmas.Option.none-some}
-use Rattle.std.{proofs.lemmas.Option.same_Some, specs.Cmp.nat_cmp_total}
-use Rattle.std.specs.FinMap.{Entries.below_all, FinMap, find, is_sorted}
-use Rattle.std.{specs.List.list_any, proofs.Common.remove, specs.Ordering.eq_by_cmp, proofs.Common.nat_cmp}
+use Rattle.std.proofs.lemmas.Grind.{common_steps}
+use Rattle.std.proofs.lemmas.List.{Edits.length-remove, Sums.sum_by-cons, take-append-le, take_more}
+use Rattle.std.proofs.lemmas.Option.{none-some, same_Some}
+use Rattle.std.specs.{Cmp.nat_cmp_total, FinMap.Entries.below_all, FinMap.FinMap, FinMap.find}
+use Rattle.std.specs.{FinMap.is_sorted, Ordering.eq_by_cmp}
 use Rattle.theory.specs.Propagation.{Forced, Live}
-use Rattle.trail.proofs.TrailLemmas.{Longer.pushed_each, Truth.places_apart}
-use Rattle.trail.{proofs.TrailLemmas.Without.none_left, specs.Trail.HasNoVariableTwice}
+use Rattle.trail.proofs.TrailLemmas.{Longer.pushed_each, Truth.places_apart, Without.none_left}
+use Rattle.trail.specs.Trail.{HasNoVariableTwice}
 use Rattle.std.specs.FinMap as maps
 
 tie_back : (k q : ℕ) → eq_by_cmp nat_cmp k q ≡ eqb q k
@@ -36,16 +36,11 @@ tie_back = grind (arith, nat_tests)
 
 in_set : (c : Clause) (l : Literal) → is_some (maps.get (set_of c) l) ≡ has c l
 in_set [] l = ap is_some (maps.get-empty nat_cmp l)
-in_set (k ∷ c) l = ap is_some (maps.get-insert nat_cmp_total (set_of c) k tt l)
-    ∙ by_test (eq_by_cmp nat_cmp l k) (eqb k l) (tie_back l k) (maps.get (set_of c) l) (in_set c l)
-  where
-    by_test : (a b : Bool) → a ≡ b → (o : Option Unit) → is_some o ≡ has c l → is_some (cond a (Some tt) o) ≡ (b || has c l)
-    by_test a b h o h2 = grind (arith, true≢false)
+in_set (k ∷ c) l = grind (arith, nat_tests, maps.get-insert nat_cmp_total (set_of c) k tt l, in_set c l)
 
 -- the same literals
 pub has-in_order : (c : Clause) (l : Literal) → has (in_order c) l ≡ has c l
-has-in_order c l =
-    ap (λ p. list_any p (in_order c)) (λ i k. sym (tie_back l k) i) ∙ sym (maps.contains_key-keys (set_of c) l) ∙ in_set c l
+has-in_order c l = grind (arith, tie_back, maps.contains_key-keys (set_of c) l, in_set c l)
 
 pub same-in_order : (c : Clause) → same_clause (in_order c) c ≡ true
 same-in_order = grind (arith, same_from, has-in_order)
@@ -55,10 +50,7 @@ size-in_order = grind (arith, size_same, has-in_order)
 
 -- clauses with the same literals are shown alike
 pub alike_in_order : (c d : Clause) → ((l : Literal) → has c l ≡ has d l) → in_order c ≡ in_order d
-alike_in_order c d alike = ap maps.keys (same_maps _ _ (λ l. one_value _ _ (in_set c l ∙ alike l ∙ sym (in_set d l))))
-  where
-    one_value : (o p : Option Unit) → is_some o ≡ is_some p → o ≡ p
-    one_value o p h = grind (arith, true≢false)
+alike_in_order c d alike = ap maps.keys (same_maps _ _ (λ l. grind (arith, in_set c l, in_set d l, alike l, true≢false)))
 
 -- ---- All clauses
 
@@ -81,45 +73,43 @@ weights_ordered : (w v : Clause → ℕ) → ((c : Clause) → w (in_order c) �
 weights_ordered w v alike [] = refl
 weights_ordered w v alike (e ∷ es) = grind (arith, sum_by-cons, weights_ordered w v alike es)
 
-still_sorted : (live : FinMap nat_cmp Clause) → T (is_sorted nat_cmp (ordered (maps.entries live)))
-still_sorted live = subst T (sym (sorted_ordered (maps.entries live))) (maps.entries_sorted live)
-
 pub get_ordered : (live : FinMap nat_cmp Clause) (s : ℕ) → maps.get (each_in_order live) s ≡ option_map in_order (maps.get live s)
 unfolding each_in_order
-get_ordered = grind (arith, maps.get-from_sorted, still_sorted, find_ordered, option_map, maps.get-entries)
+get_ordered = grind (arith, maps.get-from_sorted, sorted_ordered, maps.entries_sorted, find_ordered, option_map, maps.get-entries)
 
 pub sum_ordered : (w v : Clause → ℕ) → ((c : Clause) → w (in_order c) ≡ v c) → (live : FinMap nat_cmp Clause) → sum_over w (each_in_order live) ≡ sum_over v live
 unfolding each_in_order
-sum_ordered = grind (arith, sum_by, map, maps.entries-from_sorted, still_sorted, weights_ordered)
+sum_ordered = grind (arith, sum_by, map, maps.entries-from_sorted, sorted_ordered, maps.entries_sorted, weights_ordered)
 
 pub literals_ordered : (live : FinMap nat_cmp Clause) → literals_in (each_in_order live) ≡ literals_in live
 literals_ordered = sum_ordered size size size-in_order
 
 -- ---- Changes
 
-pub ordered_remove : (live : FinMap nat_cmp Clause) (s : ℕ) → each_in_order (maps.remove live s) ≡ maps.remove (each_in_order live) s
-ordered_remove = grind (arith, same_maps, get_ordered, get_remove)
-
 pub ordered_empty : each_in_order maps.empty ≡ maps.empty
 ordered_empty = grind (arith, same_maps, get_ordered, option_map, maps.get-empty)
 
--- a clause that is put in the place of one with the same literals isn't seen
-pub ordered_same : (live : FinMap nat_cmp Clause) (s : ℕ) (c d : Clause) → maps.get live s ≡ Some c → ((l : Literal) → has d l ≡ has c l) → each_in_order (maps.insert live s d) ≡ each_in_order live
-ordered_same = grind (arith, same_maps, get_ordered, get_insert, eqb-true, alike_in_order)
+module _ (live : FinMap nat_cmp Clause) (s : ℕ) where
+  pub ordered_remove : each_in_order (maps.remove live s) ≡ maps.remove (each_in_order live) s
+  ordered_remove = grind (arith, same_maps, get_ordered, get_remove)
 
--- ---- Look-ups
+  -- a clause that is put in the place of one with the same literals isn't seen
+  pub ordered_same : (c d : Clause) → maps.get live s ≡ Some c → ((l : Literal) → has d l ≡ has c l) → each_in_order (maps.insert live s d) ≡ each_in_order live
+  ordered_same = grind (arith, same_maps, get_ordered, get_insert, eqb-true, alike_in_order)
 
-pub seen_there : (live : FinMap nat_cmp Clause) (s : ℕ) (c : Clause) → maps.get live s ≡ Some c → maps.get (each_in_order live) s ≡ Some (in_order c)
-seen_there = grind (arith, get_ordered)
+  -- ---- Look-ups
 
-pub there_seen : (live : FinMap nat_cmp Clause) (s : ℕ) (d : Clause) → maps.get (each_in_order live) s ≡ Some d → (c : Clause) × (maps.get live s ≡ Some c) × ((l : Literal) → has d l ≡ has c l)
-there_seen = grind (arith, get_ordered, none-some, same_Some, has-in_order)
+  pub seen_there : (c : Clause) → maps.get live s ≡ Some c → maps.get (each_in_order live) s ≡ Some (in_order c)
+  seen_there = grind (arith, get_ordered)
 
-pub alive_alike : (live : FinMap nat_cmp Clause) (s : ℕ) → is_some (maps.get (each_in_order live) s) ≡ is_some (maps.get live s)
-alive_alike = grind (arith, get_ordered)
+  pub there_seen : (d : Clause) → maps.get (each_in_order live) s ≡ Some d → (c : Clause) × (maps.get live s ≡ Some c) × ((l : Literal) → has d l ≡ has c l)
+  there_seen = grind (arith, get_ordered, none-some, same_Some, has-in_order)
 
-pub alive_clause : (live : FinMap nat_cmp Clause) (s : ℕ) → is_some (maps.get live s) ≡ true → (c : Clause) × (maps.get live s ≡ Some c)
-alive_clause = search rules
+  pub alive_alike : is_some (maps.get (each_in_order live) s) ≡ is_some (maps.get live s)
+  alive_alike = grind (arith, get_ordered)
+
+  pub alive_clause : is_some (maps.get live s) ≡ true → (c : Clause) × (maps.get live s ≡ Some c)
+  alive_clause = search rules
 
 pub seen_has_at : (live : FinMap nat_cmp Clause) (l : Literal) (s : ℕ) → HasAt (maps.get (each_in_order live)) l s → HasAt (maps.get live) l s
 seen_has_at = search (rules, there_seen)
@@ -145,9 +135,10 @@ part_alike keeps c d alike l = both_pass _ _ (there c d alike l) (there d c (λ 
 
 -- ---- Literals that follow from their reasons
 
--- the literals pass where the complements of the others of each reason let its literal pass
-abbrev AllPass : Live → (Literal → Option ℕ) → (Literal → Bool) → List Literal → Type 0
-AllPass live reason_of passes lits = FollowsReasons live reason_of lits passes → (l : Literal) → has lits l ≡ true → passes l ≡ true
+-- no literal stands before its place
+pub not_before : (lits : List Literal) (place : ℕ) (l : Literal) → place < length lits → get_or lits place 0 ≡ l → HasNoVariableTwice lits → (n : ℕ) → n ≤ place → has (take n lits) l ≡ true → ⊥
+not_before lits place l inside stands apart n low member = let w = place_in_front lits n l member in
+    places_apart lits apart w.0 place (omega arith) inside (grind arith)
 
 module _ (live : Live) (reason_of : Literal → Option ℕ) (lits : List Literal) (are : AreReasoned live reason_of lits) where
   in_all : (passes : Literal → Bool) → FollowsReasons live reason_of lits passes → (l : Literal) → has lits l ≡ true → passes l ≡ true
@@ -172,7 +163,7 @@ module _ (live : Live) (reason_of : Literal → Option ℕ) (lits : List Literal
   -- other clauses, among which all reasons are
   pub reasoned_among : (after : Live) → ((l : Literal) (s : ℕ) (c : Clause) → has lits l ≡ true → reason_of l ≡ Some s → live s ≡ Some c → after s ≡ Some c) → AreReasoned after reason_of lits
   reasoned_among after among = record {
-    has_it = λ l s member is. let w = are.has_it l s member is in record { clause = w.clause; at = among l s w.clause member is w.at; member = w.member };
+    has_it = λ l s member is. grind (arith, are.has_it l s member is, among l s);
     in_each = λ n passes follows. are.in_each n passes (grind (arith, front_part));
   }
 
@@ -191,13 +182,12 @@ module _ (live : Live) (reason_of : Literal → Option ℕ) (lits : List Literal
     pub reasoned_more : ((k : Literal) → has c k ≡ true → k ≢ m → has lits (complement k) ≡ true) → ((l : Literal) → has lits l ≡ true → reason_now l ≡ reason_of l) → AreReasoned live reason_now (lits ++ m ∷ [])
     reasoned_more others same = record {
       has_it = λ l s member is.
-          pushed_each (λ k. (n : ℕ) → reason_now k ≡ Some n → HasAt live k n) lits m (λ k h n e. are.has_it k n h (sym (same k h) ∙ e))
-          (λ n e. subst (λ x. HasAt live m x) (same_Some slot n (sym set ∙ e)) (record { clause = c; at = there; member = m_there })) l member s is;
+          pushed_each (λ k. (n : ℕ) → reason_now k ≡ Some n → HasAt live k n) lits m (grind (arith, are.has_it)) (grind (arith, same_Some)) l member s is;
       in_each = λ n passes. elim (cases_lt (length lits) n) [
-        | inl past ↦ subst (AllPass live reason_now passes) (sym (take_all n (lits ++ m ∷ []) (let long = length-append lits (m ∷ []) in omega (arith, long, past)))) (λ follows l member.
-            let so_far = in_all passes (λ k s d h is. follows k s d (has_append_left lits (m ∷ []) k h) (same k h ∙ is)) in
-            pushed_each (λ k. passes k ≡ true) lits m so_far (follows m slot c (has_append_right lits (m ∷ []) m (has_head m [])) set there (λ k h ne. so_far (complement k) (others k h ne))) l member)
-        | inr within ↦ subst (AllPass live reason_now passes) (sym (take-append-le n lits (m ∷ []) within)) (λ follows. are.in_each n passes (λ k s d h is. follows k s d h (same k (front_part n lits k h) ∙ is)))
+        | inl past ↦ rw (take_all n (lits ++ m ∷ []) (grind (arith, length-append))) (λ follows l member.
+            let so_far = in_all passes (grind (arith, follows, has_append_left)) in
+            pushed_each (λ k. passes k ≡ true) lits m so_far (grind (arith, follows m slot c, has_append_right, has_head)) l member)
+        | inr within ↦ rw (take-append-le n lits (m ∷ []) within) (λ follows. are.in_each n passes (grind (arith, follows, front_part)))
       ];
     }
 
@@ -211,14 +201,10 @@ module _ (live : Live) (reason_of : Literal → Option ℕ) (lits : List Literal
 
   -- another clause makes a literal true, by those that stand before it
   module _ (reason_now : Literal → Option ℕ) (m : Literal) (slot : ℕ) (apart : HasNoVariableTwice lits) (by : IsReasonAt live slot lits m) (set : reason_now m ≡ Some slot) (same : (l : Literal) → l ≢ m → reason_now l ≡ reason_of l) where
-    not_before : (n : ℕ) → n ≤ by.place → has (take n lits) m ≡ true → ⊥
-    not_before n low member = let w = place_in_front lits n m member in
-        places_apart lits apart w.0 by.place (grind arith) by.inside (grind arith)
-
     from_front : (n : ℕ) (passes : Literal → Bool) → FollowsReasons live reason_now (take n lits) passes → has (take n lits) m ≡ true → passes m ≡ true
-    from_front n passes follows member = elim (cases_lt by.place n) [
-      | inl low ↦ follows m slot by.clause member set by.at (λ k h ne. are.in_each by.place passes (λ l s c there is at others. grind (arith, follows l s c, take-take by.place n lits, front_part by.place (take n lits) l, same l, not_before by.place)) (complement k) (by.others k h ne))
-      | inr past ↦ absurd (not_before n past member)
+    from_front n passes follows member = let before = not_before lits by.place m by.inside by.stands apart in elim (cases_lt by.place n) [
+      | inl low ↦ follows m slot by.clause member set by.at (λ k h ne. are.in_each by.place passes (λ l s c there is at others. grind (arith, follows l s c, take-take by.place n lits, front_part by.place (take n lits) l, same l, before by.place)) (complement k) (by.others k h ne))
+      | inr past ↦ absurd (before n past member)
     ]
 
     pub reasoned_instead : AreReasoned live reason_now lits
@@ -239,93 +225,71 @@ one o k = cond (is_in o k) 1 0
 pub uses_at_most : (before after : Live) (r s : Literal → Option ℕ) (k : Literal) (lits : List Literal) → ((l : Literal) → has lits l ≡ true → is_in (clause_in after (s l)) k ≡ true → is_in (clause_in before (r l)) k ≡ true) →
     uses_of after s lits k ≤ uses_of before r lits k
 uses_at_most before after r s k [] among = omega arith
-uses_at_most before after r s k (l ∷ lits) among = search (
-  rules,
-  or_right,
-  has_head,
-  false≢true,
-  (uses_at_most before after r s k lits (grind (arith, or_right))),
-)
+uses_at_most before after r s k (l ∷ lits) among = grind (arith, has_head, has_cases, uses_at_most before after r s k lits (grind (arith, or_right)))
 
 module _ (live : Live) (r : Literal → Option ℕ) (k : Literal) where
   -- one literal more
   pub uses_more : (lits : List Literal) (l : Literal) → uses_of live r (lits ++ l ∷ []) k ≡ uses_of live r lits k + one (clause_in live (r l)) k
   uses_more [] l = omega arith
-  uses_more (m ∷ lits) l = let rest = uses_more lits l in omega (arith, rest)
+  uses_more (m ∷ lits) l = omega (arith, uses_more lits l)
 
   -- none of them
   pub uses_none : (lits : List Literal) → uses_of live r lits k ≡ 0 → (l : Literal) → has lits l ≡ true → is_in (clause_in live (r l)) k ≡ false
   uses_none [] none l h = absurd (false≢true h)
-  uses_none (m ∷ lits) none l h =
-      grind (arith, has_cases m lits l h, uses_none lits (omega (arith, none)) l)
+  uses_none (m ∷ lits) none l h = grind (arith, has_cases m lits l h, uses_none lits)
 
   -- one of them is taken out
   pub uses_out : (lits : List Literal) (n place : ℕ) → place ≤ n → n < length lits → uses_of live r (take n (remove lits place)) k + one (clause_in live (r (get_or lits place 0))) k ≡ uses_of live r (take (suc n) lits) k
-  uses_out (l ∷ lits) (suc n) (suc place) low within = let rest = uses_out lits n place (omega (arith, low)) (omega (arith, within)) in omega (arith, rest)
+  uses_out (l ∷ lits) (suc n) (suc place) low within = grind (arith, uses_out lits n place)
   uses_out lits n place h h2 = search (rules, arith)
 
 -- those before the one that is taken out
 take_before : (lits : List Literal) (n place : ℕ) → n ≤ place → take n (remove lits place) ≡ take n lits
 take_before lits zero place low = refl
-take_before [] (suc n) zero low = refl
-take_before [] (suc n) (suc place) low = refl
-take_before (l ∷ lits) (suc n) zero low = grind arith
 take_before (l ∷ lits) (suc n) (suc place) low = ap (λ ls. l ∷ ls) (take_before lits n place (omega (arith, low)))
+take_before [] (suc n) (suc place) low = refl
+take_before lits (suc n) place low = grind arith
 
 -- ---- What is counted
-
--- nothing
-pub counted_none : (live : Live) (r : Literal → Option ℕ) (lits : List Literal) (uses : Uses) → uses.counted ≡ 0 → AreCounted live r lits uses
-counted_none = search rules
 
 -- the same reasons, or others that have no other literals
 pub counted_among : (before after : Live) (r s : Literal → Option ℕ) (lits : List Literal) (uses : Uses) → AreCounted before r lits uses →
     ((k l : Literal) → has lits l ≡ true → is_in (clause_in after (s l)) k ≡ true → is_in (clause_in before (r l)) k ≡ true) → AreCounted after s lits uses
 counted_among = grind (arith, uses_at_most, front_part)
 
--- the same counts
-pub counted_same : (live : Live) (r : Literal → Option ℕ) (lits : List Literal) (uses now : Uses) → now.counted ≡ uses.counted → ((k : Literal) → times now k ≡ times uses k) → AreCounted live r lits uses → AreCounted live r lits now
-counted_same = search rules
+module _ (live : Live) (r : Literal → Option ℕ) (lits : List Literal) (uses : Uses) where
+  -- nothing
+  pub counted_none : uses.counted ≡ 0 → AreCounted live r lits uses
+  counted_none = search rules
 
--- more literals
-pub counted_longer : (live : Live) (r : Literal → Option ℕ) (lits more : List Literal) (uses : Uses) → take (length lits) more ≡ lits → length lits ≤ length more → AreCounted live r lits uses → AreCounted live r more uses
-counted_longer = search (rules, take-take)
+  -- the same counts
+  pub counted_same : (now : Uses) → now.counted ≡ uses.counted → ((k : Literal) → times now k ≡ times uses k) → AreCounted live r lits uses → AreCounted live r lits now
+  counted_same = search rules
+
+  -- more literals
+  pub counted_longer : (more : List Literal) → take (length lits) more ≡ lits → length lits ≤ length more → AreCounted live r lits uses → AreCounted live r more uses
+  counted_longer = search (rules, take-take)
 
 -- ---- A place
 
 module _ (lits : List Literal) (place : ℕ) (l : Literal) (inside : place < length lits) (stands : get_or lits place 0 ≡ l) (different : HasNoVariableTwice lits) where
-  not_before_place : (n : ℕ) → n ≤ place → (m : Literal) → has (take n lits) m ≡ true → m ≢ l
-  not_before_place n low m h e = let w = place_in_front lits n m h in
-      places_apart lits different w.0 place (omega arith) inside (grind arith)
-
-  not_left : (n : ℕ) (m : Literal) → has (take n (remove lits place)) m ≡ true → m ≢ l
-  not_left = grind (arith, false≢true, none_left, front_part)
-
   -- another reason
   pub counted_instead : (live : Live) (r s : Literal → Option ℕ) (uses now : Uses) (before after : Clause) → clause_in live (r l) ≡ Some before → clause_in live (s l) ≡ Some after → ((m : Literal) → m ≢ l → s m ≡ r m) →
       (now.counted ≢ 0 → now.counted ≡ uses.counted) → (now.counted ≢ 0 → place < uses.counted → (k : Literal) → times uses k + cond (has after k) 1 0 ≤ times now k + cond (has before k) 1 0) → (uses.counted ≤ place → now ≡ uses) →
       AreCounted live r lits uses → AreCounted live s lits now
   counted_instead live r s uses now before after was is same counted exchanged stays are =
-      grind (arith, cases_eq, counted_none, cases_lt, behind, unchanged)
+      grind (arith, cases_eq, counted_none, cases_lt, behind, uses_at_most, not_before lits place l inside stands different)
     where
-      unchanged : uses.counted ≤ place → (k : Literal) → uses_of live s (take uses.counted lits) k ≤ times uses k
-      unchanged past k =
-          let fewer = uses_at_most live live r s k (take uses.counted lits) (λ m h. grind (arith, same m, not_before_place uses.counted past m h)) in
-          let enough = are.enough k in omega (arith, fewer, enough)
-
-      first_is : (t : Literal → Option ℕ) (c : Clause) → clause_in live (t l) ≡ Some c → (k : Literal) → one (clause_in live (t (get_or lits place 0))) k ≡ cond (has c k) 1 0
-      first_is t c e k = simp (stands, e)
-
       behind : now.counted ≢ 0 → place < uses.counted → (k : Literal) → uses_of live s (take now.counted lits) k ≤ times now k
       behind some low k = by_count uses.counted refl
         where
           by_count : (n : ℕ) → uses.counted ≡ n → uses_of live s (take now.counted lits) k ≤ times now k
           by_count zero e = absurd (omega arith)
-          by_count (suc n) e = let within = are.inside in
-              let fewer = uses_at_most live live r s k (take n (remove lits place)) (λ m h. grind (arith, same m, not_left n m h)) in
-              let split = uses_out live r k lits n place (omega arith) (omega arith) in
-              let split_now = uses_out live s k lits n place (omega arith) (omega arith) in
-              grind (arith, counted some, exchanged some low k, first_is, are.enough k)
+          by_count (suc n) e =
+              let fewer = uses_at_most live live r s k (take n (remove lits place)) (λ m h. grind (arith, same m, none_left, front_part)) in
+              let split = uses_out live r k lits n place (omega arith) (grind arith) in
+              let split_now = uses_out live s k lits n place (omega arith) (grind arith) in
+              grind (arith, counted some, exchanged some low k, are.enough k)
 
   -- the literal is taken back, whose reason has no other
   pub counted_out : (live rest : Live) (r : Literal → Option ℕ) (uses now : Uses) → clause_in live (r l) ≡ Some (l ∷ []) → ((k m : Literal) → is_in (clause_in rest (r m)) k ≡ true → is_in (clause_in live (r m)) k ≡ true) →
@@ -333,16 +297,11 @@ module _ (lits : List Literal) (place : ℕ) (l : Literal) (inside : place < len
   counted_out live rest r uses now unit among fewer less stays are =
       grind (arith, cases_lt, length-remove, behind, uses_at_most, take_before)
     where
-      has_it : (k : Literal) (b : Bool) → eqb k l ≡ b → cond {A = ℕ} b 1 0 ≤ cond (has (l ∷ []) k) 1 0
-      has_it k true e = let there : cond {A = ℕ} (has (l ∷ []) k) 1 0 ≡ 1 = ap (λ b. cond {A = ℕ} b 1 0) (subst (λ x. has (l ∷ []) x ≡ true) (sym (eqb-true k l e)) (has_head l [])) in omega (arith, there)
-      has_it k false e = omega arith
-
       behind : place < uses.counted → (k : Literal) → uses_of rest r (take now.counted (remove lits place)) k ≤ times now k
       behind low k = let e = fewer low in let within = are.inside in
           let most = uses_at_most live rest r r k (take now.counted (remove lits place)) (λ m _. among k m) in
           let split = uses_out live r k lits now.counted place (omega (arith, low, e)) (omega (arith, within, e)) in
-          let first : one (clause_in live (r (get_or lits place 0))) k ≡ cond (has (l ∷ []) k) 1 0 = ap (λ x. one (clause_in live (r x)) k) stands ∙ ap (λ o. one o k) unit in
-          let next : suc now.counted ≡ uses.counted = omega (arith, e) in grind arith
+          let next : suc now.counted ≡ uses.counted = omega (arith, e) in grind (arith, less k, are.enough k, eqb-true, has_head)
 
 -- ---- Clauses
 
@@ -359,21 +318,14 @@ in_ordered : (live : FinMap nat_cmp Clause) (k : Literal) (o : Option ℕ) → i
 in_ordered = grind (arith, get_ordered, has-in_order)
 
 pub counted_in_order : (a b : FinMap nat_cmp Clause) (r s : Literal → Option ℕ) (lits : List Literal) (uses : Uses) → each_in_order b ≡ each_in_order a → ((l : Literal) → has lits l ≡ true → s l ≡ r l) → AreCounted (maps.get a) r lits uses → AreCounted (maps.get b) s lits uses
-counted_in_order a b r s lits uses same reasons are = counted_among _ _ _ _ _ _ are (λ k l h there.
-    sym (in_ordered _ _ _) ∙ ap (λ m. is_in (clause_in (maps.get m) (r l)) k) (sym same) ∙ in_ordered _ _ _ ∙ ap (λ o. is_in (clause_in (maps.get b) o) k) (sym (reasons l h)) ∙ there)
+counted_in_order a b r s lits uses same reasons are = counted_among _ _ _ _ _ _ are (λ k l h there. grind (arith, in_ordered a k (r l), in_ordered b k (s l), reasons l))
 
 -- ---- One reason more or less is counted
 
 module _ (live : Live) (r : Literal → Option ℕ) (lits : List Literal) (uses now : Uses) (are : AreCounted live r lits uses) where
   -- the next one
   pub counted_more : uses.counted < length lits → now.counted ≡ uses.counted + 1 → ((k : Literal) → times uses k + one (clause_in live (r (get_or lits uses.counted 0))) k ≤ times now k) → AreCounted live r lits now
-  counted_more inside next more = record {
-    inside = omega (arith, inside, next);
-    enough = λ k.
-        let so_far = are.enough k in let step = more k in
-        let split = ap (λ ls. uses_of live r ls k) (take_more lits uses.counted 0 inside) ∙ uses_more live r k (take uses.counted lits) (get_or lits uses.counted 0) in
-        subst (λ n. uses_of live r (take n lits) k ≤ times now k) (sym next) (omega (arith, so_far, step, split));
-  }
+  counted_more = grind (arith, common_steps, take_more, uses_more)
 
   -- the last one no longer
   pub counted_less : now.counted + 1 ≡ uses.counted → ((k : Literal) → times uses k ≤ times now k + one (clause_in live (r (get_or lits now.counted 0))) k) → AreCounted live r lits now

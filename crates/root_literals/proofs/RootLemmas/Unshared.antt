@@ -2,42 +2,38 @@
 use Rattle.{clause_db.specs.Store.copies_with, cnf_base.proofs.LiteralLemmas.complement-complement}
 use Rattle.cnf_base.proofs.MemberLemmas.{has_front, place_in_front}
 use Rattle.cnf_base.proofs.{SetLemmas.has_cases, SetLemmas.has_head, SizeLemmas.has_at}
-use Rattle.cnf_base.specs.Literals.{Clause, Literal, complement}
-use Rattle.{cnf_base.specs.Literals.has, propagation.proofs.PropagationLemmas.Counts.copies_without}
-use Rattle.propagation.{proofs.PropagationLemmas.Counts.none_with, specs.Assumptions.HasAt}
-use Rattle.root_literals.proofs.RootLemmas.Kept.{noted_left, still_seen, was_there}
-use Rattle.root_literals.proofs.RootLemmas.Reasons.{counted_out, in_rest, seen_has_at, there_seen}
+use Rattle.cnf_base.specs.Literals.{Clause, Literal, complement, has}
+use Rattle.propagation.proofs.PropagationLemmas.Counts.{copies_without, none_with}
+use Rattle.{propagation.specs.Assumptions.HasAt, root_literals.proofs.RootLemmas.Kept.noted_left}
+use Rattle.root_literals.proofs.RootLemmas.{Kept.still_seen, Kept.was_there, Reasons.counted_out}
+use Rattle.root_literals.proofs.RootLemmas.Reasons.{in_rest, not_before, seen_has_at, there_seen}
 use Rattle.root_literals.proofs.RootLemmas.Watched.{front_in_front, front_part, sure_by, sure_is}
 use Rattle.root_literals.specs.History.{IsHistory, sure_of, trues_at, visits}
 use Rattle.root_literals.specs.{Order.each_in_order, Roots.AreReasoned, Roots.FollowsReasons}
-use Rattle.root_literals.specs.Roots.{HaveUnits, IsAbsent, IsKept, IsKnown, IsUnneeded}
-use Rattle.root_literals.specs.{Roots.has_clash, Roots.lacks_units, Uses.clause_in, Uses.is_in}
-use Rattle.root_literals.specs.{Uses.times, Watched.HasUnit, Watched.IsPart, Watched.IsWatched}
+use Rattle.root_literals.specs.Roots.{HaveUnits, IsAbsent, IsKept, IsKnown, IsUnneeded, has_clash}
+use Rattle.root_literals.specs.{Roots.lacks_units, Uses.clause_in, Uses.is_in, Uses.times}
+use Rattle.root_literals.specs.Watched.{HasUnit, IsPart, IsWatched}
 use Rattle.root_literals.specs.declared.{history.History.History, kept.Kept.Kept}
 use Rattle.root_literals.specs.declared.{kept.Kept.TheVariants.All, roots.Roots.Roots}
-use Rattle.std.proofs.Common.{Bool, List, Option, Some, [], ap, arith, cond, eq-eqb, eqb, eqb-true}
+use Rattle.std.proofs.Common.{Bool, List, Option, Some, [], arith, cond, eq-eqb, eqb, eqb-true}
 use Rattle.std.proofs.Common.{false, get_or, inl, inr, length, nat_cmp, remove, rules, subst, sym}
-use Rattle.std.proofs.Common.{take, true, true≢false, ℕ, ◌+◌, ◌<◌, ◌||◌, ◌∙◌, ◌∷◌}
-use Rattle.std.proofs.{Common.◌≡◌, Common.◌≢◌, Common.◌≤◌, Common.◌⊎◌, lemmas.Bool.cases_eq}
-use Rattle.std.proofs.lemmas.Bool.{cases_lt, false_from_ne_true, false≢true}
-use Rattle.std.proofs.lemmas.{Bool.or_cases, Bool.or_left, Bool.or_right, Grind.get_or_default_zero}
+use Rattle.std.proofs.Common.{take, true, true≢false, ℕ, ◌+◌, ◌<◌, ◌||◌, ◌∷◌, ◌≡◌, ◌≢◌, ◌≤◌}
+use Rattle.std.proofs.lemmas.Bool.{cases_eq, cases_lt, false_from_ne_true, false≢true, or_cases}
+use Rattle.std.proofs.lemmas.{Bool.or_left, Bool.or_right, Grind.get_or_default_zero}
 use Rattle.std.proofs.lemmas.List.Edits.{get_or-remove_above, get_or-remove_below, length-remove}
 use Rattle.{std.proofs.lemmas.Option.same_Some, std.specs.FinMap.FinMap, tables.specs.Filled.at}
-use Rattle.trail.proofs.TrailLemmas.{Truth.places_apart, Without.IsFront, Without.front_before}
-use Rattle.trail.proofs.TrailLemmas.Without.{front_still, front_was, none_left, still_there}
-use Rattle.trail.{proofs.TrailLemmas.Without.was_there as was_true, specs.Trail.HasNoVariableTwice}
+use Rattle.trail.proofs.TrailLemmas.Without.{IsFront, front_before, front_still, front_was}
+use Rattle.trail.proofs.TrailLemmas.Without.{none_left, still_there, was_there as was_true}
+use Rattle.trail.specs.Trail.{HasNoVariableTwice}
 use Rattle.std.specs.FinMap as maps
 
 -- one clause has the literal
 pub absent_else : (live : FinMap nat_cmp Clause) (slot : ℕ) (l : Literal) → maps.get live slot ≡ Some (l ∷ []) → 1 ≡ copies_with live l → IsAbsent (maps.get (maps.remove live slot)) l
-absent_else live slot l unit one s c is = false_from_ne_true (has c l) (λ h. none_with (maps.remove live slot) l none_else s (grind arith))
-  where
-    none_else : copies_with (maps.remove live slot) l ≡ 0
-    none_else = grind (arith, copies_without, has_head)
+absent_else live slot l unit one s c is = false_from_ne_true (has c l) (λ h. none_with (maps.remove live slot) l (grind (arith, copies_without, has_head)) s (grind arith))
 
 -- no clause has the complement
 pub unneeded_none : (live : FinMap nat_cmp Clause) (reason_of : Literal → Option ℕ) (lits : List Literal) (place : ℕ) (l : Literal) → copies_with live (complement l) ≡ 0 → IsUnneeded (maps.get live) reason_of lits place l
-unneeded_none live reason_of lits place l none q s c _ _ _ at = false_from_ne_true (has c (complement l)) (λ h. none_with live (complement l) none s (grind arith))
+unneeded_none live reason_of lits place l none q s c _ _ _ at = grind (arith, none_with live (complement l) none s)
 
 -- no literal has a reason with it
 pub unneeded_unused : (live : FinMap nat_cmp Clause) (reason_of : Literal → Option ℕ) (lits : List Literal) (place : ℕ) (l : Literal) → ((m : Literal) → has lits m ≡ true → is_in (clause_in (maps.get live) (reason_of m)) (complement l) ≡ false) →
@@ -55,18 +51,11 @@ module _ (live : FinMap nat_cmp Clause) (slot place : ℕ) (l : Literal) (lits :
   not_it : (k : Literal) → has out k ≡ true → k ≢ l
   not_it = grind (arith, none_left)
 
-  other_literal : (s : ℕ) (c : Clause) → maps.get rest s ≡ Some c → (m : Literal) → has c m ≡ true → m ≢ l
-  other_literal s c is m h e = grind (arith, absent s c is)
-
   -- ---- Watched clauses
 
   watched_out : (doubts : List ℕ) (done now trues trues_now : List Literal) → IsPart now done → ((k : Literal) → has trues k ≡ true → k ≢ l → has trues_now k ≡ true) →
       IsWatched (sure_of doubts (maps.get live)) done trues → IsWatched (sure_of doubts (maps.get rest)) now trues_now
-  watched_out doubts done now trues trues_now fewer part watched = record {
-    each = λ s c is m h there.
-        let left = sure_is doubts (maps.get rest) s c is in
-        let w = watched.each s c (sure_by doubts (maps.get live) s c (was_there live slot s c left.0) left.1) m (fewer (complement m) h) there in (w.0, w.1, part w.0 w.2 (other_literal s c left.0 w.0 w.1));
-  }
+  watched_out = grind (arith, sure_is, sure_by, was_there, absent)
 
   watched_front : (doubts : List ℕ) (d before p wide : ℕ) → IsFront place d before → IsFront place p wide → IsWatched (sure_of doubts (maps.get live)) (take before lits) (take wide lits) →
       IsWatched (sure_of doubts (maps.get rest)) (take d out) (take p out)
@@ -91,19 +80,13 @@ module _ (live : FinMap nat_cmp Clause) (slot place : ℕ) (l : Literal) (lits :
       | inr beyond ↦ (d, grind arith)
     ]
 
-    fewer : (visits now + 1 ≡ visits old) ⊎ ((visits now ≡ visits old) × (visits old ≤ place))
-    fewer = grind (arith, cases_lt, length-remove)
-
-    shorter : length out + 1 ≡ length lits
-    shorter = grind (arith, length-remove)
-
     pub history_out : (doubts : List ℕ) → IsHistory (sure_of doubts (maps.get live)) old lits → IsHistory (sure_of doubts (maps.get rest)) now out
     history_out doubts history = record {
-      inside = grind (arith, fewer, shorter);
-      began = λ d low. let w = left d low in grind (arith, history.began w.0);
+      inside = grind (arith, cases_lt, length-remove);
+      began = λ d low. grind (arith, left d low, history.began);
       before = λ d p low at_most above within.
-          let w = left d low in let is = w.1 in let up = front_before place p in let n = shorter in
-          watched_front doubts d w.0 p up.0 is.front up.1 (grind arith);
+          let w = left d low in let up = front_before place p in
+          watched_front doubts d w.0 p up.0 w.1.front up.1 (grind (arith, length-remove));
     }
 
     pub visited_out : (doubts : List ℕ) → IsWatched (sure_of doubts (maps.get live)) (take (visits old) lits) lits → IsWatched (sure_of doubts (maps.get rest)) (take (visits now) out) out
@@ -112,36 +95,28 @@ module _ (live : FinMap nat_cmp Clause) (slot place : ℕ) (l : Literal) (lits :
   -- ---- Unit clauses
 
   unit_out : (c : Clause) → ((m : Literal) → has c m ≡ true → m ≢ l) → HasUnit c lits → HasUnit c out
-  unit_out [] others h = h
   unit_out (a ∷ []) others h = still_there lits place inside l stands a h (others a (has_head a []))
-  unit_out (a ∷ b ∷ c) others h = h
+  unit_out c others h = search rules
 
   units_out : HaveUnits (maps.get live) lits → HaveUnits (maps.get rest) out
-  units_out = grind (arith, unit_out, other_literal, was_there)
+  units_out = grind (arith, unit_out, absent, was_there)
 
   known_out : (kept : Kept) → has_clash kept ≡ false → IsKnown live kept lits → IsKnown rest kept out
-  known_out All quiet known = (watched_out [] lits out lits out (was_true lits place inside) (still_there lits place inside l stands) known.0, units_out known.1)
+  known_out All quiet known = (watched_out [] lits out lits out (grind (arith, was_true)) (grind (arith, still_there)) known.0, units_out known.1)
   known_out kept h h2 = grind (arith, units_out, true≢false)
-
-  -- ---- Places
-
-  apart : (q : ℕ) → place ≤ q → (q ≡ place → ⊥) → place < q
-  apart q past ne = omega (arith, past, ne)
 
   -- ---- Reasons
 
   not_the_slot : (k : Literal) (s : ℕ) → HasAt (maps.get (each_in_order live)) k s → k ≢ l → s ≢ slot
-  not_the_slot k s h ne e =
-      let w = seen_has_at live k s h in grind (arith, same_Some, has_cases, false≢true)
+  not_the_slot k s h ne e = grind (arith, seen_has_at live k s h, same_Some, has_cases, false≢true)
 
   module _ (reason_of : Literal → Option ℕ) (unneeded : IsUnneeded (maps.get live) reason_of lits place l) (are : AreReasoned (maps.get (each_in_order live)) reason_of lits) where
     holds_it : (k : Literal) (s : ℕ) → has lits k ≡ true → k ≢ l → reason_of k ≡ Some s → (c : Clause) → maps.get (each_in_order live) s ≡ Some c → maps.get (each_in_order rest) s ≡ Some c
-    holds_it k s h ne is c at = still_seen live _ _ (not_the_slot _ _ (are.has_it k s h is) ne) c at
+    holds_it = search (rules, arith, still_seen, not_the_slot, are.has_it)
 
     -- the reason of a literal behind doesn't need the one that is taken back
     not_complement : (m : Literal) (s : ℕ) (c : Clause) (q : ℕ) → place < q → q < length lits → get_or lits q 0 ≡ m → reason_of m ≡ Some s → maps.get (each_in_order live) s ≡ Some c → (j : Literal) → has c j ≡ true → complement j ≢ l
-    not_complement m s c q behind low stands_there is at j h e = let w = there_seen live s c at in
-        true≢false (sym h ∙ ap (has c) (grind (arith, complement-complement)) ∙ w.2 (complement l) ∙ unneeded q s w.0 behind low (ap reason_of stands_there ∙ is) w.1)
+    not_complement m s c q behind low stands_there is at j h e = let w = there_seen live s c at in grind (arith, complement-complement, unneeded q s w.0, true≢false)
 
     module _ (n : ℕ) (passes : Literal → Bool) (follows : FollowsReasons (maps.get (each_in_order rest)) reason_of (take n out) passes) where
       abbrev or_it : Literal → Bool
@@ -158,18 +133,11 @@ module _ (live : FinMap nat_cmp Clause) (slot place : ℕ) (l : Literal) (lits :
       low_end = lower.0
 
       low_other : (m : Literal) → has (take low_end lits) m ≡ true → m ≢ l
-      low_other m h e = let w = place_in_front lits low_end m h in let most = lower.2 in
-          places_apart lits different w.0 place (omega arith) inside (grind arith)
-
-      low_wide : (m : Literal) → has (take low_end lits) m ≡ true → has (take wide.0 lits) m ≡ true
-      low_wide = grind (arith, front_in_front)
+      low_other m h e = not_before lits place l inside stands different low_end lower.2 (rw e at h)
 
       follow_low : FollowsReasons (maps.get (each_in_order live)) reason_of (take low_end lits) passes
       follow_low m s c h is at others =
-          grind (arith, front_still _ _ inside _ stands _ _ wide.1 _ (low_wide m h) (low_other m h), holds_it _ _ (front_part _ _ m h) (low_other m h) is c)
-
-      low_pass : (k : Literal) → has (take low_end lits) k ≡ true → passes k ≡ true
-      low_pass = are.in_each low_end passes follow_low
+          grind (arith, follows m s c, front_still _ _ inside _ stands _ _ wide.1 _ (front_in_front _ _ _ (grind arith) m h) (low_other m h), holds_it _ _ (front_part _ _ m h) (low_other m h) is c)
 
       follow_all : FollowsReasons (maps.get (each_in_order live)) reason_of (take wide.0 lits) or_it
       follow_all m s c h is at others = elim (cases_eq m l) [
@@ -177,21 +145,18 @@ module _ (live : FinMap nat_cmp Clause) (slot place : ℕ) (l : Literal) (lits :
         | inr ne ↦
             let w = place_in_front _ _ _ h in
             or_right (eqb m l) (passes m) (elim (cases_lt w.0 place) [
-              | inl before ↦ low_pass m (subst (λ x. has (take low_end lits) x ≡ true) w.3 (has_front _ _ _ (lower.3 w.0 w.1 before) w.2))
+              | inl before ↦ are.in_each low_end passes follow_low m (subst (λ x. has (take low_end lits) x ≡ true) w.3 (has_front _ _ _ (lower.3 w.0 w.1 before) w.2))
               | inr past ↦
-                  grind (arith, apart, front_still, holds_it, front_part, or_cases, not_complement, eqb-true)
+                  grind (arith, front_still, holds_it, front_part, or_cases, not_complement, eqb-true)
             ])
       ]
 
       all_pass : (k : Literal) → has (take n out) k ≡ true → passes k ≡ true
-      all_pass k h =
-          grind (arith, or_cases (eqb k l) (passes k) (are.in_each wide.0 or_it follow_all k (grind (arith, front_was, wide))), not_it k (front_part n out k h), eqb-true k l)
+      all_pass = grind (arith, or_cases, are.in_each wide.0 or_it follow_all, front_was, not_it, front_part, eqb-true)
 
     pub reasoned_out : AreReasoned (maps.get (each_in_order rest)) reason_of out
     reasoned_out = record {
-      has_it = λ k s h is.
-          let before = was_true lits place inside k h in
-          let w = are.has_it k s before is in record { clause = w.clause; at = grind (arith, holds_it, not_it); member = w.member };
+      has_it = λ k s h is. let w = are.has_it k s (was_true lits place inside k h) is in record { clause = w.clause; at = grind (arith, was_true, holds_it, not_it); member = w.member };
       in_each = all_pass;
     }
 

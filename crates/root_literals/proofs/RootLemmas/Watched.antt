@@ -1,26 +1,26 @@
 -- Clauses of which a literal is true, and when the literals that are kept were propagated.
-use Rattle.cnf_base.proofs.{LiteralLemmas.complement-complement, SetLemmas.has_append_left}
-use Rattle.cnf_base.proofs.SetLemmas.{has_append_right, has_head}
+use Rattle.cnf_base.proofs.LiteralLemmas.{complement-complement}
+use Rattle.cnf_base.proofs.SetLemmas.{has_append_left, has_append_right, has_head}
 use Rattle.cnf_base.specs.Literals.{Clause, Literal, complement, has}
 use Rattle.root_literals.specs.Code.{Doubts.AreSettled, Propagated.AreFalse, Propagated.IsUnit}
-use Rattle.root_literals.specs.History.{IsHistory, IsRewound, sure_of, trues_at, visits}
+use Rattle.root_literals.specs.History.{IsHistory, IsRewound, sure_of, visits}
 use Rattle.root_literals.specs.Watched.{HasUnit, IsMet, IsPart, IsWatched}
-use Rattle.{root_literals.specs.declared.history.History.History, std.proofs.Common.Bool}
-use Rattle.std.proofs.Common.{List, None, Option, Some, [], ap, arith, cond, drop, eq-eqb, false}
+use Rattle.root_literals.specs.declared.history.History.{History}
+use Rattle.std.proofs.Common.{Bool, List, Option, Some, [], ap, arith, cond, drop, eq-eqb, false}
 use Rattle.std.proofs.Common.{get_or, get_or-take, inl, inr, length, length-append, length-take-le}
-use Rattle.std.proofs.Common.{not, refl, rules, sym, take, true, ℕ, ◌++◌, ◌+◌, ◌<◌, ◌∙◌, ◌∷◌}
-use Rattle.std.proofs.{Common.◌≡◌, Common.◌≢◌, Common.◌≤◌, Common.◌⊎◌, Math.Seq.get_or-append_seam}
-use Rattle.std.proofs.lemmas.Bool.{Decides.nat_tests, cases_eq, cases_lt}
-use Rattle.std.proofs.{lemmas.Bool.false≢true, lemmas.Bool.not-false, Common.true≢false, lemmas.Grind.common_steps}
-use Rattle.std.proofs.{lemmas.List.Sums.get_or-le-sum_by, lemmas.List.get_or_append_left, Common.take-append-drop}
-use Rattle.std.proofs.{Common.take-take, Common.take_all, lemmas.List.take_more, lemmas.Option.same_Some}
+use Rattle.std.proofs.Common.{not, refl, rules, sym, take, take-append-drop, take-take, take_all}
+use Rattle.std.proofs.Common.{true, true≢false, ℕ, ◌++◌, ◌+◌, ◌<◌, ◌∙◌, ◌∷◌, ◌≡◌, ◌≤◌, ◌⊎◌}
+use Rattle.std.proofs.Math.Seq.{get_or-append_seam}
+use Rattle.std.proofs.lemmas.Bool.{cases_Bool, cases_eq, cases_lt, false≢true, not-false}
+use Rattle.std.proofs.lemmas.{Grind.common_steps, List.Sums.get_or-le-sum_by}
+use Rattle.std.proofs.lemmas.{List.get_or_append_left, List.take_more, Option.same_Some}
 use Rattle.theory.proofs.PropagationLemmas.Open.{open_cases, open_has}
 use Rattle.theory.specs.Propagation.{Live, open_literals}
 use Rattle.trail.proofs.TrailLemmas.{Left.nothing_is, Left.one_is, Longer.pushed_each}
-use Rattle.trail.specs.{Left.how_many, declared.left.Left.TheVariants.Nothing}
-use Rattle.trail.specs.declared.left.Left.TheVariants.{One}
-use Rattle.watch_lists.{proofs.WatchListsLemmas.Entries.has_times, specs.Watched.IsUnitList}
-use Rattle.watch_lists.specs.Watched.{is_unit_or_empty, unit_for, watches}
+use Rattle.trail.specs.Left.{how_many}
+use Rattle.trail.specs.declared.left.Left.TheVariants.{Nothing, One}
+use Rattle.watch_lists.proofs.WatchListsLemmas.Entries.{has_times}
+use Rattle.watch_lists.specs.Watched.{IsUnitList, is_unit_or_empty, unit_for, watches}
 
 pub met_more : (c : Clause) (l : Literal) (first second : List Literal) → IsPart first second → IsMet c l first → IsMet c l second
 met_more = grind arith
@@ -36,7 +36,7 @@ front_part n trues l h = ap (λ ls. has ls l) (sym (take-append-drop n trues)) �
 
 -- one more literal is propagated
 pub watched_more : (live : Live) (done trues : List Literal) (p : Literal) → IsWatched live done trues → ((s : ℕ) (c : Clause) → live s ≡ Some c → IsMet c (complement p) trues) → IsWatched live (done ++ p ∷ []) trues
-watched_more = grind (arith, common_steps, nat_tests, pushed_each, complement-complement)
+watched_more = grind (arith, common_steps, pushed_each, complement-complement)
 
 pub watched_grown : (live : Live) (done trues more : List Literal) → IsPart trues more → IsWatched live done trues → IsWatched live done more
 watched_grown = search rules
@@ -62,9 +62,6 @@ watched_most live doubts false done trues watched = grind (arith, watched_all)
 
 -- ---- Fewer propagated literals
 
-pub watched_nothing : (live : Live) (done trues : List Literal) → done ≡ [] → IsWatched live done trues
-watched_nothing = search rules
-
 pub watched_part : (live : Live) (done other trues more : List Literal) → IsPart other done → IsPart trues more → IsWatched live done trues → IsWatched live other more
 watched_part = search rules
 
@@ -81,64 +78,45 @@ watched_none = search rules
 
 -- ---- Other clauses
 
--- the same visits among other clauses, where what they are known to have propagated is, or no cut is told of
+-- the same visits among other clauses, where what is known of them is, or no cut is told of
 pub history_noted : (live after : Live) (history noted : History) (lits : List Literal) → noted.visited ≡ history.visited →
     ((noted.floor ≡ history.floor) × ((d p : ℕ) → IsWatched live (take d lits) (take p lits) → IsWatched after (take d lits) (take p lits))) ⊎ (noted.floor ≡ length lits) → IsHistory live history lits → IsHistory after noted lits
-history_noted live after history noted lits visited either is = record {
-  inside = grind arith;
-  began = λ d low. grind (arith, is.began d);
-  before = λ d p low at_most above inside. grind (arith, is.before d p);
-}
+history_noted live after history noted lits visited either is =
+    record { inside = grind arith; began = grind (arith, is.began); before = grind (arith, is.before) }
 
 -- ---- More literals
 
--- where the literals before each visit are propagated among them
-history_on : (live : Live) (history : History) (lits more : List Literal) → take (length lits) more ≡ lits → length lits ≤ length more → ((d p : ℕ) → d < visits history → length lits < p → IsWatched live (take d more) (take p more)) → IsHistory live history lits → IsHistory live history more
-history_on live history lits more begins longer past is = record {
-  inside = grind arith;
-  began = is.began;
-  before = λ d p low at_most above inside. elim (cases_lt (length lits) p) [
-    | inl far ↦ past d p low far
-    | inr within ↦ rw (front d (omega (arith, low, is.inside)), front p within) (is.before d p low at_most above within)
-  ];
-}
-  where
-    front : (k : ℕ) → k ≤ length lits → take k more ≡ take k lits
-    front k low = grind (arith, take-take)
+module _ (live : Live) (history : History) (lits more : List Literal) (begins : take (length lits) more ≡ lits)
+    (longer : length lits ≤ length more) (is : IsHistory live history lits) where
+  -- where the literals before each visit are propagated among them
+  history_on : ((d p : ℕ) → d < visits history → length lits < p → IsWatched live (take d more) (take p more)) → IsHistory live history more
+  history_on past = record {
+    inside = grind arith;
+    began = is.began;
+    before = λ d p low at_most above inside. grind (arith, cases_lt (length lits) p, take-take, past d p, is.before d p);
+  }
 
--- where the literals before the last visit are propagated among all
-pub history_longer : (live : Live) (history : History) (lits more : List Literal) (n : ℕ) → take (length lits) more ≡ lits → length lits ≤ length more → visits history ≤ n + 1 → IsWatched live (take n lits) lits → IsHistory live history lits → IsHistory live history more
-history_longer live history lits more n begins longer all watched is =
-    history_on live history lits more begins longer
-    (λ d p low past. watched_part live (take n lits) (take d more) lits (take p more) (part d low) (λ l h. front_in_front more (length lits) p (omega (arith, past)) l (ap (λ ls. has ls l) begins ∙ h)) watched) is
-  where
-    part : (d : ℕ) → d < visits history → IsPart (take d more) (take n lits)
-    part d low l h = front_in_front lits d n (omega (arith, low, all)) l
-        (ap (λ ls. has ls l) (sym (sym (take-take d (length lits) more (omega (arith, low, is.inside))) ∙ ap (take d) begins)) ∙ h)
+  -- where the literals before the last visit are propagated among all
+  pub history_longer : (n : ℕ) → visits history ≤ n + 1 → IsWatched live (take n lits) lits → IsHistory live history more
+  history_longer n all watched = history_on (λ d p low past.
+      watched_part _ _ _ _ _ (part d low) (λ l h. front_in_front more (length lits) p (omega (arith, past)) l (rw begins h)) watched)
+    where
+      part : (d : ℕ) → d < visits history → IsPart (take d more) (take n lits)
+      part d low l h = front_in_front lits d n (omega (arith, low, all)) l
+          (ap (λ ls. has ls l) (sym (sym (take-take d (length lits) more (omega (arith, low, is.inside))) ∙ ap (take d) begins)) ∙ h)
 
--- one literal more, where those before the last visit are propagated with it
-pub history_one_more : (live : Live) (history : History) (lits more : List Literal) → length more ≡ length lits + 1 → take (length lits) more ≡ lits → IsWatched live (take (visits history) more) more → IsHistory live history lits → IsHistory live history more
-history_one_more live history lits more longer begins watched is =
-    history_on _ _ _ _ begins (omega (arith, longer))
-    (grind (arith, watched_part, front_in_front, take_all)) is
+  -- one literal more, where those before the last visit are propagated with it
+  pub history_one_more : length more ≡ length lits + 1 → IsWatched live (take (visits history) more) more → IsHistory live history more
+  history_one_more one watched = history_on (grind (arith, watched_part, front_in_front, take_all))
 
--- the next visit begins, where those before are propagated among so many literals already, and among more
+-- the next visit begins, where those before are propagated among so many literals already and more
 pub history_begun : (live : Live) (history begun : History) (lits : List Literal) (trues : ℕ) → visits history < length lits → visits history < trues → begun.visited.items ≡ history.visited.items ++ trues ∷ [] → begun.floor ≡ history.floor →
     ((p : ℕ) → trues ≤ p → p ≤ length lits → IsWatched live (take (visits history) lits) (take p lits)) → IsHistory live history lits → IsHistory live begun lits
 history_begun live history begun lits trues fits low_enough pushed floor_is watched is = record {
-  inside = omega (arith, one_more, fits);
-  began = λ d low. grind (arith, cases_eq d (visits history), one_more, last d, earlier d, is.began d);
-  before = λ d p low at_most above inside. grind (arith, cases_eq d (visits history), one_more, last d, earlier d, is.before d p, watched p);
+  inside = grind (arith, length-append);
+  began = λ d low. grind (arith, cases_eq d (visits history), length-append, get_or_append_left, get_or-append_seam, is.began d);
+  before = λ d p low at_most above inside. grind (arith, cases_eq d (visits history), length-append, get_or_append_left, get_or-append_seam, is.before d p, watched p);
 }
-  where
-    one_more : visits begun ≡ visits history + 1
-    one_more = ap length pushed ∙ length-append history.visited.items (trues ∷ [])
-
-    earlier : (d : ℕ) → d < visits history → trues_at begun d ≡ trues_at history d
-    earlier d low = grind (arith, get_or_append_left)
-
-    last : (d : ℕ) → d ≡ visits history → trues_at begun d ≡ trues
-    last d e = ap (λ k. get_or begun.visited.items k 0) e ∙ ap (λ ns. get_or ns (visits history) 0) pushed ∙ get_or-append_seam history.visited.items trues [] 0
 
 -- ---- Fewer literals
 
@@ -146,26 +124,16 @@ pub rewound_none : {history now : History} → IsRewound history now 0 → visit
 rewound_none = search rules
 
 module _ (live : Live) (history now : History) (lits : List Literal) (place : ℕ) (is : IsHistory live history lits) (rewound : IsRewound history now place) (inside : place ≤ length lits) where
-  long : length (take place lits) ≡ place
-  long = grind (arith, length-take-le)
-
-  -- a visit that is left came before the one that is made again
-  below : visits now ≢ 0 → visits now < place
-  below = search rules
-
   pub history_cut : IsHistory live now (take place lits)
-  history_cut = grind (arith, cases_eq, history_none, below, long, get_or-take, take-take)
+  history_cut = grind (arith, cases_eq, length-take-le, get_or-take, take-take)
 
   pub watched_cut : IsWatched live (take (visits now) (take place lits)) (take place lits)
-  watched_cut = grind (arith, watched_none, below, take-take, cases_eq (visits now) 0)
+  watched_cut = grind (arith, watched_none, length-take-le, take-take, cases_eq (visits now) 0)
 
 -- ---- One clause
 
 pub only_literal : (c : Clause) (l : Literal) → c ≡ l ∷ [] → (k : Literal) → has c k ≡ true → l ≡ k
 only_literal = grind arith
-
-unit_long : (c : Clause) (trues : List Literal) → is_unit_or_empty c ≡ false → HasUnit c trues
-unit_long = grind (arith, true≢false)
 
 -- a literal that is set where it was open is true
 pub set_by : (before after : List Literal) (l : Literal) (is_open : Bool) → is_open ≡ not (has before l) → after ≡ cond is_open (before ++ l ∷ []) before → has after l ≡ true
@@ -175,23 +143,14 @@ set_by = grind (arith, has_append_right, has_head, not-false)
 
 module _ (live : Live) (slots : List ℕ) (listed : IsUnitList live slots) where
   pub units_alive : (place : ℕ) → place < length slots → (c : Clause) × (live (get_or slots place 0) ≡ Some c) × (is_unit_or_empty c ≡ true)
-  units_alive place inside = grind (arith, get_or-le-sum_by, eq-eqb, by_clause)
+  units_alive place inside = by_clause (live (get_or slots place 0)) refl (grind (arith, get_or-le-sum_by, eq-eqb))
     where
-      by_length : (c : Clause) (b : Bool) → is_unit_or_empty c ≡ b → 0 < cond {A = ℕ} b 1 0 → is_unit_or_empty c ≡ true
-      by_length c true e h = e
-      by_length c false e h = absurd (omega (arith, h))
-
       by_clause : (o : Option Clause) → live (get_or slots place 0) ≡ o → 0 < unit_for o → (c : Clause) × (live (get_or slots place 0) ≡ Some c) × (is_unit_or_empty c ≡ true)
-      by_clause None is h = absurd (omega (arith, h))
-      by_clause (Some c) is h = (grind arith)
+      by_clause o is h = grind (arith, true≢false)
 
   pub all_units : (trues : List Literal) (place : ℕ) → length slots ≤ place → ((s : ℕ) → has (take place slots) s ≡ true → (c : Clause) → live s ≡ Some c → HasUnit c trues) →
       (s : ℕ) (c : Clause) → live s ≡ Some c → HasUnit c trues
-  all_units trues place past set s c is = by_length (is_unit_or_empty c) refl
-    where
-      by_length : (b : Bool) → is_unit_or_empty c ≡ b → HasUnit c trues
-      by_length true e = set s (grind (arith, take_all, has_times)) c is
-      by_length false e = unit_long _ _ e
+  all_units trues place past set s c is = elim (cases_Bool (is_unit_or_empty c)) [ inl e ↦ set s (grind (arith, take_all, has_times)) c is | inr e ↦ grind (arith, true≢false) ]
 
 -- one more unit is set
 pub units_more : (live : Live) (slots : List ℕ) (place : ℕ) (trues more : List Literal) → place < length slots → IsPart trues more → (l : Literal) → live (get_or slots place 0) ≡ Some (l ∷ []) → has more l ≡ true →
@@ -204,14 +163,10 @@ units_more live slots place trues more inside part l here set_l set s there =
 
 -- what is left of a clause
 pub left_unit : (ls : List Literal) (c : Clause) (m : Literal) → One m ≡ how_many (open_literals ls c) → IsUnit ls c m
-left_unit ls c m e =
-    let alone = one_is (open_literals ls c) m (sym e) in grind (arith, open_has, open_cases)
+left_unit ls c m e = grind (arith, one_is (open_literals ls c) m (sym e), open_has, open_cases)
 
 pub left_false : (ls : List Literal) (c : Clause) → Nothing ≡ how_many (open_literals ls c) → AreFalse ls c
-left_false ls c e k h = elim (open_cases ls c k h) [
-  | inl left ↦ grind (arith, false≢true, nothing_is)
-  | inr is_false ↦ is_false
-]
+left_false ls c e k h = grind (arith, open_cases ls c k h, false≢true, nothing_is)
 
 -- one more slot
 pub settled_more : (live : Live) (slots : List ℕ) (place : ℕ) → place < length slots → (first before now : List Literal) → IsPart first before → IsPart before now → AreSettled live (take place slots) first before →

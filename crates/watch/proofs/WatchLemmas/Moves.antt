@@ -1,14 +1,14 @@
--- Clauses whose literals change places: one that watches another literal, one whose first two literals
--- stay, perhaps in the other order, and one whose literals that are not false come to the front.
+-- Clauses whose literals change places: one that watches another literal, and one whose first two
+-- literals stay, perhaps in the other order.
 use Rattle.{clause_db.specs.Store.is_tautology, watch_lists.specs.declared.watcher.Watcher.Watcher}
 use Rattle.{cnf_base.proofs.MapLemmas.insert_twice, propagation.specs.Assumptions.AssumptionsState}
 use Rattle.cnf_base.proofs.{MapLemmas.insert_here, MemberLemmas.has_front, MemberLemmas.has_place}
-use Rattle.cnf_base.proofs.{MemberLemmas.place_of, SizeLemmas.distinct_before, SizeLemmas.size_same}
+use Rattle.cnf_base.proofs.{SizeLemmas.distinct_before, SizeLemmas.size_same}
 use Rattle.cnf_base.specs.Literals.{Clause, Literal, complement, has, size}
 use Rattle.{root_literals.specs.Code.Propagated.PropagatesTo, theory.specs.Propagation.Live}
 use Rattle.root_literals.proofs.RootLemmas.{Carried.extends_none, Reasons.ordered_same}
 use Rattle.{cnf_base.proofs.MapLemmas.insert_other, std.proofs.lemmas.List.Sums.get_or-le-sum_by}
-use Rattle.root_literals.specs.{Roots.IsArranged, Roots.IsBrought, Watched.IsMet}
+use Rattle.root_literals.specs.{Watched.IsMet}
 use Rattle.std.proofs.Common.{List, [], ap, arith, eq-eqb, eqb, false, inl, swap, sym, ◌+◌, ◌≡◌}
 use Rattle.std.proofs.Common.{Option, get_or, nat_cmp, set, subst, suc, true, ◌&&◌, ◌<◌, ◌∙◌, ◌≤◌}
 use Rattle.std.proofs.Common.{Some, cond, inr, length, not, refl, zero, ℕ, ◌++◌, ◌-◌, ◌||◌, ◌≢◌}
@@ -19,7 +19,6 @@ use Rattle.std.proofs.lemmas.Grind.{get_or_default_zero, same_number_lists}
 use Rattle.{cnf_base.proofs.MapLemmas.insert_same, watch.specs.declared.visit.Exchange.Exchange}
 use Rattle.{root_literals.proofs.RootLemmas.Watched.sure_by, std.proofs.lemmas.List.Sums.sum_by-set}
 use Rattle.{std.proofs.Common.◌∷◌, std.specs.FinMap.FinMap, watch.specs.Code.Visits.IsExchangeAt}
-use Rattle.trail.specs.declared.left.Left.TheVariants.{More, Nothing, One}
 use Rattle.{clause_db.proofs.StoreLemmas.Swap.has_swapped, watch.specs.Code.Visits.IsExchange}
 use Rattle.{std.proofs.lemmas.Bool.cases_eq, theory.proofs.PropagationLemmas.Forced.forced_assumed}
 use Rattle.watch_lists.proofs.WatchListsLemmas.{Lists.unfit_alike, Lists.unfit_none, Made.and_false}
@@ -298,31 +297,3 @@ module _ {live : FinMap nat_cmp Clause} {slot : ℕ} {l : Literal} {x : Exchange
 
   pub second_inside : 1 < length exchanged
   second_inside = grind (arith, to_inside)
-
--- ---- Clauses whose literals that are not false are brought to the front
-
-module _ (live : FinMap nat_cmp Clause) (slot : ℕ) (trues : List Literal) (place : ℕ) (c : Clause) (here : maps.get live slot ≡ Some c) where
-  pub brought : (after : FinMap nat_cmp Clause) (found : ℕ) → place ≤ found → found < length c → has trues (complement (get_or c found 0)) ≡ false → after ≡ maps.insert live slot (swap c place found) →
-      (d : Clause) → maps.get live slot ≡ Some d → (e : Clause) × (maps.get after slot ≡ Some e) × IsBrought trues d e place true
-  brought after found low inside is_open is d there =
-      let w = swapped_from_swap c (swap c place found) place found 0 (omega (arith, low, inside)) inside refl in grind (arith, swap, insert_here, has_swapped, length-swap, true≢false)
-
-  pub not_brought : ((k : ℕ) → place ≤ k → k < length c → has trues (complement (get_or c k 0)) ≡ true) →
-      (d : Clause) → maps.get live slot ≡ Some d → (e : Clause) × (maps.get live slot ≡ Some e) × IsBrought trues d e place false
-  not_brought = grind (arith, same_Some, false≢true)
-
-pub arranged_nothing : (trues : List Literal) (c d : Clause) → IsBrought trues c d 0 false → IsArranged trues d Nothing
-arranged_nothing = grind (arith, place_of)
-
-module _ (trues : List Literal) (c d e : Clause) (first : IsBrought trues c d 0 true) where
-  pub first_there : has d (get_or d 0 0) ≡ true
-  first_there = grind (arith, has_place)
-
-  pub arranged_more : IsBrought trues d e 1 true → IsArranged trues e More
-  arranged_more = grind arith
-
-  pub arranged_one : IsBrought trues d e 1 false → (l : Literal) → get_or e 0 0 ≡ l → IsArranged trues e (One l)
-  arranged_one = grind (arith, first_there, place_of, cases_eq)
-
-  pub one_inside : IsBrought trues d e 1 false → 0 < length e
-  one_inside = grind (arith, place_of, first_there)

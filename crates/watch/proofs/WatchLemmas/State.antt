@@ -1,17 +1,23 @@
 -- What holds of watched literals, as assumptions come and go.
 use Rattle.clause_db.specs.Store.{is_tautology, literals_in}
-use Rattle.cnf_base.proofs.{MapLemmas.sum_empty, MapLemmas.sum_insert, SetLemmas.same_from}
+use Rattle.cnf_base.proofs.MapLemmas.{removed_back, sum_empty, sum_insert}
+use Rattle.cnf_base.proofs.SetLemmas.{same_there}
 use Rattle.cnf_base.specs.Literals.{Clause, Literal, complements, has, size, variable}
 use Rattle.propagation.proofs.PropagationLemmas.Exact.{begins_on, longer_from}
 use Rattle.propagation.proofs.PropagationLemmas.Scan.{assuming_alike, assuming_from, held_reserved}
 use Rattle.propagation.specs.Assumptions.{Assuming, AssumingFrom, Assumption, AssumptionsState}
 use Rattle.propagation.specs.Assumptions.{IsThere, Propagation}
-use Rattle.propagation.specs.{Assumptions.roots_in, Closure.IsClosure, Code.Closure.AreForced}
+use Rattle.propagation.specs.{Assumptions.roots_in, Code.Closure.AreForced}
 use Rattle.propagation.specs.{Code.Scan.AssumesOn, Code.Scan.IsHeld, Slots.unit_or_empty_clauses}
 use Rattle.propagation.specs.declared.answer.Answer.{Answer, TheVariants.Quiet}
 use Rattle.propagation.specs.declared.clause_source.ClauseSource.{ClauseSource, TheVariants.Given}
 use Rattle.propagation.specs.declared.clause_source.ClauseSource.TheVariants.{Stored}
 use Rattle.root_literals.proofs.RootLemmas.Carried.{kept_carried, kept_forced, roots_alone}
+use Rattle.propagation.proofs.PropagationLemmas.Reduced.{unless_refused}
+use Rattle.root_literals.proofs.RootLemmas.Shown.{closure_held, closure_shown}
+use Rattle.root_literals.proofs.RootLemmas.Reasons.{literals_ordered, ordered_alike, ordered_remove}
+use Rattle.watch_lists.proofs.WatchListsLemmas.Entries.{times_has}
+use Rattle.std.proofs.lemmas.{Bool.false_from_ne_true, Option.same_Some}
 use Rattle.root_literals.proofs.RootLemmas.{Carried.roots_part, Kept.kept_nothing, Kept.seen_same}
 use Rattle.root_literals.proofs.RootLemmas.Reasons.{alive_alike, alive_clause, counted_in_order}
 use Rattle.root_literals.proofs.RootLemmas.Reasons.{counted_same, get_ordered, has-in_order}
@@ -28,8 +34,7 @@ use Rattle.std.proofs.Common.{drop, eqb, false, filter, is_err, is_some, length,
 use Rattle.std.proofs.Common.{nat_le, refl, slice_index, sym, take, true, ℕ, ◌&&◌, ◌+◌, ◌<◌, ◌||◌}
 use Rattle.std.proofs.{Common.◌∙◌, Common.◌∷◌, Common.◌≡◌, Common.◌≤◌, lemmas.Bool.false≢true}
 use Rattle.{std.proofs.lemmas.Option.none-some, std.specs.FinMap.FinMap, tables.specs.Filled.at}
-use Rattle.theory.proofs.PropagationLemmas.Covers.{Covers, forced_covers, reason_covers}
-use Rattle.theory.specs.Propagation.{Forced, IsRootReason, Live}
+use Rattle.theory.specs.Propagation.{Live}
 use Rattle.{theory.specs.Sets.SameSet, trail.proofs.TrailLemmas.Longer.has_begun}
 use Rattle.trail.specs.Trail.{HasRoom, HasRoomForAll}
 use Rattle.watch.specs.Code.{ClauseSource.HasRoomGiven, ClauseSource.clause_of, State.AddsRoom}
@@ -300,36 +305,21 @@ module _ {E : Type 0} (before after : Propagation) (keeps : Literal → Bool) (r
   pub refused_source : (source : ClauseSource) → AssumingFrom before after source keeps r
   refused_source = grind (arith, assuming_none)
 
--- ---- What follows from the clauses as they are shown follows from them as they are held
+-- what is said of a clause that comes or goes
+pub ruleset clause_steps = (removed_back, closure_held, closure_shown)
 
-module _ (live : FinMap nat_cmp Clause) where
-  covers_shown : Covers (maps.get live) (maps.get (each_in_order live))
-  covers_shown k c at = (k, in_order c, seen_there live k c at, same_from _ _ (λ l h. has-in_order c l ∙ h) (λ l h. sym (has-in_order c l) ∙ h))
+-- what is said of clauses that are shown where memory was refused
+pub ruleset ordered_steps = (unless_refused, literals_ordered)
 
-  shown_covers : Covers (maps.get (each_in_order live)) (maps.get live)
-  shown_covers = grind (arith, there_seen, same_from)
+-- what is said of a clause that is inserted, of one that is removed, and of an assumption
+pub ruleset insert_steps = (false_from_ne_true, times_has, same_there, same_Some, ordered_alike, get_ordered, literals_ordered, removed_back, same_state)
 
-  pub forced_held : (l : Literal) → Forced (maps.get (each_in_order live)) [] l → Forced (maps.get live) [] l
-  forced_held = grind (arith, forced_covers, shown_covers)
+pub ruleset remove_steps = (alive_alike, alone_kept, lists_low, literals_ordered, loaded_all, ordered_remove, tautologies_there, watch_put_back)
 
-  pub forced_shown : (l : Literal) → Forced (maps.get live) [] l → Forced (maps.get (each_in_order live)) [] l
-  forced_shown = grind (arith, forced_covers, covers_shown)
+pub ruleset assume_steps = (assuming_source, literals_ordered, refused_source, source_there)
 
-  -- all that follows from the ones follows from the others
-  pub closure_held : (kept : Option (List Literal)) → IsClosure (maps.get (each_in_order live)) kept → IsClosure (maps.get live) kept
-  closure_held = grind (arith, forced_held, forced_shown)
-
-  pub closure_shown : (kept : Option (List Literal)) → IsClosure (maps.get live) kept → IsClosure (maps.get (each_in_order live)) kept
-  closure_shown = grind (arith, forced_shown, forced_held)
-
-  module _ (slot : ℕ) (d : Clause) (at : maps.get (each_in_order live) slot ≡ Some d) where
-    pub reason_shown : ((c : Clause) → maps.get live slot ≡ Some c → IsRootReason (maps.get live) c) → IsRootReason (maps.get (each_in_order live)) d
-    reason_shown held = let w = there_seen live slot d at in
-        reason_covers _ _ covers_shown _ _ (grind (arith, same_from)) (held w.0 w.1)
-
-    pub none_shown : ((c : Clause) → maps.get live slot ≡ Some c → ¬ IsRootReason (maps.get live) c) → ¬ IsRootReason (maps.get (each_in_order live)) d
-    none_shown held r = let w = there_seen live slot d at in
-        held w.0 w.1 (reason_covers _ _ shown_covers _ _ (grind (arith, same_from)) r)
+-- what is said of entries of the lists
+pub ruleset listed_steps = (loaded_all, watched_shown)
 
 -- an answer that says something of the clause in the slot says it of the one that is shown
 pub answer_shown : {E : Type 0} (live shown : FinMap nat_cmp Clause) (slot : ℕ) (r : Result Bool E) (sought : Bool) (Says : Live → Clause → Type 0) → each_in_order live ≡ shown →

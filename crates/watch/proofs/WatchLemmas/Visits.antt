@@ -247,3 +247,6 @@ pub room_for_blocking : {live : FinMap nat_cmp Clause} {lists : WatchLists} {cur
 room_for_blocking {live} {cursor = cursor} can k e is =
     let w = next_entry (record { entries = cursor.entries; visited = k }) e is can.hand in
     grind (arith, room_in, and_parts)
+
+-- what is said of visits, one after the other
+pub ruleset follow_steps = (can_follow_on, false_at)

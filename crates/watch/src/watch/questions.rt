@@ -19,6 +19,7 @@ impl Watch {
     /// # Errors
     ///
     /// Where memory runs out. The lists have no entries then.
+    #[tactic(auto, using(crate::proofs::WatchLemmas::State::listed_steps))]
     pub fn watch_entries(&mut self) -> Result<u64, OutOfMemory>
         ensures value { IfOk result (λ entries.
             entries ≡ min self.new.entries 18446744073709551615) }
@@ -33,6 +34,7 @@ impl Watch {
     }
 
     /// How many entries the list of the other clauses has, one for each.
+    #[tactic(auto, using(crate::proofs::WatchLemmas::State::units_shown))]
     pub fn unit_entries(&self) -> usize
         ensures value { result ≡ self.now.unit_entries }
         ensures one_each { self.now.unit_entries ≡ unit_or_empty_clauses self.now.propagation.live }
@@ -41,6 +43,7 @@ impl Watch {
     }
 
     /// How many literals are true: at most one of each variable that was reserved.
+    #[tactic(auto, using(trail::proofs::TrailLemmas::Values::fits_different))]
     pub fn trail_len(&self) -> usize
         ensures value { result ≡ self.now.trues }
         ensures fits { self.now.trues ≤ self.now.variables }

@@ -30,3 +30,6 @@ module _ {X : Type 0} (xs : List X) (kept next : ℕ) (ordered : kept ≤ next) 
 -- the next entry is inside the list where there is one
 pub next_inside : {X : Type 0} (xs : List X) (kept next : ℕ) → kept ≤ next → next ≤ length xs → kept < length (take kept xs ++ drop next xs) → next < length xs
 next_inside xs kept next ordered inside low = search (rules, arith, entries_length)
+
+-- what is said of an entry that is kept or taken out
+pub ruleset cursor_steps = (next_inside, entry_kept, entry_taken)

@@ -1,4 +1,7 @@
 -- The entries of one clause, and the slots of those that have none.
+use Rattle.clause_db.proofs.StoreLemmas.Below.{below_all}
+use Rattle.std.proofs.lemmas.Option.{same_Some}
+use Rattle.watch_lists.proofs.WatchListsLemmas.Watched.{units_apart}
 use Rattle.std.proofs.Common.{rules, ◌≡◌, ◌≢◌, ℕ, ◌+◌, ◌<◌, ◌≤◌, Bool, true, false, cond, eqb, ◌||◌}
 use Rattle.std.proofs.Common.{◌&&◌, List, [], ◌∷◌, Option, Some, length, get_or, refl, sym, ap, ◌∙◌}
 use Rattle.std.proofs.Common.{arith, ne_eqb}
@@ -60,3 +63,6 @@ times_has (x ∷ xs) s h = by_test (eqb x s) refl (times_has xs s) h
 -- a slot stands in their list where its clause is one
 pub tautology_listed : (live : ℕ → Option Clause) (list : List ℕ) → IsTautologyList live list → (s : ℕ) (c : Clause) → live s ≡ Some c → has list s ≡ is_tautology c
 tautology_listed live list listed s c here = search (rules, arith, times_has, has_times)
+
+-- what is said of entries that are added or taken off
+pub ruleset entry_steps = (units_apart, tautology_listed, has_times, same_Some, below_all)

@@ -1,4 +1,5 @@
 -- Entries in lists.
+use Rattle.std.proofs.lemmas.List.{Sums.sum_by_more, take_all}
 use Rattle.std.proofs.Common.{rules, ◌≡◌, ℕ, ◌+◌, ◌-◌, ◌<◌, ◌≤◌, ◌&&◌, not, true, Bool, cond, eqb}
 use Rattle.std.proofs.Common.{List, length, get_or, drop, take, swap_remove, [], ◌∷◌, ◌++◌, ap}
 use Rattle.std.proofs.Common.{arith, slice_get, Some, None}
@@ -82,3 +83,9 @@ unfit_alike xs s l c d alike as_long = search rules
 -- an entry of a list in which all fit
 pub entry_fits : (xs : List Watcher) (i : ℕ) (w : Watcher) (l : ℕ) (c : Clause) → i < length xs → w ≡ get_or xs i w → unfit_entries w.slot c l xs ≡ 0 → fits c l w.blocking w.is_binary ≡ true
 entry_fits xs i w l c inside is none = search (rules, arith, get_or-le-sum_by)
+
+-- what is said of an entry that is taken off
+pub ruleset taken_steps = (entries_taken, sum_by-swap_remove)
+
+-- and of a walk over the entries
+pub ruleset walk_steps = (sum_by_more, take_all)

@@ -1,4 +1,6 @@
 -- Slots by their places.
+use Rattle.watch_lists.proofs.WatchListsLemmas.Lists.{times_taken}
+use Rattle.std.proofs.lemmas.Grind.{get_or_default_zero}
 use Rattle.std.proofs.Common.{rules, ◌≡◌, ℕ, ◌<◌, ◌≤◌, true, false, Option, Some, None, List}
 use Rattle.std.proofs.Common.{length, get_or, eqb, arith}
 use Rattle.cnf_base.specs.Literals.{has}
@@ -24,3 +26,6 @@ module _ (slots : List ℕ) (place_of : ℕ → Option ℕ) (placed : IsPlaced s
 
   pub there_if : (p : ℕ) → place_of s ≡ Some p → p < length slots → eqb (get_or slots p 0) s ≡ has slots s
   there_if p some low = search (rules, arith, has_place, placed_some)
+
+-- what is said of a slot and its place
+pub ruleset place_steps = (placed_none, placed_some, times_taken, absent_none, there_if, get_or_default_zero)

@@ -1,28 +1,23 @@
 use Rattle.root_literals.proofs.RootLemmas.Carried.{propagates_on}
 use Rattle.root_literals.proofs.{RootLemmas.Watched.settled_more, doubts.look_at.Goals.After-look}
-use Rattle.root_literals.specs.Code.Propagated.{PropagatesTo}
 use Rattle.std.proofs.Common.{rules, take_all, arith}
-use Rattle.{tables.specs.Filled.at, trail.proofs.TrailLemmas.Longer.has_begun}
+use Rattle.{trail.proofs.TrailLemmas.Longer.has_begun}
 use Rattle.std.specs.FinMap as maps
 use Rattle.root_literals.proofs.doubts.look_at.Goals as goal
-
--- with what the looks before made true
-all-propagates : (c : After-look) → PropagatesTo c.args.store.now.live c.args.store.now.live c.args.assumptions.now c.look.new.assumptions (at c.args.reasons.now) (at c.look.new.reasons)
-all-propagates c = search (rules, propagates_on)
 
 pub loop-place-preserved : goal.loop-place-preserved
 loop-place-preserved c = let so_far = c.loop-place.invariant in record {
   settled =
       settled_more (maps.get c.args.store.now.live) _ _ c.loop-place-test.true _ _ _ (grind (arith, has_begun)) (grind (arith, has_begun))
       so_far.settled c.in-Settled.ensures.looked;
-  propagates = all-propagates (goal.at.loop-place-preserved c).After-look;
+  propagates = search (rules, propagates_on);
 }
 
 pub returns-in-Clash-clause-propagates : goal.returns-in-Clash-clause-propagates
-returns-in-Clash-clause-propagates c = all-propagates (goal.at.returns-in-Clash-clause-propagates c).After-look
+returns-in-Clash-clause-propagates c = search (rules, propagates_on)
 
 pub returns-in-Open-clause-propagates : goal.returns-in-Open-clause-propagates
-returns-in-Open-clause-propagates c = all-propagates (goal.at.returns-in-Open-clause-propagates c).After-look
+returns-in-Open-clause-propagates c = search (rules, propagates_on)
 
 pub returns-clause-looked : goal.returns-clause-looked
 returns-clause-looked c s among = c.loop-place.invariant.settled s (grind (arith, take_all))

@@ -1,5 +1,4 @@
 use Rattle.std.proofs.Common.{ap, arith, rules}
-use Rattle.std.specs.FinMap as maps
 use Rattle.root_literals.specs.Roots.{has_clash}
 use Rattle.root_literals.proofs.RootLemmas.Carried.{kept_settled, settled_all}
 use Rattle.root_literals.proofs.starting.settle.Goals as goal
@@ -9,18 +8,7 @@ returns-in-Settled-clause-kept c = search (rules, kept_settled)
 
 pub returns-in-Settled-clause-sure : goal.returns-in-Settled-clause-sure
 returns-in-Settled-clause-sure c =
-    let x = c.args.assumptions.now in let y = c.look_at.new.assumptions in
-    settled_all c.args.store.now.live x y c.args.roots.now (record c.args.roots.now { reasons = c.look_at.new.reasons }) c.look_at.ensures.propagates c.requires.kept (ap has_clash c.requires.cut)
-    (grind arith)
+    settled_all _ _ _ c.args.roots.now (record c.args.roots.now { reasons = c.look_at.new.reasons }) c.look_at.ensures.propagates c.requires.kept (ap has_clash c.requires.cut) (grind arith)
 
 pub returns-in-Clash-clause-kept : goal.returns-in-Clash-clause-kept
 returns-in-Clash-clause-kept c = search (rules, kept_settled)
-
-pub returns-in-Settled-clause-begun : goal.returns-in-Settled-clause-begun
-returns-in-Settled-clause-begun c = grind arith
-
-pub returns-in-Clash-clause-begun : goal.returns-in-Clash-clause-begun
-returns-in-Clash-clause-begun c = grind arith
-
-pub returns-in-Open-clause-begun : goal.returns-in-Open-clause-begun
-returns-in-Open-clause-begun c = grind arith

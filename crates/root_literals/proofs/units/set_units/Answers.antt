@@ -1,4 +1,4 @@
-use Rattle.std.proofs.Common.{[], ap, arith, rules, sym, true, ◌∙◌}
+use Rattle.std.proofs.Common.{[], ap, arith, rules, sym, ◌∙◌}
 use Rattle.root_literals.proofs.RootLemmas.Carried.{can_set_on, clashes, propagates_on, room_for}
 use Rattle.{tables.specs.Filled.at, trail.proofs.TrailLemmas.Longer.has_begun}
 use Rattle.cnf_base.{proofs.SetLemmas.has_head, specs.Literals.has}
@@ -6,12 +6,6 @@ use Rattle.root_literals.proofs.RootLemmas.Watched.{only_literal, set_by, units_
 use Rattle.root_literals.proofs.RootLemmas.{Carried.propagates_unit, Watched.all_units}
 use Rattle.std.specs.FinMap as maps
 use Rattle.root_literals.proofs.units.set_units.Goals as goal
-
-pub returns-in_default-clause-clash : goal.returns-in_default-clause-clash
-returns-in_default-clause-clash c = grind (arith, clashes)
-
-pub returns-then-is_false-clause-clash : goal.returns-then-is_false-clause-clash
-returns-then-is_false-clause-clash c = search (rules, clashes, only_literal)
 
 pub set_by-requires : goal.set_by-requires
 set_by-requires c = let l = c.in-Some.l in
@@ -30,8 +24,11 @@ loop-place-preserved c = let live = c.args.store.now.live in let d = c.clause-cl
       propagates = propagates_on live live live c.args.assumptions.now state c.set_by.new.assumptions (at c.args.reasons.now) (at c.loop-place.reasons) (at c.set_by.new.reasons) so_far.propagates step;
     }
 
-pub returns-clause-units : goal.returns-clause-units
-returns-clause-units c = search (rules, all_units)
-
 pub clause-clause-requires : goal.clause-clause-requires
 clause-clause-requires c = grind (arith, units_alive _ _ c.requires.listed _ c.loop-place-test.true)
+
+pub returns-then-is_false-clause-clash : goal.returns-then-is_false-clause-clash
+returns-then-is_false-clause-clash c = search (rules, clashes, only_literal)
+
+pub returns-clause-units : goal.returns-clause-units
+returns-clause-units c = search (rules, all_units)

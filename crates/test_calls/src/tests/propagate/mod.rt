@@ -5,3 +5,4 @@ mod fresh;
 mod lookups;
 mod roots;
 mod sequences;
+mod waiting;

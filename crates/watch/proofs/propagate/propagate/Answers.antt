@@ -2,7 +2,7 @@ use Rattle.std.proofs.Common.{ap, arith, length, refl, take_all, ◌+◌, ◌<�
 use Rattle.cnf_base.specs.Literals.{complement, has}
 use Rattle.trail.proofs.TrailLemmas.MakesFalse.{no_conflict}
 use Rattle.watch.proofs.WatchLemmas.Visits.{false_at, fits_on, followed_none, followed_on, read_at}
-use Rattle.watch.proofs.WatchLemmas.Waiting.{front_other, turn_next}
+use Rattle.watch.proofs.WatchLemmas.Turns.{front_other, turn_next}
 use Rattle.watch.proofs.propagate.propagate.Goals as goal
 
 pub follow_or_wait-requires-clause-is_false : goal.follow_or_wait-requires-clause-is_false

@@ -1,6 +1,7 @@
 use Rattle.std.proofs.Common.{◌≡◌, ◌+◌, ◌-◌, ◌*◌, length}
 use Rattle.tables.specs.Filled.{at}
-use Rattle.watch.specs.Code.{Visits.Followed, Waiting.IsTurn, Waiting.count_of}
+use Rattle.watch.specs.Code.{Turns.IsTurn, Visits.Followed}
+use Rattle.watch_lists.specs.Waiting.{count_of}
 use Rattle.watch.proofs.propagate.propagate.Given as goal
 
 abbrev pub invariant-loop-done : goal.invariant-loop-done

@@ -4,14 +4,11 @@ use Rattle.root_literals.proofs.RootLemmas.Watched.{history_begun, watched_all}
 use Rattle.root_literals.specs.{History.IsHistory, History.sure_of, History.visits, Roots.has_clash}
 use Rattle.std.proofs.Common.{[], ap, arith, length, length-append, refl}
 use Rattle.std.proofs.Common.{sym, take, take_all, true≢false, ℕ, ◌+◌, ◌<◌, ◌∙◌, ◌∷◌, ◌≡◌, ◌≤◌}
-use Rattle.{tables.specs.Filled.at, watch.proofs.WatchLemmas.Visits.can_follow_on}
-use Rattle.watch.proofs.WatchLemmas.Visits.{false_at, fits_on, followed_none, followed_on}
+use Rattle.{tables.specs.Filled.at}
+use Rattle.watch.proofs.WatchLemmas.Visits.{fits_on, followed_none, followed_on}
 use Rattle.watch.proofs.{WatchLemmas.Visits.read_at, refresh.catch_up.Goals.In_ok-slot}
 use Rattle.std.specs.FinMap as maps
 use Rattle.watch.proofs.refresh.catch_up.Goals as goal
-
-pub follow-requires-clause-can : goal.follow-requires-clause-can
-follow-requires-clause-can c = grind (arith, can_follow_on)
 
 pub loop-done-init : goal.loop-done-init
 loop-done-init c = let kept = c.requires.kept in record {
@@ -25,17 +22,11 @@ loop-done-init c = let kept = c.requires.kept in record {
   slots = refl;
 }
 
-pub follow-requires-clause-is_false : goal.follow-requires-clause-is_false
-follow-requires-clause-is_false c = grind (arith, false_at)
-
 pub returns-in_err-slot-clause-followed : goal.returns-in_err-slot-clause-followed
 returns-in_err-slot-clause-followed c = followed_on c.loop-done.invariant.followed c.follow.ensures.followed
 
 pub returns-in_default-clause-followed : goal.returns-in_default-clause-followed
 returns-in_default-clause-followed c = followed_none c.requires.can
-
-pub loop-done-smaller : goal.loop-done-smaller
-loop-done-smaller c = grind (arith, fits_on)
 
 -- the visit is noted, and what was visited before it stays so
 loop-visited : (c : In_ok-slot) → (visits c.begin.new.self ≡ c.loop-done.done + 1) × IsHistory (sure_of c.begin.new.self.doubts.items (maps.get c.follow.new.store.live)) c.begin.new.self c.follow.new.assumptions.trail.lits
@@ -57,6 +48,9 @@ loop-visited c =
     let watched = simp (← count) at so_far.begun in
     let begun = history_begun (sure_of ds (maps.get a)) before.roots.history c.begin.new.self x.trail.lits t (omega (arith, count, inside)) (omega (arith, count, most)) pushed c.in_ok-begin.ensures.floor (λ p low. watched p (omega (arith, low, most))) so_far.history in
     let sure = λ (n : ℕ). watched_all (maps.get a) ds (take n x.trail.lits) x.trail.lits in (grind (arith, history_grown))
+
+pub loop-done-smaller : goal.loop-done-smaller
+loop-done-smaller c = grind (arith, fits_on)
 
 pub loop-done-preserved : goal.loop-done-preserved
 loop-done-preserved c =

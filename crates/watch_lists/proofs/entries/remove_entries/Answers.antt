@@ -1,17 +1,13 @@
 use Rattle.std.proofs.Common.{rules, ◌≡◌, ℕ, ◌<◌, ◌≤◌, true, false, eqb, eq-eqb, refl, sym, ap, ◌∙◌}
 use Rattle.std.proofs.Common.{arith, subst, length, get_or, List, Some, Option}
-use Rattle.std.proofs.lemmas.{Bool.or_right, Option.same_Some}
+use Rattle.std.proofs.lemmas.{Bool.or_right}
 use Rattle.cnf_base.specs.Literals.{Clause, Literal, has}
 use Rattle.watch_lists.specs.Lists.{list_at, marked_entries}
 use Rattle.watch_lists.specs.{declared.watcher.Watcher.Watcher, Watched.IsListed, Watched.watches}
 use Rattle.watch_lists.proofs.WatchListsLemmas.{Lists.marked_fitting, Entries.tautology_listed}
-use Rattle.watch_lists.proofs.WatchListsLemmas.Watched.{units_apart}
-use Rattle.watch_lists.proofs.WatchListsLemmas.Entries.{two_apart, two_watched, has_times}
+use Rattle.watch_lists.proofs.WatchListsLemmas.Entries.{two_apart, two_watched}
 use Rattle.clause_db.specs.Store.{is_tautology}
 use Rattle.watch_lists.proofs.entries.remove_entries.Goals as goal
-
-pub remove-requires : goal.remove-requires
-remove-requires c = search (rules, arith, has_times)
 
 first_watched : (d : Clause) (first : Literal) → is_tautology d ≡ false → 2 ≤ length d → first ≡ get_or d 0 first → watches d first ≡ true
 first_watched d first h1 h2 h3 = search rules
@@ -44,13 +40,3 @@ take_off-requires-then-not-is_loading-clause-there c =
     let listed = c.requires.listed (search rules) in
     let there = marked _ (list_at c.args.lists.now) listed c.args.slot c.number-number.result d second c.number-number.ensures (sym c.clause-clause.ensures.clause) watched in
     subst (λ xs. 0 < marked_entries c.number-number.result (eqb (length d) 2) xs) (sym (c.take_off.ensures.others second (λ e. apart (sym e)))) there
-
-pub returns-then-clause-lt2-clause-tautologies : goal.returns-then-clause-lt2-clause-tautologies
-returns-then-clause-lt2-clause-tautologies c d here s = search (rules, arith, units_apart)
-
-pub returns-else-not-is_loading-clause-tautologies : goal.returns-else-not-is_loading-clause-tautologies
-returns-else-not-is_loading-clause-tautologies c d here s = search (rules, arith, tautology_listed)
-
-pub returns-then-not-is_loading-clause-fewer : goal.returns-then-not-is_loading-clause-fewer
-returns-then-not-is_loading-clause-fewer c d here =
-    search (rules, arith, same_Some, tautology_listed)

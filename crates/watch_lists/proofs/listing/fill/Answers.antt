@@ -1,16 +1,11 @@
-use Rattle.std.proofs.Common.{rules, arith, ◌≡◌, Some}
+use Rattle.std.proofs.Common.{rules, ◌≡◌, Some}
 use Rattle.std.specs.FinMap as maps
-use Rattle.clause_db.proofs.StoreLemmas.Below.{below_all}
-use Rattle.watch_lists.proofs.WatchListsLemmas.Entries.{tautology_listed}
 use Rattle.watch_lists.proofs.WatchListsLemmas.Parts.{filling_next, filling_none, filling_nothing}
 use Rattle.watch_lists.proofs.listing.fill.Goals as goal
 use Rattle.watch_lists.proofs.listing.fill.Goals.{in-Some+in_ok-watch_in, in_default}
 
 pub loop-number-init : goal.loop-number-init
 loop-number-init c = filling_none c.args.part c.args.store.now.live c.args.lists.now
-
-pub watch_in-requires-clause-complements : goal.watch_in-requires-clause-complements
-watch_in-requires-clause-complements c = search (rules, arith, tautology_listed)
 
 pub loop-number-preserved : goal.loop-number-preserved
 loop-number-preserved c =
@@ -28,9 +23,3 @@ loop-number-preserved c =
       | in_default w ↦ rw w.lists-is (
           filling_nothing c.args.part live n before _ (search rules) c.loop-number.invariant)
     ]
-
-pub returns-clause-watched : goal.returns-clause-watched
-returns-clause-watched c = search (rules, arith, below_all)
-
-pub returns-clause-more : goal.returns-clause-more
-returns-clause-more c = search (rules, arith, below_all)

@@ -11,19 +11,19 @@ entering-clause-kept c = grind arith
 
 pub returns-then-has_clash-clause-kept : goal.returns-then-has_clash-clause-kept
 returns-then-has_clash-clause-kept c =
-    entered_idle (entering-clause-kept (goal.at.returns-then-has_clash-clause-kept c).After-enter) (grind arith) _ refl refl refl refl
+    entered_idle (entering-clause-kept (goal.at.returns-then-has_clash-clause-kept c).After-enter) _ refl refl refl (grind arith) refl
 
 pub returns-in-More-clause-kept : goal.returns-in-More-clause-kept
 returns-in-More-clause-kept c =
-    entered_more (entering-clause-kept (goal.at.returns-in-More-clause-kept c).After-enter) (grind arith) _ refl refl refl refl
+    entered_more (entering-clause-kept (goal.at.returns-in-More-clause-kept c).After-enter) _ refl refl refl (grind arith) refl
 
 pub returns-in-Nothing-clause-kept : goal.returns-in-Nothing-clause-kept
 returns-in-Nothing-clause-kept c =
-    entered_false (entering-clause-kept (goal.at.returns-in-Nothing-clause-kept c).After-enter) (grind arith) _ _ c.number-number.ensures refl refl refl refl
+    entered_false (entering-clause-kept (goal.at.returns-in-Nothing-clause-kept c).After-enter) _ refl refl refl (grind arith) (grind arith)
 
 pub returns-then-set_by-clause-kept : goal.returns-then-set_by-clause-kept
 returns-then-set_by-clause-kept c =
-    entered_set (entering-clause-kept (goal.at.returns-then-set_by-clause-kept c).After-enter) c.in-One.l (grind arith) (grind arith) (grind arith) _ c.set_by.new.assumptions.trail.lits c.with_more-self.ensures refl (grind arith) (grind arith) refl
+    entered_set (entering-clause-kept (goal.at.returns-then-set_by-clause-kept c).After-enter) c.in-One.l (grind arith) _ refl refl (grind arith) (grind arith) (grind arith) _ c.with_more-self.ensures (grind arith)
 
 -- the literal is true already
 true-clause-kept : (c : Else-set_by) → (c.set_by.new.assumptions.trail.lits ≡ c.args.assumptions.now.trail.lits) × (has c.args.assumptions.now.trail.lits c.in-One.l ≡ true)
@@ -34,10 +34,10 @@ pub returns-then-clause-eq1-clause-kept : goal.returns-then-clause-eq1-clause-ke
 returns-then-clause-eq1-clause-kept c =
     let given = entering-clause-kept (goal.at.returns-then-clause-eq1-clause-kept c).After-enter in
     let before = true-clause-kept (goal.at.returns-then-clause-eq1-clause-kept c).Else-set_by in
-    rw before.0 (entered_taken given c.in-One.l (grind arith) before.1 c.if-clause-eq1.true _ refl refl (grind (arith, before.2)) refl)
+    rw before.0 (entered_taken given c.in-One.l (grind arith) _ refl refl (grind (arith, before.2)) before.1 c.if-clause-eq1.true refl)
 
 pub returns-else-clause-eq1-clause-kept : goal.returns-else-clause-eq1-clause-kept
 returns-else-clause-eq1-clause-kept c =
     let given = entering-clause-kept (goal.at.returns-else-clause-eq1-clause-kept c).After-enter in
     let before = true-clause-kept (goal.at.returns-else-clause-eq1-clause-kept c).Else-set_by in
-    rw before.0 (entered_true given c.in-One.l (grind arith) before.1 _ refl refl before.2 refl)
+    rw before.0 (entered_true given c.in-One.l (grind arith) _ refl refl before.1 refl before.2)

@@ -1,6 +1,5 @@
 use Rattle.{root_literals.proofs.RootLemmas.Reasons.counted_less, std.proofs.Common.arith}
 use Rattle.std.proofs.{Common.length-take, Common.take-take, lemmas.Grind.get_or_default_zero}
-use Rattle.std.specs.FinMap as maps
 use Rattle.root_literals.proofs.uses.Uses.cut.Goals as goal
 
 pub loop-self-preserved-then-self-lits : goal.loop-self-preserved-then-self-lits

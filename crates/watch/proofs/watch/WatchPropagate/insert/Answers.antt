@@ -1,23 +1,17 @@
 use Rattle.std.proofs.Common.{◌≡◌, ◌≢◌, ℕ, Some, sym, ap, subst, ◌∙◌, arith}
-use Rattle.std.proofs.lemmas.{Bool.false_from_ne_true, Option.none-some, Option.same_Some}
+use Rattle.std.proofs.lemmas.{Bool.false_from_ne_true, Option.none-some}
 use Rattle.std.specs.FinMap as maps
 use Rattle.cnf_base.specs.Literals.{Clause}
-use Rattle.cnf_base.proofs.SetLemmas.{same_from, same_there, same_trans}
+use Rattle.cnf_base.proofs.SetLemmas.{same_from, same_trans}
 use Rattle.cnf_base.proofs.MapLemmas.{inserted_is, removed_back}
 use Rattle.root_literals.specs.Order.{each_in_order, in_order}
 use Rattle.watch_lists.{specs.Watched.tautology_for, proofs.WatchListsLemmas.Entries.times_has}
 use Rattle.propagation.{proofs.PropagationLemmas.Scan.room_added, specs.Closure.IsClosure}
-use Rattle.watch.proofs.WatchLemmas.State.{alone_kept, same_state, tautologies_added}
+use Rattle.watch.proofs.WatchLemmas.State.{alone_kept, tautologies_added}
 use Rattle.watch.proofs.WatchLemmas.State.{tautologies_there, watch_added, watch_room, watch_same}
 use Rattle.root_literals.proofs.RootLemmas.Reasons.{get_ordered, literals_ordered, ordered_alike}
 use Rattle.root_literals.proofs.RootLemmas.Reasons.{same-in_order, seen_there}
 use Rattle.watch.proofs.watch.WatchPropagate.insert.Goals as goal
-
-pub add_entries-requires-clause-alive : goal.add_entries-requires-clause-alive
-add_entries-requires-clause-alive c = grind arith
-
-pub add_entries-requires-clause-absent : goal.add_entries-requires-clause-absent
-add_entries-requires-clause-absent c = grind (arith, false_from_ne_true, times_has)
 
 pub add_entries-requires-clause-no_tautology : goal.add_entries-requires-clause-no_tautology
 add_entries-requires-clause-no_tautology c = let i = c.self.inside in
@@ -29,15 +23,6 @@ pub enter-requires-clause-kept : goal.enter-requires-clause-kept
 enter-requires-clause-kept c = let i = c.self.inside in let r = c.reserve_room.ensures in
     let watch = watch_room r.more r.noted c.self.invariant.0 in
     grind (arith, removed_back, alone_kept)
-
-pub enter-requires-clause-reasons : goal.enter-requires-clause-reasons
-enter-requires-clause-reasons c clause here l member = grind (arith, same_there, same_Some)
-
-pub enter-requires-clause-room : goal.enter-requires-clause-room
-enter-requires-clause-room c clause here l member = grind (arith, same_there, same_Some)
-
-pub enter-requires-clause-arranged : goal.enter-requires-clause-arranged
-enter-requires-clause-arranged c clause here = grind (arith, same_Some)
 
 pub invariant_of-self-in-Ok : goal.invariant_of-self-in-Ok
 invariant_of-self-in-Ok c =
@@ -66,9 +51,6 @@ invariant_of-self-in-Ok c =
       tautologies_added live after i.tautologies c.add_entries.new.tautologies slot w.0 c.self.invariant.3 c.in_ok-slot.ensures.free (inserted_is live after slot w.0 w.1 others) (e.tautologies w.0 w.1),
     )
 
-pub remove_clause-requires-clause-closure : goal.remove_clause-requires-clause-closure
-remove_clause-requires-clause-closure c = grind (arith, ordered_alike)
-
 pub invariant_of-self-in-Err : goal.invariant_of-self-in-Err
 invariant_of-self-in-Err c = let i = c.self.inside in let live = i.store.live in
     let held = c.reserve_room.new.assumptions in let roots = c.reserve_room.new.roots in
@@ -78,9 +60,6 @@ invariant_of-self-in-Err c = let i = c.self.inside in let live = i.store.live in
     let fewer = λ (l s : ℕ) (x : Clause) (is : maps.get live s ≡ Some x). e.fitting w.0 w.1 l s x (grind (arith, none-some)) in
     let back = c.remove_clause.ensures.live ∙ removed_back live c.arrange-arranged.new.store.live c.in_ok-slot.slot c.in_ok-slot.ensures.free (grind arith) in (grind (arith, watch_same, literals_ordered))
 
-pub returns-in-Ok-clause-free : goal.returns-in-Ok-clause-free
-returns-in-Ok-clause-free c = grind (arith, get_ordered)
-
 pub returns-in-Ok-clause-stored : goal.returns-in-Ok-clause-stored
 returns-in-Ok-clause-stored c = let d = c.in_ok-slot.ensures.stored in
     let w = c.arrange-arranged.ensures.arranged d.0 d.1 in (
@@ -88,18 +67,6 @@ returns-in-Ok-clause-stored c = let d = c.in_ok-slot.ensures.stored in
       grind (arith, seen_there),
       same_trans (in_order w.0) w.0 c.args.lits.now (same-in_order w.0) (same_trans w.0 d.0 c.args.lits.now (grind (arith, same_from)) d.2),
     )
-
-pub returns-in-Ok-clause-others : goal.returns-in-Ok-clause-others
-returns-in-Ok-clause-others c s apart = grind (arith, get_ordered)
-
-pub returns-in-Ok-clause-live_alone : goal.returns-in-Ok-clause-live_alone
-returns-in-Ok-clause-live_alone c = grind (arith, literals_ordered)
-
-pub returns-in-Err-clause-live_alone : goal.returns-in-Err-clause-live_alone
-returns-in-Err-clause-live_alone c = grind (arith, literals_ordered)
-
-pub returns-in-Err-clause-err : goal.returns-in-Err-clause-err
-returns-in-Err-clause-err c = grind (arith, removed_back, literals_ordered, same_state)
 
 pub invariant_of-self : goal.invariant_of-self
 invariant_of-self c =

@@ -1,6 +1,7 @@
 use Rattle.root_literals.proofs.RootLemmas.Reasons.{alive_alike}
 use Rattle.{std.proofs.Common.arith, std.proofs.Common.false, theory.specs.Propagation.IsRootReason}
-use Rattle.watch.proofs.WatchLemmas.State.{answer_shown, none_shown, reason_shown}
+use Rattle.root_literals.proofs.RootLemmas.Shown.{none_shown, reason_shown}
+use Rattle.watch.proofs.WatchLemmas.State.{answer_shown}
 use Rattle.watch.proofs.watch.WatchPropagate.is_root_reason.Goals as goal
 
 pub is_reason_at_root-found-requires-clause-alive : goal.is_reason_at_root-found-requires-clause-alive

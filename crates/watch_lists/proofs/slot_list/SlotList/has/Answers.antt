@@ -1,15 +1,9 @@
-use Rattle.std.proofs.Common.{rules, ◌≤◌, sym, ap, ◌∙◌, length, arith}
-use Rattle.std.proofs.{lemmas.Bool.le-ltb, lemmas.Grind.get_or_default_zero}
+use Rattle.std.proofs.Common.{◌≤◌, sym, ap, ◌∙◌, length, arith}
+use Rattle.std.proofs.{lemmas.Bool.le-ltb}
 use Rattle.cnf_base.specs.Literals.{has}
 use Rattle.tables.specs.Table.{at}
-use Rattle.watch_lists.proofs.WatchListsLemmas.SlotList.{absent_none, absent_past, there_if}
+use Rattle.watch_lists.proofs.WatchListsLemmas.SlotList.{absent_past}
 use Rattle.watch_lists.proofs.slot_list.SlotList.has.Goals as goal
-
-pub returns-in_default : goal.returns-in_default
-returns-in_default c = search (rules, arith, absent_none)
-
-pub returns-then-place-len : goal.returns-then-place-len
-returns-then-place-len c = search (rules, arith, get_or_default_zero, there_if)
 
 pub returns-else-place-len : goal.returns-else-place-len
 returns-else-place-len c =

@@ -1,8 +1,7 @@
-use Rattle.std.proofs.Common.{rules, sym, ap, ◌∙◌, arith}
+use Rattle.std.proofs.Common.{sym, ap, ◌∙◌, arith}
 use Rattle.tables.specs.Table.{at}
 use Rattle.cnf_base.specs.Literals.{has}
-use Rattle.watch_lists.proofs.WatchListsLemmas.Lists.{times_taken}
-use Rattle.watch_lists.proofs.WatchListsLemmas.SlotList.{placed_none, placed_some}
+use Rattle.watch_lists.proofs.WatchListsLemmas.SlotList.{placed_some}
 use Rattle.watch_lists.proofs.slot_list.SlotList.remove.Goals as goal
 
 pub swap_remove-requires : goal.swap_remove-requires
@@ -11,12 +10,3 @@ swap_remove-requires c =
     let w = placed_some i.slots.items (at i.places) c.self.invariant c.args.slot (ap (λ ls. has ls c.args.slot) c.self.view_is ∙ c.requires) c.in-Some.place (sym c.get.ensures ∙ c.in-Some.is) in
     let low = w.0 in
     omega arith
-
-pub returns-in-Some-clause-times : goal.returns-in-Some-clause-times
-returns-in-Some-clause-times c s = search (rules, arith, placed_some, times_taken)
-
-pub returns-in_default-clause-times : goal.returns-in_default-clause-times
-returns-in_default-clause-times c s = search (rules, arith, placed_none)
-
-pub returns-in_default-clause-len : goal.returns-in_default-clause-len
-returns-in_default-clause-len c = search (rules, arith, placed_none)
