@@ -156,6 +156,7 @@ impl<M: Memory, I: Indexing> Store<M, I> {
 
     /// Stores a clause in a slot that is free, and fails only where memory is refused. A repeated
     /// literal is kept once. Where it fails late, slots that it made stay.
+    #[tactic(auto, using(crate::proofs::StoreLemmas::Fields::insert_steps))]
     pub fn insert(&mut self, lits: &[Lit]) -> Result<Slot, OutOfMemory>
         ensures free { IfOk result (λ slot. maps.get self.old.live slot ≡ None) }
         ensures stored { IfOk result (λ slot. (c : Clause) ×

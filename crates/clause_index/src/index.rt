@@ -125,6 +125,7 @@ impl Index {
 
     /// The slot of a clause with this hash that is sought, if there is one. It takes no memory.
     #[inline(always)]
+    #[tactic(auto, using(crate::proofs::IndexLemmas::Found::some_heads))]
     pub fn find<T: Sought>(&self, key: u32, sought: &T) -> Option<u32>
         requires { (live : FinMap nat_cmp Clause) × ⟦<Index as Indexing>⟧.indexes self.now live }
         ensures found { IfSome result (λ s. T.is sought.now s ≡ true) }

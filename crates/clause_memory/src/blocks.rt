@@ -58,6 +58,7 @@ impl Model for Blocks {
 
 impl Blocks {
     /// How many words the array has: four for each cell of a block.
+    #[tactic(auto, using(crate::proofs::BlockLemmas::cells_are))]
     pub fn words(&self) -> usize
         ensures { result ≡ 4 * cells_in self.now.blocks }
     {
@@ -147,10 +148,12 @@ impl Memory for Blocks {
     }
 
     #[inline(always)]
+    #[tactic(auto, using(crate::proofs::ClauseLemmas::get_clause))]
     fn clause(&self, slot: usize) -> &[Lit] {
         literals(&self.words, slot)
     }
 
+    #[tactic(auto, using(crate::proofs::ClauseLemmas::get_clause))]
     fn at(&self, number: usize) -> Option<&[Lit]> {
         match kind_of(&self.kinds, number) {
             Kind::Live => Some(literals(&self.words, number)),

@@ -72,6 +72,7 @@ fn append(
 
 /// Puts a clause into the first of the free blocks that have as many cells as it needs, or else
 /// behind all others.
+#[tactic(auto, using(crate::proofs::RoomLemmas::none_free))]
 pub(crate) fn place(
     kinds: &mut Vec<Kind>,
     words: &mut Vec<Lit>,

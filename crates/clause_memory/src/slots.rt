@@ -91,6 +91,7 @@ impl Memory for Slots {
         }
     }
 
+    #[tactic(auto, using(crate::proofs::SlotLemmas::held_at))]
     fn at(&self, number: usize) -> Option<&[Lit]> {
         match self.clauses.get(number) {
             Some(clause) => Some(clause.as_slice()),
@@ -98,6 +99,7 @@ impl Memory for Slots {
         }
     }
 
+    #[tactic(auto, using(crate::proofs::SlotLemmas::held_at))]
     fn end(&self) -> usize {
         self.end
     }

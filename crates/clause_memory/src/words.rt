@@ -201,6 +201,7 @@ fn exchange_behind(words: &mut Vec<Lit>, from: usize, a: usize, b: usize)
 
 /// Puts two literals of a block in each other's place.
 #[inline(always)]
+#[tactic(auto, using(crate::proofs::SwapLemmas::swapped_behind))]
 pub(crate) fn exchange(words: &mut Vec<Lit>, slot: usize, a: usize, b: usize)
     requires first { 4 * slot + 1 + a < length words.old.items }
     requires second { 4 * slot + 1 + b < length words.old.items }
@@ -235,6 +236,7 @@ fn write_behind(words: &mut Vec<Lit>, from: usize, first: Lit, second: Lit, to: 
 
 /// Writes the first two literals of a block, and one behind them. None is read.
 #[inline(always)]
+#[tactic(auto, using(crate::proofs::RewatchLemmas::three_written))]
 pub(crate) fn rewrite(words: &mut Vec<Lit>, slot: usize, first: Lit, second: Lit, to: usize, l: Lit)
     requires behind { 2 ≤ to }
     requires inside { 4 * slot + 1 + to < length words.old.items }

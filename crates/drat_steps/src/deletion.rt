@@ -96,6 +96,7 @@ fn remove_reason<P: Propagate>(clauses: &mut P, slot: Slot) -> Result<bool, OutO
 
 /// Takes one copy of the clause off, unless the rules keep it, and takes note of the first
 /// root-level literal that is lost.
+#[tactic(auto, using(crate::proofs::DratLemmas::Steps::delete_steps))]
 pub fn delete<P: Propagate>(
     clauses: &mut P,
     rules: DratRules,

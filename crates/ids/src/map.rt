@@ -260,6 +260,7 @@ fn first_bound(
 
 impl Ids {
     /// No identifier is bound.
+    #[tactic(auto, using(crate::proofs::IdLemmas::Map::empty_steps))]
     pub fn new(alloc: Global) -> Result<Self, OutOfMemory>
         ensures { IfOk result (λ ids. ids ≡ maps.empty) }
     {
@@ -296,6 +297,7 @@ impl Ids {
     /// The slot of an identifier, in constant time where identifiers are dense, and else in a
     /// logarithm of their number.
     #[inline]
+    #[tactic(auto, using(crate::proofs::IdLemmas::Map::map_steps))]
     pub fn slot_of(&self, id: u64) -> Option<Slot>
         ensures { result ≡ maps.get self.now id }
     {
@@ -323,6 +325,7 @@ impl Ids {
     ///
     /// Where none is bound in the page of `from`, it goes over the numbers of all pages. So to go
     /// over all identifiers takes `put_by_slot` less.
+    #[tactic(auto, using(crate::proofs::IdLemmas::Map::map_steps))]
     pub fn next_bound(&self, from: u64) -> Option<(u64, Slot)>
         ensures above { IfSome result (λ p. from ≤ p.0) }
         ensures bound { IfSome result (λ p. maps.get self.now p.0 ≡ Some p.1) }

@@ -41,6 +41,7 @@ pub(crate) fn place_in(page: u32, id: u64) -> usize
 
 impl Pages {
     /// No pages. It takes no memory.
+    #[tactic(auto, using(crate::proofs::IdLemmas::Pages::page_steps))]
     pub(crate) fn new(alloc: Global) -> Self
         ensures { IsCounted result }
     {
@@ -52,6 +53,7 @@ impl Pages {
         }
     }
 
+    #[tactic(auto, using(crate::proofs::IdLemmas::Pages::page_steps))]
     fn is_vacant(&self, page: u32) -> bool
         requires { IsCounted self.now }
         ensures { IsTrue result → IsVacant self.now page }
@@ -125,6 +127,7 @@ impl Pages {
     }
 
     /// Whether nothing is bound in a page.
+    #[tactic(auto, using(crate::proofs::IdLemmas::Pages::page_steps))]
     pub(crate) fn is_empty(&self, page: u32) -> bool
         requires { HasPage self.now page }
         ensures { IsTrue result → IsEmptyPage self.now page }
@@ -134,6 +137,7 @@ impl Pages {
 
     /// Writes an entry, and how many are then bound in the page.
     #[inline]
+    #[tactic(auto, using(crate::proofs::IdLemmas::Pages::page_steps))]
     fn write(&mut self, page: u32, id: u64, entry: u32, count: u32)
         requires page { HasPage self.old page }
         requires count { count + counted_as (slice_index self.old.entries.items (place page id)) ≡

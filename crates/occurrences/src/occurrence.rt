@@ -59,6 +59,7 @@ fn grow(list: &mut Vec<Occurrence>) -> Result<(), OutOfMemory>
 
 /// Makes room in a list. A full one is cleaned first, and grows only where half of its entries or
 /// more still count.
+#[tactic(auto, using(crate::proofs::EntryLemmas::alike_cleaned))]
 fn make_room(list: &mut Vec<Occurrence>, births: &Table<u32>) -> Result<(), OutOfMemory>
     ensures alike { AreAlike births.now list.old.items list.new.items }
     ensures room { OnOk result (vec_len list.new < vec_capacity list.new) }
@@ -71,6 +72,7 @@ fn make_room(list: &mut Vec<Occurrence>, births: &Table<u32>) -> Result<(), OutO
 }
 
 /// Puts an entry at the end of a list.
+#[tactic(auto, using(crate::proofs::EntryLemmas::alike_push))]
 pub(crate) fn add(
     list: &mut Vec<Occurrence>,
     births: &Table<u32>,

@@ -165,6 +165,7 @@ impl Propagate for Scan {
     }
 
     /// It counts no unit clauses, so that it may do this sooner than needed.
+    #[tactic(auto, using(crate::proofs::PropagationLemmas::Gather::needed_within))]
     fn gather(&mut self) -> Result<(), OutOfMemory> {
         self.store.recall_invariant();
         if is_sparse(self.store.end(), self.store.literals(), 0) {

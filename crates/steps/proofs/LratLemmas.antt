@@ -1,43 +1,37 @@
 -- Proofs by identifiers: hints, walks, groups, and room for the literals of all live clauses.
+use Rattle.std.proofs.lemmas.List.{drop_all}
 use Rattle.cnf_base.proofs.MemberLemmas.{has_front, place_of}
 use Rattle.cnf_base.proofs.SetLemmas.{has_append_cases, has_append_left, has_append_right}
-use Rattle.cnf_base.proofs.{SetLemmas.has_cases, SetLemmas.same_there, WalkLemmas.has_more}
+use Rattle.cnf_base.proofs.SetLemmas.{has_cases, same_there}
 use Rattle.cnf_base.specs.Literals.{Clause, Literal, complement, complements, has, without}
-use Rattle.live_clauses.{proofs.ClausesLemmas.Distinct.distinct_more, specs.LiveClauses.AllHold}
-use Rattle.proofs.specs.{Steps.Step, declared.step_buf.StepKind.TheVariants.Delete}
-use Rattle.std.proofs.Common.{Bool, Err, List, None, Ok, Option, Some, [], ap}
-use Rattle.std.proofs.Common.{append-nil, arith, cond, drop, eqb, eqb-true, false, get_or, inl, inr}
-use Rattle.std.proofs.Common.{is_some, length, map, nat_abs, nat_eq, negsuc, not, of_z, option_map}
-use Rattle.std.proofs.Common.{pos, refl, rules, slice_get, slice_index, subst, suc, sym, take}
-use Rattle.std.proofs.Common.{to_z, true, w64, ℕ, ℤ, ◌&&◌, ◌++◌, ◌+◌, ◌<◌, ◌||◌, ◌∙◌, ◌∷◌, ◌≡◌, ◌≤◌}
-use Rattle.std.proofs.lemmas.Bool.{and_parts, cases_eq, cases_lt, false_from_ne_true}
-use Rattle.std.proofs.lemmas.Bool.{not-true, or_cases, true≢false, Decides.nat_tests}
-use Rattle.std.proofs.lemmas.List.{drop_more, take_all, Folds.list_any-append}
+use Rattle.live_clauses.specs.LiveClauses.{AllHold, Holds}
+use Rattle.std.proofs.Common.{Err, List, None, Ok, Option, Some, [], ap, append-nil, arith}
+use Rattle.std.proofs.Common.{drop, eqb, eqb-true, false, get_or, is_some, length, map, nat_abs}
+use Rattle.std.proofs.Common.{nat_eq, of_z, pos, refl, rules, slice_get, slice_index, sym, take}
+use Rattle.std.proofs.Common.{to_z, true, w64, ℕ, ℤ, ◌++◌, ◌+◌, ◌<◌, ◌||◌, ◌∷◌, ◌≡◌, ◌≤◌}
 use Rattle.std.proofs.lemmas.Map.Keys.{Less-from_sorted, sorted_from_strictly_increasing}
-use Rattle.std.proofs.lemmas.Option.{none-some, same_Some}
-use Rattle.std.proofs.lemmas.{Grind.common_steps, Grind.get_or_default_zero, Int.to_z-of_z}
-use Rattle.std.specs.List.{IsDistinct, list_any, Sorted.IsStrictlyIncreasing}
-use Rattle.std.specs.declared.{cmp.Ordering.TheVariants.Less, result.Result.Result}
-use Rattle.std.specs.{Bool.then_some, FinMap.FinMap, FinMap.get-empty}
-use Rattle.std.specs.{Option.IfNone, Option.option_or, Ordering.nat_cmp, Prelude.⊤, Result.OnOk}
+use Rattle.std.proofs.lemmas.{Bool.and_parts, Bool.not-true, Bool.or_cases, Int.to_z-of_z}
+use Rattle.std.proofs.lemmas.{Grind.common_steps, Grind.get_or_default_zero, Bool.Decides.nat_tests}
+use Rattle.std.proofs.lemmas.{Option.none-some, Option.same_Some, List.Folds.list_any-append}
+use Rattle.std.specs.{List.Sorted.IsStrictlyIncreasing, List.IsDistinct, List.list_any, Prelude.⊤}
+use Rattle.std.{proofs.lemmas.List.drop_more, proofs.lemmas.List.take_all, specs.Ordering.nat_cmp}
 use Rattle.steps.specs.Code.Groups.{IsFirstLeftOut, IsGroupEnd, is_unnamed, named_in}
-use Rattle.steps.specs.Code.{Groups.needs_group_at, Ready.IsReady, Walk.IsEnd, Walk.refusal_at}
-use Rattle.steps.specs.declared.lrat.walk.WalkEnd.TheVariants.{Conflict, NotUnit, Open, UnknownId}
-use Rattle.theory.proofs.LratLemmas.LiveSets.{SameClauses-eq, SameClauses-refl}
+use Rattle.steps.specs.declared.lrat.walk.WalkEnd.{TheVariants.Conflict, TheVariants.Open, WalkEnd}
 use Rattle.theory.proofs.LratLemmas.SameSets.{chain_alike, same_set_more}
-use Rattle.theory.specs.Lrat.{ChainEnd, Group, LratState, SameClauses, after_lrat, chain}
-use Rattle.theory.specs.Lrat.{chain_refusal, conflict, group_refusal, groups_of, groups_refusal}
-use Rattle.theory.specs.Lrat.{is_left_out, is_unsettled, look_at, lrat_step, open_with}
-use Rattle.theory.specs.Lrat.{units_of, with_candidate, with_clause, without_id, without_ids}
+use Rattle.theory.proofs.PropagationLemmas.Conflicts.{conflicts_same}
+use Rattle.theory.specs.Answers.{StepAnswer, UnlessOutOfMemory}
+use Rattle.theory.specs.Lrat.{AnswersChain, AnswersGroups, ChainEnd, Group, SameClauses, chain}
+use Rattle.theory.specs.Lrat.{conflict, group_refusal, groups_of, groups_refusal, is_unsettled}
+use Rattle.theory.specs.Lrat.{units_of, with_clause, without_id, without_ids}
 use Rattle.theory.specs.declared.refusal.Refusal.TheVariants.{Ended, GroupWithoutConflict}
 use Rattle.theory.specs.declared.refusal.Refusal.TheVariants.{NamedTwice, NotCandidate}
 use Rattle.theory.specs.declared.{accepted.Accepted.TheVariants.Rat, refusal.Refusal.Refusal}
-use Rattle.theory.specs.{Answers.UnlessOutOfMemory, Lrat.AnswersChain, Lrat.AnswersGroups}
 use Rattle.theory.specs.{Propagation.Live, Propagation.open_literals, Sets.SameSet, Sets.conflicts}
-use Rattle.theory.{proofs.PropagationLemmas.Conflicts.conflicts_same, specs.Answers.StepAnswer}
-use Rattle.trail.specs.declared.left.Left.TheVariants.{More, Nothing, One}
-use Rattle.trail.specs.{Left.how_many, Trail.HasRoom, Trail.TrailState}
-use Rattle.{live_clauses.specs.LiveClauses.Holds, steps.specs.declared.lrat.walk.WalkEnd.WalkEnd}
+use Rattle.trail.specs.{declared.left.Left.TheVariants.One, Trail.HasRoom, Trail.TrailState}
+use Rattle.{live_clauses.proofs.ClausesLemmas.Distinct.distinct_more, trail.specs.Left.how_many}
+use Rattle.{std.specs.FinMap.FinMap, std.specs.FinMap.get-empty, steps.specs.Code.Ready.IsReady}
+use Rattle.{steps.specs.Code.Walk.IsEnd, steps.specs.Code.Walk.refusal_at, std.specs.Option.IfNone}
+use Rattle.{theory.proofs.LratLemmas.LiveSets.SameClauses-refl, cnf_base.proofs.WalkLemmas.has_more}
 use lib.Signed.{lt_z}
 use mir.Val.{SFits}
 use Rattle.std.specs.FinMap as maps
@@ -46,12 +40,11 @@ use Rattle.std.specs.FinMap as maps
 
 pub named_append : (xs ys : List ℤ) → named_in (xs ++ ys) ≡ named_in xs ++ named_in ys
 named_append [] ys = refl
-named_append (pos k ∷ xs) ys = named_append xs ys
-named_append (negsuc k ∷ xs) ys = ap (λ ks. suc k ∷ ks) (named_append xs ys)
+named_append (x ∷ xs) ys = grind (arith, (named_append xs ys))
 
 pub any_named : (k : ℕ) (groups : List Group) → has (map (λ group. group.candidate) groups) k ≡ list_any (λ group. eqb group.candidate k) groups
 any_named k [] = refl
-any_named k (group ∷ groups) = ap (λ b. eqb group.candidate k || b) (any_named k groups)
+any_named k (group ∷ groups) = cc (any_named k groups)
 
 -- the hint that is read at the place i
 abbrev pub read : List ℤ → ℕ → ℤ
@@ -62,7 +55,7 @@ module _ (hints : List ℤ) (i : ℕ) (inside : i < length hints) (fits : SFits 
   read_is = to_z-of_z w64 (get_or hints i (pos 0)) fits
 
   pub drop_read : drop i hints ≡ read hints i ∷ drop (i + 1) hints
-  drop_read = drop_more hints i (pos 0) inside ∙ ap (λ x. x ∷ drop (i + 1) hints) (sym read_is)
+  drop_read = grind (arith, drop_more, read_is)
 
   pub units_more : (k : ℕ) → lt_z (read hints i) (pos 0) ≡ false → k ≡ nat_abs (read hints i) → units_of (drop i hints) ≡ k ∷ units_of (drop (i + 1) hints)
   units_more k test e = search (rules, arith, drop_read)
@@ -72,7 +65,7 @@ module _ (hints : List ℤ) (i : ℕ) (inside : i < length hints) (fits : SFits 
   groups_more k test e = grind (arith, drop_read)
 
   pub abs_more : (k : ℕ) → k ≡ nat_abs (read hints i) → map nat_abs (drop i hints) ≡ k ∷ map nat_abs (drop (i + 1) hints)
-  abs_more k e = ap (map nat_abs) drop_read ∙ ap (λ j. j ∷ map nat_abs (drop (i + 1) hints)) (sym e)
+  abs_more k e = grind (arith, drop_read)
 
 -- ---- A walk depends on the set of true literals alone, and goes on hint by hint
 
@@ -86,62 +79,27 @@ open_same first second c same = grind arith
 abbrev pub Gives : ChainEnd → ChainEnd → Type 0
 Gives first second = (trues : List Literal) (end : WalkEnd) → IsEnd trues end first → IsEnd trues end second
 
-gives_look : (k : ℕ) (o : Option Clause) (first second : Literal → ChainEnd) → ((l : Literal) → Gives (first l) (second l)) → Gives (look_at k o first) (look_at k o second)
-gives_look k o first second h h2 h3 h4 = grind arith
-
 -- a walk depends on the set alone
 pub chain_same : (live : Live) (hints : List ℕ) (first second : List Literal) → SameSet first second → Gives (chain live first hints) (chain live second hints)
 chain_same live [] first second same = search (rules, arith, conflicts_same)
 chain_same live (k ∷ hints) first second same =
-    let look_first : Option Clause = option_map (open_literals first) (live k) in
-    let look_second : Option Clause = option_map (open_literals second) (live k) in
-    let on_first : Literal → ChainEnd = λ l. chain live (l ∷ first) hints in
-    let on_second : Literal → ChainEnd = λ l. chain live (l ∷ second) hints in
-    let looks : look_first ≡ look_second = ap (λ (f : Clause → Clause). option_map f (live k)) (λ i c. open_same first second c same i) in
-    rw (← (conflicts_same first second same))
-    (elim (conflicts first) as (λ b. Gives (cond b conflict (look_at k look_first on_first)) (cond b conflict (look_at k look_second on_second))) [
-      | true ↦ λ trues end h. h
-      | false ↦ subst (λ o. Gives (look_at k look_first on_first) (look_at k o on_second)) looks
-          (gives_look k look_first on_first on_second (λ l. chain_same live hints (l ∷ first) (l ∷ second) (same_set_more first second l same)))
-    ])
+    grind (arith, conflicts_same, same_set_more, open_same, (chain_same live hints))
 
 -- ---- One hint
 
--- the next hint names nothing
-pub walk_unknown : (live : Live) (ls : List Literal) (left more : List ℕ) (k : ℕ) → left ≡ k ∷ more → (end : ChainEnd) → Gives (chain live ls left) end → conflicts ls ≡ false →
-    live k ≡ None → (trues : List Literal) → IsEnd trues (UnknownId k) end
-walk_unknown live ls left more k left_is end so_far quiet none trues = grind arith
-
 -- a walk whose next hint is k
 module _ (live : Live) (ls : List Literal) (left more : List ℕ) (k : ℕ) (left_is : left ≡ k ∷ more) (end : ChainEnd) (so_far : Gives (chain live ls left) end) (quiet : conflicts ls ≡ false) (c : Clause) (at : live k ≡ Some c) where
-  pub walk_nothing : (trues : List Literal) → Nothing ≡ how_many (open_literals ls c) → IsEnd trues Conflict end
-  walk_nothing trues e = grind arith
-
-  pub walk_more : (trues : List Literal) → More ≡ how_many (open_literals ls c) → IsEnd trues (NotUnit k) end
-  walk_more trues e = grind arith
-
   pub walk_one : (m : Literal) → One m ≡ how_many (open_literals ls c) → (after : List Literal) → SameSet after (m ∷ ls) → Gives (chain live after more) end
   walk_one m e after same trues w g = grind (arith, chain_same)
 
 -- ---- Groups of hints, one at a time
 
--- what a test of a clause in code says
-pub tested : (b : Bool) (ls items : List Literal) (n pivot : Literal) → b ≡ has ls n → ls ≡ items → n ≡ complement pivot → has items (complement pivot) ≡ b
-tested b ls items n pivot test items_are n_is = grind arith
-
--- ---- One group
-
 module _ (live : Live) (ls : List Literal) (pivot : Literal) (earlier : List ℕ) (k : ℕ) (hints : List ℕ) (c : Clause) (at : live k ≡ Some c) where
-  group_is : (member named : Bool) → has c (complement pivot) ≡ member → has earlier k ≡ named →
-      group_refusal live ls pivot earlier (record { candidate = k; hints = hints }) (live k)
-      ≡ option_or (then_some (not member) (NotCandidate k)) (option_or (then_some named (NamedTwice k)) (chain_refusal (GroupWithoutConflict k) (chain live (with_candidate ls c pivot) hints)))
-  group_is member named e f = grind arith
-
   pub group_not_candidate : has c (complement pivot) ≡ false → Some (NotCandidate k) ≡ group_refusal live ls pivot earlier (record { candidate = k; hints = hints }) (live k)
-  group_not_candidate e = sym (group_is false _ e refl)
+  group_not_candidate e = grind arith
 
   pub group_named_twice : has c (complement pivot) ≡ true → has earlier k ≡ true → Some (NamedTwice k) ≡ group_refusal live ls pivot earlier (record { candidate = k; hints = hints }) (live k)
-  group_named_twice e f = sym (group_is true true e f)
+  group_named_twice e f = grind arith
 
   pub group_walked : has c (complement pivot) ≡ true → has earlier k ≡ false → (opposite : Literal) → opposite ≡ complement pivot → (walked : WalkEnd) (refusal : Option Refusal) →
       refusal ≡ refusal_at (GroupWithoutConflict k) walked → IsGroupEnd live ls c opposite hints walked →
@@ -150,15 +108,13 @@ module _ (live : Live) (ls : List Literal) (pivot : Literal) (earlier : List ℕ
 
 -- the walk over a group's hints, from literals that conflict, or that do not
 pub chain_conflict : (live : Live) (ls : List Literal) (hints : List ℕ) → conflicts ls ≡ true → chain live ls hints ≡ conflict
-chain_conflict live ls [] h = ap (λ b. cond b conflict (open_with ls)) h
+chain_conflict live ls [] h = grind arith
 chain_conflict live ls (k ∷ hints) h = grind arith
 
 module _ (live : Live) (ls : List Literal) (c : Clause) (opposite : Literal) (hints : List ℕ) where
   pub group_walks : (start trues : List Literal) → SameSet start (ls ++ complements (without c opposite)) → (walked end : WalkEnd) → IsEnd trues walked (chain live start hints) → end ≡ walked → IsGroupEnd live ls c opposite hints end
-  group_walks start trues same walked end h end_is = record {
-    trues = trues;
-    is = grind (arith, chain_same);
-  }
+  group_walks start trues same walked end h end_is =
+      record { trues = trues; is = grind (arith, chain_same) }
 
 -- ---- The groups in their order
 
@@ -166,7 +122,11 @@ module _ (live : Live) (ls : List Literal) (pivot : Literal) where
   groups_earlier : (groups : List Group) (first second : List ℕ) → SameSet first second → groups_refusal live ls pivot first groups ≡ groups_refusal live ls pivot second groups
   groups_earlier [] first second same = refl
   groups_earlier (group ∷ groups) first second same =
-      search (rules, arith, same_set_more, groups_earlier groups (group.candidate ∷ first) (group.candidate ∷ second) (same_set_more first second group.candidate same))
+      grind (
+        arith,
+        same_set_more,
+        (groups_earlier groups (group.candidate ∷ first) (group.candidate ∷ second)),
+      )
 
   module _ (hints : List ℤ) (i : ℕ) (inside : i < length hints) (fits : SFits w64 (get_or hints i (pos 0))) (named : List ℕ) (all : Option Refusal)
       (so_far : groups_refusal live ls pivot named (groups_of (drop i hints)) ≡ all) where
@@ -175,9 +135,6 @@ module _ (live : Live) (ls : List Literal) (pivot : Literal) where
 
     module _ (k : ℕ) (test : lt_z (read hints i) (pos 0) ≡ true) (k_is : k ≡ nat_abs (read hints i)) (rest : List ℤ) (rest_is : rest ≡ drop (i + 1) hints)
         (refusal : Option Refusal) (is : refusal ≡ group_refusal live ls pivot named (record { candidate = k; hints = units_of rest }) (live k)) where
-      pub groups_stop : is_some refusal ≡ true → refusal ≡ all
-      groups_stop h = grind (arith, groups_more)
-
       pub groups_go_on : is_some refusal ≡ false → (after : List ℕ) → ((j : ℕ) → has after j ≡ has named j || eqb k j) → groups_refusal live ls pivot after (groups_of (drop (i + 1) hints)) ≡ all
       groups_go_on h after more = grind (arith, groups_earlier, groups_more)
 
@@ -211,14 +168,11 @@ module _ (live : Live) (first second : List Literal) (same : SameSet first secon
   unsettled_start : (o : Option Clause) → is_unsettled first pivot o ≡ is_unsettled second pivot o
   unsettled_start o = grind (arith, conflicts_same, list_any-append)
 
-  left_out_start : (groups : List Group) (k : ℕ) → is_left_out live first pivot groups k ≡ is_left_out live second pivot groups k
-  left_out_start groups k = cc (unsettled_start (live k))
-
 -- an open walk in code, and the answer from its list
 pub answers_open : (live : Live) (trues : List Literal) (pivot : Literal) (rest c : List Literal) (groups : List Group) (end : ChainEnd) (answer : StepAnswer) → c ≡ pivot ∷ rest → IsEnd trues Open end →
     AnswersGroups live trues pivot groups (groups_refusal live trues pivot [] groups) answer → AnswersChain live c groups end answer
 answers_open live trues pivot rest c groups end answer c_is is_end a =
-    grind (arith, groups_start, left_out_start)
+    grind (arith, groups_start, unsettled_start)
 
 pub first_is : (c : List Literal) (pivot : Literal) → Some pivot ≡ slice_get c 0 → (rest : List Literal) × (c ≡ pivot ∷ rest)
 first_is [] pivot h = absurd (none-some pivot (sym h))
@@ -240,14 +194,11 @@ abbrev IsRuled : Option Refusal → Type 0
 IsRuled (Some Ended) = ⊥
 IsRuled _ = ⊤
 
-ruled_or : (a b : Option Refusal) → IsRuled a → IsRuled b → IsRuled (option_or a b)
-ruled_or a b h h2 = grind arith
-
 module _ (live : Live) (ls : List Literal) (pivot : Literal) where
   ruled_groups : (groups : List Group) (earlier : List ℕ) → IsRuled (groups_refusal live ls pivot earlier groups)
   ruled_groups [] earlier = tt
   ruled_groups (group ∷ groups) earlier =
-      grind (arith, ruled_or, (ruled_groups groups (group.candidate ∷ earlier)))
+      grind (arith, (ruled_groups groups (group.candidate ∷ earlier)))
 
 pub chain_never : (live : Live) (c : List Literal) (groups : List Group) (end : ChainEnd) → AnswersChain live c groups end (Err Ended) → ⊥
 chain_never live c groups end h = search (rules, arith, ruled_groups)
@@ -259,26 +210,12 @@ unless_map answer h h2 = search rules
 
 -- ---- Candidates without a group: whether there are any, and those that are passed over
 
-both_false : (b : Bool) → b && false ≡ false
-both_false b = search rules
-
 -- of numbers that rise, those below one stand before it
 in_front : (ids : List ℕ) → IsStrictlyIncreasing ids → (i x j : ℕ) → i < length ids → x ≡ get_or ids i x → j < x → has ids j ≡ true → has (take i ids) j ≡ true
 in_front ids rising i x j inside is below member =
     let place = place_of ids j member in let m = place.0 in
-    elim (cases_lt m i) [
-      | inl before ↦ grind (arith, has_front)
-      | inr from_on ↦ elim (cases_eq i m) [
-        | inl e ↦ grind (arith, get_or_default_zero)
-        | inr apart ↦
-            let later : i < m = omega (arith, from_on, apart) in
-            let rise = from_less (get_or ids i 0) (get_or ids m 0) (Less-from_sorted nat_cmp ids i m 0 (sorted_from_strictly_increasing ids rising) later place.1) in
-            grind (arith, get_or_default_zero)
-      ]
-    ]
-  where
-    from_less : (a b : ℕ) → nat_cmp a b ≡ Less → a < b
-    from_less a b e = grind (arith, nat_tests)
+    let sorted = sorted_from_strictly_increasing ids rising in
+    grind (arith, nat_tests, has_front, get_or_default_zero, Less-from_sorted nat_cmp ids i m 0 sorted)
 
 module _ (live : Live) (ls : List Literal) (pivot : Literal) (named : List ℕ) where
   unnamed_holds : (k : ℕ) → is_unnamed live ls pivot named k ≡ true → Holds live (complement pivot) k
@@ -288,20 +225,9 @@ module _ (live : Live) (ls : List Literal) (pivot : Literal) (named : List ℕ) 
   pub none_left : ((k : ℕ) → has named k ≡ true → Holds live (complement pivot) k) → IsDistinct nat_eq named →
       (count : ℕ) → ((ids : List ℕ) → AllHold live (complement pivot) ids → length ids ≤ count) → count ≤ length named → IsFirstLeftOut live ls pivot named None
   none_left hold different count most few k =
-      false_from_ne_true (is_unnamed live ls pivot named k) (λ h.
-      let one_more = most (k ∷ named) (grind (arith, distinct_more, not-true, and_parts, has_cases, unnamed_holds)) in
-      grind arith)
+      grind (arith, (most (k ∷ named)), distinct_more, not-true, and_parts, has_cases, unnamed_holds)
 
   -- ---- Whether one of them is left out
-
-  pub not_alive : (k : ℕ) → live k ≡ None → is_unnamed live ls pivot named k ≡ false
-  not_alive k e = cc (both_false (not (has named k)))
-
-  pub known_named : (k : ℕ) → has named k ≡ true → is_unnamed live ls pivot named k ≡ false
-  known_named k known = ap (λ b. not b && is_unsettled ls pivot (live k)) known
-
-  pub unnamed_at : (k : ℕ) (c : Clause) → live k ≡ Some c → has named k ≡ false → (opposite : Literal) → opposite ≡ complement pivot → is_unnamed live ls pivot named k ≡ needs_group_at ls opposite c
-  unnamed_at k c at apart opposite is = cc
 
   -- ---- The walk over all that have the complement
 
@@ -311,20 +237,21 @@ module _ (live : Live) (ls : List Literal) (pivot : Literal) (named : List ℕ) 
     Passed i = (k : ℕ) → has (take i ids) k ≡ true → is_unnamed live ls pivot named k ≡ false
 
     module _ (i : ℕ) (inside : i < length ids) (passed : Passed i) where
-      item : slice_index ids i ≡ get_or ids i (slice_index ids i)
-      item = sym (get_or_default_zero ids i (slice_index ids i) inside)
-
       pub passed_more : is_unnamed live ls pivot named (slice_index ids i) ≡ false → Passed (i + 1)
-      passed_more here k member = elim (or_cases _ _ (sym (has_more ids i inside (slice_index ids i) item k) ∙ member)) [
-        | inl before ↦ passed k before
-        | inr same ↦ grind (arith, eqb-true)
-      ]
+      passed_more here k member =
+          grind (
+            arith,
+            or_cases,
+            eqb-true,
+            get_or_default_zero,
+            (has_more ids i inside (slice_index ids i)),
+          )
 
       pub first_found : IsStrictlyIncreasing ids → ((k : ℕ) → Holds live (complement pivot) k → has ids k ≡ true) → is_unnamed live ls pivot named (slice_index ids i) ≡ true → IsFirstLeftOut live ls pivot named (Some (slice_index ids i))
       first_found rising all here = search (rules, in_front)
 
     pub none_found : ((k : ℕ) → Holds live (complement pivot) k → has ids k ≡ true) → (i : ℕ) → length ids ≤ i → Passed i → IsFirstLeftOut live ls pivot named None
-    none_found all i past passed k = false_from_ne_true (is_unnamed live ls pivot named k) (λ h. true≢false (sym h ∙ passed k (ap (λ l. has l k) (take_all i ids past) ∙ all k (unnamed_holds k h))))
+    none_found all i past passed k = grind (arith, take_all, unnamed_holds)
 
 -- ---- A clause that is added
 
@@ -336,21 +263,19 @@ ready_with trues live after id c same ready room = grind (arith, same_there)
 without_stays : (ids : List ℕ) (live : Live) (k : ℕ) (c : Clause) → without_ids live ids k ≡ Some c → live k ≡ Some c
 without_stays [] live k c h = h
 without_stays (id ∷ ids) live k c h =
-    search (rules, arith, none-some, (without_stays ids (without_id live id) k c h))
+    grind (arith, none-some, (without_stays ids (without_id live id) k c h))
 
 pub ready_without : (trues : TrailState) (live after : Live) (ids : List ℕ) → ((k : ℕ) → after k ≡ without_ids live ids k) → IsReady live trues → IsReady after trues
 ready_without trues live after ids is ready = search (rules, arith, without_stays)
 
-pub deleted_same : (state : LratState) (step : Step) (hints : List ℤ) (after : Live) (top : ℕ) → step.kind ≡ Delete → hints ≡ step.hints → ((k : ℕ) → after k ≡ without_ids state.live (map nat_abs hints) k) → top ≡ state.top →
-    SameClauses after (after_lrat state (lrat_step step)).live × (top ≡ (after_lrat state (lrat_step step)).top)
-deleted_same state step hints after top kind_is hints_are is top_is = grind (arith, SameClauses-eq)
-
-pub on_ok : {X Y : Type 0} (r : Result X Y) (P Q : Type 0) → (P → Q) → OnOk r P → OnOk r Q
-on_ok r P Q h h2 = search rules
-
 -- at the start
 pub ready_empty : (trues : TrailState) (live : FinMap nat_cmp Clause) → trues.lits ≡ [] → live ≡ maps.empty → IsReady (maps.get live) trues
-ready_empty trues live none_true none = record {
-  none_true = none_true;
-  room = record { each = λ k c at l member. absurd (none-some c (sym (sym at ∙ ap (λ m. maps.get m k) none ∙ get-empty nat_cmp k))) };
-}
+ready_empty trues live none_true none = grind (arith, get-empty)
+
+-- what is said of a walk over hints
+pub ruleset walk_steps = (units_more, drop_all, group_walks, chain_conflict)
+
+-- what is said of an addition, and of the candidates that it names
+pub ruleset addition_steps = (ready_with, chain_never, answers_rat, any_named)
+
+pub ruleset candidate_steps = (passed_more, first_found)

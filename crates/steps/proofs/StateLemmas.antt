@@ -1,34 +1,33 @@
 -- States under other names, what is said of their literals, and sessions under either rule.
 use Rattle.cnf_base.proofs.SetLemmas.{has_head, has_tail, same_itself, same_there, same_trans}
 use Rattle.cnf_base.specs.Literals.{Clause, Literal, complement, has, same_clause, size, variable}
-use Rattle.numbering.{proofs.NameLemmas.told, specs.Names.name_in, specs.Names.number_in}
-use Rattle.proofs.specs.{Steps.Step, declared.step_buf.StepKind.StepKind}
-use Rattle.std.proofs.Common.{Bool, IfOk, List, None, OnOk}
-use Rattle.std.proofs.Common.{Option, Some, T, [], ap, arith, cond, eq-eqb, eqb, eqb-true, false}
-use Rattle.std.proofs.Common.{inl, inr, length, map, nat_cmp, option_map, refl, rules, slice_get}
-use Rattle.std.proofs.Common.{subst, suc, sym, true, zero, ℕ, ◌&&◌, ◌+◌, ◌-◌, ◌<◌, ◌∙◌, ◌∷◌, ◌≡◌}
-use Rattle.std.proofs.lemmas.{Bool.false≢true, Bool.or_right, List.length-map}
-use Rattle.std.proofs.lemmas.{List.Sums.sum_by-cons, Option.none-some, Option.slice_get-map}
+use Rattle.std.proofs.Common.{IfOk, List, OnOk, Option, Some, [], ap, arith, eq-eqb, eqb, eqb-true}
+use Rattle.std.proofs.Common.{inl, inr, map, nat_cmp, option_map, refl, rules, slice_get, suc, true}
+use Rattle.std.proofs.Common.{zero, ℕ, ◌&&◌, ◌+◌, ◌∙◌, ◌∷◌, ◌≡◌}
+use Rattle.std.proofs.lemmas.Option.{none-some, slice_get-map}
+use Rattle.std.proofs.lemmas.{Bool.or_right, List.length-map, List.Sums.sum_by-cons, Simd.map-map}
 use Rattle.std.specs.FinMap.{FinMap, find, is_sorted, Entries.below_all}
 use Rattle.std.specs.{List.list_any, Ordering.is_lt, Prelude.nat_abs, Prelude.sum_by, Prelude.⊤}
-use Rattle.steps.specs.Code.Naming.{AreAllAmong, AreAmong, IsGiven, LiveAmong, mapped_values}
-use Rattle.steps.specs.{Code.Naming.with_lits, Session.Held, Session.state_of}
-use Rattle.theory.proofs.DratLemmas.Copies.{alive_at, alive_copies}
-use Rattle.theory.proofs.DratLemmas.Copies.{copies-cons, copies-take_off, copies_alive, covers_of}
+use Rattle.steps.specs.Code.Naming.{AreAllAmong, AreAmong, IsAbsent, IsGiven, LiveAmong}
+use Rattle.steps.specs.{Code.Naming.mapped_values, Code.Naming.with_lits, Session.Held}
+use Rattle.theory.proofs.DratLemmas.Copies.{alive_at, alive_copies, copies-cons, copies-take_off}
 use Rattle.theory.proofs.LratLemmas.{States.has_model_copies, States.has_model_same, Sums.sum_agree}
-use Rattle.theory.proofs.RenamingLemmas.Clauses.{GoesTo, Renames, back_there, has_is, same_mapped}
-use Rattle.theory.proofs.RenamingLemmas.Forced.{Carries, clash_image, forced_image, reason_image}
-use Rattle.theory.proofs.RenamingLemmas.Verdicts.{renamed_complement, renames}
-use Rattle.theory.proofs.RenamingLemmas.{Clauses.take_has, Drat.after_mapped, Forced.carries_back}
+use Rattle.theory.proofs.RenamingLemmas.Clauses.{Renames, back_there, has_is, same_mapped, take_has}
+use Rattle.theory.proofs.RenamingLemmas.Forced.{Carries, carries_back, clash_image, forced_image}
+use Rattle.theory.proofs.RenamingLemmas.{Drat.after_mapped, Forced.reason_image, Verdicts.renames}
+use Rattle.theory.proofs.{DratLemmas.Copies.covers_of, LawLemmas.Rules.keeps}
 use Rattle.theory.specs.Drat.{DratStep, SameLive, after_drat, copies_of, drat_step_of, take_off}
 use Rattle.theory.specs.Losses.{DeleteLoses, LosesRootLiteral, StepLoses}
 use Rattle.theory.specs.Lrat.{SameAt, after_lrat, step_of, with_clause, without_id, without_ids}
 use Rattle.theory.specs.Renaming.{AreUndone, IsRenamed, IsUndone, renamed, step_renamed}
-use Rattle.theory.specs.Rules.{Same, State, after, by_copies, by_ids, literals_of, with_input}
-use Rattle.theory.specs.declared.accepted.Accepted.{Accepted, TheVariants.Deleted}
-use Rattle.theory.specs.{Answers.StepAnswer, Answers.UnlessOutOfMemory, Rules.IsSatisfiable}
-use Rattle.theory.specs.{Propagation.Forced, Propagation.IsClosed, Propagation.Live, Rules.Answers}
-use Rattle.{cnf_base.proofs.MapLemmas.sum_empty, theory.proofs.LawLemmas.Rules.keeps}
+use Rattle.theory.specs.Rules.{Answers, IsSatisfiable, Same, State, after, by_copies, by_ids}
+use Rattle.theory.specs.declared.accepted.Accepted.TheVariants.{Deleted}
+use Rattle.theory.specs.{Answers.UnlessOutOfMemory, Propagation.Forced, Propagation.Live}
+use Rattle.theory.specs.{Rules.literals_of, Rules.with_input, declared.accepted.Accepted.Accepted}
+use Rattle.theory.{proofs.RenamingLemmas.Verdicts.renamed_complement, specs.Answers.StepAnswer}
+use Rattle.{cnf_base.proofs.MapLemmas.sum_empty, numbering.proofs.NameLemmas.told}
+use Rattle.{numbering.specs.Names.name_in, numbering.specs.Names.number_in, proofs.specs.Steps.Step}
+use Rattle.{steps.specs.Session.state_of, theory.proofs.DratLemmas.Copies.copies_alive}
 use Rattle.proofs.specs.declared.step_buf.StepKind.TheVariants as kinds
 use Rattle.std.specs.FinMap as maps
 use Rattle.theory.specs.Drat as d
@@ -52,31 +51,22 @@ module _ (f : Clause → Clause) where
 
   find_changed : (k : ℕ) (es : List (ℕ × Clause)) → find nat_cmp k (changed es) ≡ option_map f (find nat_cmp k es)
   find_changed k [] = refl
-  find_changed k (e ∷ es) = search (rules, arith, nat_cmp, option_map, (find_changed k es))
-
-  values_changed : (es : List (ℕ × Clause)) → map (λ e. e.1) (changed es) ≡ map f (map (λ e. e.1) es)
-  values_changed [] = refl
-  values_changed (e ∷ es) = ap (λ cs. f e.1 ∷ cs) (values_changed es)
+  find_changed k (e ∷ es) = grind (arith, nat_cmp, (find_changed k es))
 
   module _ (m : FinMap nat_cmp Clause) where
-    rising : T (is_sorted nat_cmp (changed (maps.entries m)))
-    rising = subst T (sym (sorted_changed (maps.entries m))) (maps.entries_sorted m)
-
     pub mapped_entries : maps.entries (mapped_values f m) ≡ changed (maps.entries m)
     unfolding mapped_values
-    mapped_entries = maps.entries-from_sorted nat_cmp (changed (maps.entries m)) rising
+    mapped_entries = maps.entries-from_sorted nat_cmp _ (rw sorted_changed (maps.entries_sorted m))
 
     pub mapped_get : (k : ℕ) → maps.get (mapped_values f m) k ≡ option_map f (maps.get m k)
-    mapped_get k = maps.get-entries (mapped_values f m) k ∙ ap (find nat_cmp k) mapped_entries
-        ∙ find_changed k (maps.entries m) ∙ ap (option_map f) (sym (maps.get-entries m k))
+    mapped_get k = grind (arith, mapped_entries, find_changed, maps.get-entries)
 
     pub mapped_list : maps.values (mapped_values f m) ≡ map f (maps.values m)
-    mapped_list = ap (map (λ e. e.1)) mapped_entries ∙ values_changed (maps.entries m)
+    mapped_list = rw mapped_entries (simp map-map)
 
   pub mapped_empty : mapped_values f maps.empty ≡ maps.empty
-  mapped_empty = maps.empty_of_len (mapped_values f maps.empty)
-      (maps.len-entries (mapped_values f maps.empty) ∙ ap length (mapped_entries maps.empty) ∙ length-map (maps.entries maps.empty) (λ e. (e.0, f e.1))
-      ∙ sym (maps.len-entries maps.empty) ∙ maps.len-empty nat_cmp Clause)
+  mapped_empty = maps.empty_of_len _
+      (rw (maps.len-entries, mapped_entries, length-map, ← maps.len-entries) (maps.len-empty _ _))
 
 -- ---- What is said of each literal of the live clauses
 
@@ -93,22 +83,14 @@ module _ (among : Literal → Type 0) where
 
   pub without_among : (ids : List ℕ) (live : Live) → LiveAmong among live → LiveAmong among (without_ids live ids)
   without_among [] live w = w
-  without_among (id ∷ ids) live w = without_among ids (without_id live id) (λ k x. by k x (eqb k id))
-    where
-      by : (k : ℕ) (x : Clause) (b : Bool) → cond b None (live k) ≡ Some x → AreAmong among x
-      by k x b h = grind (arith, none-some)
+  without_among (id ∷ ids) live w =
+      grind (arith, none-some, (without_among ids (without_id live id)))
 
   pub taken_among : (c : Clause) (live : List Clause) → LiveAmong among (slice_get live) → LiveAmong among (slice_get (take_off c live))
-  taken_among c [] w = w
-  taken_among c (e ∷ live) w = by (same_clause c e) (taken_among c live (λ k. w (suc k)))
-    where
-      kept : LiveAmong among (slice_get (take_off c live)) → LiveAmong among (slice_get (e ∷ take_off c live))
-      kept rest zero x at = w zero x at
-      kept rest (suc k) x at = rest k x at
-
-      by : (b : Bool) → LiveAmong among (slice_get (take_off c live)) → LiveAmong among (slice_get (cond b live (e ∷ take_off c live)))
-      by true rest = λ k. w (suc k)
-      by false rest = kept rest
+  taken_among c [] w k x at = w k x at
+  taken_among c (e ∷ live) w zero x at = grind (arith, w 0 x, w 1 x)
+  taken_among c (e ∷ live) w (suc k) x at =
+      grind (arith, (taken_among c live (λ k. w (suc k)) k x), (w (suc (suc k)) x))
 
   -- ---- After a step
 
@@ -121,25 +103,26 @@ module _ (among : Literal → Type 0) where
   drat_among live step word h h2 = grind (arith, taken_among)
 
   pub after_among : (s : State) (lits : List Literal) (step : Step) (word : Accepted) → AreAllAmong among s → AreAmong among lits → AreAllAmong among (after s (with_lits lits step) word)
-  after_among (by_ids s) lits step word w a = by step.kind
-    where
-      by : (kind : StepKind) → AreAllAmong among (by_ids (after_lrat s (step_of kind step.id lits step.hints)))
-      by kinds.Add = with_among s.live step.id lits a w
-      by kinds.Delete = without_among (map nat_abs step.hints) s.live w
+  after_among (by_ids s) lits step word w a =
+      elim step.kind as (λ kind. LiveAmong among (after_lrat s (step_of kind step.id lits step.hints)).live) [
+        | kinds.Add ↦ with_among s.live step.id lits a w
+        | kinds.Delete ↦ without_among (map nat_abs step.hints) s.live w
+      ]
   after_among (by_copies rules live) lits step word w a = drat_among live (drat_step_of rules step.kind lits) word (grind (arith, take_has)) w
 
   -- a deletion adds no literal, whatever its own are
   pub deleted_among : (s : State) (lits : List Literal) (step : Step) (word : Accepted) → step.kind ≡ kinds.Delete → AreAllAmong among s → AreAllAmong among (after s (with_lits lits step) word)
   deleted_among (by_ids s) lits step word is w =
-      subst (λ kind. AreAllAmong among (by_ids (after_lrat s (step_of kind step.id lits step.hints)))) (sym is) (without_among (map nat_abs step.hints) s.live w)
+      rw is (without_among (map nat_abs step.hints) s.live w)
   deleted_among (by_copies rules live) lits step word is w = grind (arith, drat_among)
 
   pub input_among : (s : State) (c : Clause) → AreAllAmong among s → AreAmong among c → AreAllAmong among (with_input s c)
   input_among s c h h2 = grind arith
 
--- a list with a literal that no live clause holds is no live clause
-pub lacks : (lits : List Literal) (l : Literal) (live : List Clause) → has lits l ≡ true → ((k : ℕ) (c : Clause) → slice_get live k ≡ Some c → has c l ≡ false) → list_any (same_clause lits) live ≡ false
-lacks lits l live member none = grind (arith, alive_at, same_there)
+  -- literals of which one is none of these are no live clause
+  pub lacks : (s : State) (lits : List Literal) (l : Literal) → has lits l ≡ true → (among l → ⊥)
+      → AreAllAmong among s → IsAbsent s lits
+  lacks s lits l member other given = grind (arith, alive_at, same_there)
 
 -- ---- States under other names
 
@@ -153,124 +136,107 @@ any_at e d (c ∷ live) (suc k) at same = or_right (same_clause e c) _ (any_at e
 any_at e d live k h h2 = search rules
 
 copies_own : (c : Clause) (live : List Clause) → copies_of c (c ∷ live) ≡ 1 + copies_of c live
-copies_own c live = copies-cons c c live ∙ ap (λ b. cond b 1 0 + copies_of c live) (same_itself c)
+copies_own c live = grind (arith, copies-cons c c live, same_itself c)
 
 module _ (name back : ℕ → ℕ) where
   -- ---- The same clauses
 
   at_same : (a b : Option Clause) → ((c : Clause) → a ≡ Some c → IsUndone name back c) → ((c : Clause) → b ≡ Some c → IsUndone name back c) → SameAt a b →
       SameAt (option_map (map (renamed name)) a) (option_map (map (renamed name)) b)
-  at_same None None a_told b_told same = tt
-  at_same (Some c) (Some e) a_told b_told same = same_mapped (renamed name) (renamed back) (IsTold name back) (renames name back) c e (a_told c refl) (b_told e refl) ∙ same
-  at_same a b a_told b_told same = absurd same
+  at_same a b a_told b_told same =
+      let alike = same_mapped (renamed name) _ _ (renames name back) in grind (arith, alike)
 
   take_off_renamed : (c : Clause) (live : List Clause) → IsUndone name back c → AreUndone name back (slice_get live) →
       take_off (map (renamed name) c) (map (map (renamed name)) live) ≡ map (map (renamed name)) (take_off c live)
-  take_off_renamed c live told undone = after_mapped (renamed name) (renamed back) (IsTold name back) (renames name back) (renamed_complement back) live (d.delete c) Deleted undone told
+  take_off_renamed c live told undone = after_mapped _ _ _ (renames name back)
+      (renamed_complement back) live (d.delete c) Deleted undone told
 
   -- a live clause's image is alive
   alive_renamed : (c : Clause) (live : List Clause) → IsUndone name back c → AreUndone name back (slice_get live) → list_any (same_clause c) live ≡ true →
       (e : Clause) → same_clause e (map (renamed name) c) ≡ true → list_any (same_clause e) (map (map (renamed name)) live) ≡ true
   alive_renamed c live told undone alive e same =
       let w = alive_at c live alive in
-      any_at e (map (renamed name) w.1) (map (map (renamed name)) live) w.0
-      (grind (arith, slice_get-map, map, option_map))
-      (same_trans e (map (renamed name) c) (map (renamed name) w.1) same
-      (same_mapped (renamed name) (renamed back) (IsTold name back) (renames name back) c w.1 told (undone w.0 w.1 w.2) ∙ w.3))
+      let alike = same_mapped _ _ _ (renames name back) c w.1 told (undone w.0 w.1 w.2) in
+      any_at e (map (renamed name) w.1) _ w.0 (grind (arith, slice_get-map))
+      (same_trans e _ _ same (alike ∙ w.3))
 
   copies_renamed : (first second : List Clause) → AreUndone name back (slice_get first) → AreUndone name back (slice_get second) → SameLive first second →
       (e : Clause) → copies_of e (map (map (renamed name)) first) ≡ copies_of e (map (map (renamed name)) second)
   copies_renamed [] [] first_told second_told same e = refl
   copies_renamed [] (c ∷ second) first_told second_told same e =
-      absurd (let own = copies_own c second in let is : 0 ≡ copies_of c (c ∷ second) = same.copies c in let wrong : ⊥ = omega arith in wrong)
+      absurd (grind (arith, copies_own c second, same.copies c))
   copies_renamed (c ∷ first) second first_told second_told same e =
       let own = copies_own c first in let is = same.copies c in
-      let positive : 0 < copies_of c second = omega arith in
-      let alive = copies_alive c second positive in let told = first_told zero c refl in
-      let rest : SameLive first (take_off c second) = record { copies = λ x. less (cond (same_clause x c) 1 0) (copies_of x first) _ _ _ (copies-cons x c first) (same.copies x) (copies-take_off x c second) } in
-      let below = copies_renamed first (take_off c second) (λ k. first_told (suc k)) (taken_among (IsTold name back) c second second_told) rest e in
-      copies-cons e (map (renamed name) c) (map (map (renamed name)) first)
-      ∙ ap (λ n. cond (same_clause e (map (renamed name) c)) 1 0 + n)
-      (below ∙ ap (copies_of e) (sym (take_off_renamed c second told second_told)) ∙ copies-take_off e (map (renamed name) c) (map (map (renamed name)) second))
-      ∙ whole (same_clause e (map (renamed name) c)) (copies_of e (map (map (renamed name)) second))
-      (λ same. alive_copies e (map (map (renamed name)) second) (alive_renamed c second told second_told alive e same))
-    where
-      less : (n x more there rest : ℕ) → more ≡ n + x → more ≡ there → rest ≡ there - n → x ≡ rest
-      less n x more there rest h i j = omega arith
-
-      whole : (b : Bool) (n : ℕ) → (b ≡ true → 0 < n) → cond b 1 0 + (n - cond b 1 0) ≡ n
-      whole b n h = grind arith
+      let alive = copies_alive c second (omega arith) in let told = first_told zero c refl in
+      let rest : SameLive first (take_off c second) = record {
+        copies = λ x. grind (arith, copies-cons x c first, same.copies x, copies-take_off x c second);
+      } in
+      let below = copies_renamed first (take_off c second) (λ k. first_told (suc k))
+      (taken_among (IsTold name back) c second second_told) rest e in
+      let off = ap (copies_of e) (take_off_renamed c second told second_told) in
+      let there = alive_renamed c second told second_told alive e in
+      let image = map (renamed name) c in let others = map (map (renamed name)) second in
+      grind (
+        arith,
+        copies-cons e image (map (map (renamed name)) first),
+        copies-take_off e image others,
+        alive_copies e others,
+      )
 
   pub renamed_same : (s t other_s other_t : State) → IsRenamed name back s other_s → IsRenamed name back t other_t → Same s t → Same other_s other_t
-  renamed_same (by_ids s) (by_ids t) (by_ids other_s) (by_ids other_t) p q same =
-      grind (arith, at_same)
-  renamed_same (by_copies rules live) (by_copies rules_too others) (by_copies rules_s other_s) (by_copies rules_t other_t) p q same = (
-    p.0 ∙ same.0 ∙ sym q.0,
-    record { copies = λ e. ap (copies_of e) p.1 ∙ copies_renamed live others p.2 q.2 same.1 e ∙ ap (copies_of e) (sym q.1) },
-  )
-  renamed_same s t other_s other_t p q same = grind arith
-
-  -- ---- One more clause of the formula
+  renamed_same (by_copies rules live) (by_copies _ others) (by_copies _ _) (by_copies _ _) p q same =
+      (cc, record { copies = λ e. rw (p.1, q.1) (copies_renamed live others p.2 q.2 same.1 e) })
+  renamed_same s t other_s other_t p q same = grind (arith, at_same)
 
   -- ---- Sizes
 
   pub size_renamed : (c : Clause) → IsUndone name back c → size (map (renamed name) c) ≡ size c
   size_renamed [] told = refl
   size_renamed (l ∷ c) told =
-      ap (λ b. cond b (size (map (renamed name) c)) (1 + size (map (renamed name) c)))
-      (has_is (renamed name) (renamed back) (IsTold name back) (renames name back) c (λ k h. told k (has_tail l c k h)) l (told l (has_head l c)))
-      ∙ ap (λ n. cond (has c l) n (1 + n)) (size_renamed c (λ k h. told k (has_tail l c k h)))
+      let later = λ (k : Literal) (h : has c k ≡ true). told k (has_tail l c k h) in
+      cc (has_is _ _ _ (renames name back) c later l (told l (has_head l c)), size_renamed c later)
 
   sizes_renamed : (live : List Clause) → AreUndone name back (slice_get live) → sum_by size (map (map (renamed name)) live) ≡ sum_by size live
   sizes_renamed [] undone = refl
   sizes_renamed (c ∷ live) undone =
       cc (
-        (sum_by-cons _ _ _),
-        (size_renamed c (undone zero c refl)),
-        (sum_by-cons size c live),
-        (sizes_renamed live (λ k. undone (suc k))),
+        sum_by-cons _ _ _,
+        size_renamed c (undone zero c refl),
+        sum_by-cons size c live,
+        sizes_renamed live (λ k. undone (suc k)),
       )
 
   pub renamed_size : (s other : State) → IsRenamed name back s other → literals_of other ≡ literals_of s
-  renamed_size (by_ids s) (by_ids t) r = grind (arith, sum_agree, size_renamed)
   renamed_size (by_copies rules live) (by_copies rules_too other) r = cc (sizes_renamed live r.2)
-  renamed_size s other r = absurd r
+  renamed_size s other r = grind (arith, sum_agree, size_renamed)
 
 -- ---- Root-level literals that deletions lose
 
 module _ (there back : Literal → Literal) (among : Literal → Type 0) where
   -- where nothing is assumed, what is forced can be told
   forced_told : (live other : Live) → Carries there back among live other → (l : Literal) → Forced live [] l → back (there l) ≡ l
-  forced_told live other s l forced = grind (arith, eqb-true, closed, false≢true)
-    where
-      closed : IsClosed live (λ k. eqb (back (there k)) k)
-      closed = grind (arith, eq-eqb)
+  forced_told live other s l forced = eqb-true _ _
+      (forced.in_each (λ k. eqb (back (there k)) k) (grind (arith, eq-eqb)) (grind arith))
 
   module _ (commutes : (l : Literal) → complement (back l) ≡ back (complement l)) (before first after second : Live) (s : Carries there back among before first) (t : Carries there back among after second) where
     loses_image : (c : Clause) → LosesRootLiteral before after c → LosesRootLiteral first second (map there c)
-    loses_image c (inl clash) =
-        inl (clash_image there s.renames.commutes before first s.images [] clash.0, reason_image there back among before first s c clash.1)
+    loses_image c (inl clash) = inl (
+      clash_image _ s.renames.commutes _ _ s.images [] clash.0,
+      reason_image _ _ _ before first s c clash.1,
+    )
     loses_image c (inr loses) = inr (
-      λ clash. loses.0 (clash_image back commutes first before s.images_back [] clash),
+      λ clash. loses.0 (clash_image _ commutes _ _ s.images_back [] clash),
       record {
         literal = there loses.1.literal;
-        forced = forced_image there s.renames.commutes before first s.images [] loses.1.literal loses.1.forced;
-        lost = λ forced. loses.1.lost (subst (Forced after []) (forced_told before first s loses.1.literal loses.1.forced)
-            (forced_image back commutes second after t.images_back [] (there loses.1.literal) forced));
+        forced = forced_image _ s.renames.commutes _ _ s.images [] _ loses.1.forced;
+        lost = λ forced. loses.1.lost (rw (forced_told before first s _ loses.1.forced) at
+            (forced_image _ commutes _ _ t.images_back [] _ forced));
       },
     )
 
 module _ (there back : Literal → Literal) (among : Literal → Type 0) (r : Renames there back among) where
-  image_back : (o : Option Clause) → ((c : Clause) → o ≡ Some c → AreAmong among c) → (e : Clause) → option_map (map there) o ≡ Some e → o ≡ Some (map back e)
-  image_back o h e h2 = grind (arith, back_there)
-
   listed : (live : List Clause) → ((k : ℕ) (c : Clause) → slice_get live k ≡ Some c → AreAmong among c) → Carries there back among (slice_get live) (slice_get (map (map there) live))
-  listed live within = record {
-    renames = r;
-    images = grind (arith, slice_get-map);
-    images_back = λ k e at. image_back (slice_get live k) (within k) e (sym (slice_get-map (map there) live k) ∙ at);
-    within = within;
-  }
+  listed live within = grind (arith, slice_get-map, back_there)
 
 module _ (name back : ℕ → ℕ) where
   module _ (live : List Clause) (c : Clause) (undone : AreUndone name back (slice_get live)) (told : IsUndone name back c) where
@@ -278,29 +244,25 @@ module _ (name back : ℕ → ℕ) where
     before_carried = search (rules, listed, renames)
 
     after_carried : Carries (renamed name) (renamed back) (IsTold name back) (slice_get (take_off c live)) (slice_get (take_off (map (renamed name) c) (map (map (renamed name)) live)))
-    after_carried =
-        rw (after_mapped (renamed name) (renamed back) (IsTold name back) (renames name back) (renamed_complement back) live (d.delete c) Deleted undone told)
-        (listed (renamed name) (renamed back) (IsTold name back) (renames name back) (take_off c live) (taken_among (IsTold name back) c live undone))
+    after_carried = rw (take_off_renamed name back c live told undone)
+        (listed _ _ _ (renames name back) (take_off c live) (taken_among (IsTold name back) c live undone))
 
     loses_there : (word : Accepted) → DeleteLoses live c word → DeleteLoses (map (map (renamed name)) live) (map (renamed name) c) word
-    loses_there Deleted loses = loses_image (renamed name) (renamed back) (IsTold name back) (renamed_complement back) _ _ _ _ before_carried after_carried c loses
+    loses_there Deleted loses =
+        loses_image _ _ _ (renamed_complement back) _ _ _ _ before_carried after_carried c loses
     loses_there word loses = absurd loses
 
     loses_back : (word : Accepted) → DeleteLoses (map (map (renamed name)) live) (map (renamed name) c) word → DeleteLoses live c word
     loses_back Deleted loses =
-        subst (LosesRootLiteral (slice_get live) (slice_get (take_off c live))) (back_there (renamed name) (renamed back) (IsTold name back) (renames name back) c told)
-        (loses_image (renamed back) (renamed name) (GoesTo (renamed name) (IsTold name back)) (renamed_complement name) _ _ _ _
-        (carries_back (renamed name) (renamed back) (IsTold name back) _ _ before_carried (renamed_complement back))
-        (carries_back (renamed name) (renamed back) (IsTold name back) _ _ after_carried (renamed_complement back))
-        (map (renamed name) c) loses)
+        let returned = carries_back _ _ _ _ _ before_carried (renamed_complement back) in
+        let returned_too = carries_back _ _ _ _ _ after_carried (renamed_complement back) in
+        rw (back_there _ _ _ (renames name back) c told) at
+        (loses_image _ _ _ (renamed_complement name) _ _ _ _ returned returned_too (map (renamed name) c) loses)
     loses_back word loses = absurd loses
 
   pub renamed_loses : (s other : State) (step : Step) (word : Accepted) → IsRenamed name back s other → IsUndone name back step.lits →
       (StepLoses s step word → StepLoses other (step_renamed (renamed name) step) word) × (StepLoses other (step_renamed (renamed name) step) word → StepLoses s step word)
-  renamed_loses (by_ids s) (by_ids t) step word r told = (λ loses. loses, λ loses. loses)
-  renamed_loses (by_copies rules live) (by_copies rules_too other) step word r told =
-      grind (arith, loses_there, loses_back)
-  renamed_loses s other step word r told = absurd r
+  renamed_loses s other step word r told = grind (arith, loses_there, loses_back)
 
 -- ---- What holds of a session under either rule
 

@@ -67,6 +67,7 @@ fn judge(
 }
 
 /// Judges an addition, and adds the clause where it is accepted.
+#[tactic(auto, using(crate::proofs::LratLemmas::addition_steps))]
 fn take_addition(
     room: &mut HintsRoom,
     held: &mut LiveClauses,
@@ -98,6 +99,7 @@ fn take_addition(
 
 impl Session<Named<LratJudge>> {
     /// A session without clauses.
+    #[tactic(auto, using(crate::proofs::LratLemmas::ready_empty))]
     pub fn new(alloc: Global) -> Result<Self, OutOfMemory>
         ensures { IfOk result (λ session. session ≡ fresh lrat) }
     {
@@ -132,6 +134,7 @@ impl Judge for LratJudge {
 
     ghost is_ready = { λ s. IsReady (maps.get s.held.live) s.trues };
 
+    #[tactic(auto, using(crate::proofs::LratLemmas::ready_with))]
     fn input(&mut self, lits: &[Lit]) -> Result<(), OutOfMemory> {
         self.trues.reserve_all(lits)?;
         let id = self.held.top() + 1;

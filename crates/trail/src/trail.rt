@@ -197,6 +197,7 @@ impl Trail {
 
     /// How many literals were set. They are at most as many as the variables for which there is
     /// room.
+    #[tactic(auto, using(crate::proofs::TrailLemmas::Values::fits_within))]
     pub fn len(&self) -> usize
         ensures value { result ≡ length self.now.lits }
         ensures different { HasNoVariableTwice self.now.lits }
@@ -316,6 +317,7 @@ impl Trail {
     }
 
     /// Whether the literal is false.
+    #[tactic(auto, using(crate::proofs::TrailLemmas::MakesFalse::value_not_false))]
     pub fn is_false(&self, l: Lit) -> bool
         ensures { result ≡ has self.now.lits (complement l) }
     {

@@ -1,4 +1,5 @@
 -- How many of the clauses have a literal: through a change of the clauses, and so far in a walk.
+use Rattle.cnf_base.proofs.WalkLemmas.{is_in}
 use Rattle.std.proofs.Common.{◌≡◌, ℕ, ◌+◌, ◌<◌, ◌≤◌, Bool, true, false, cond, eqb, eqb-true, Option}
 use Rattle.std.proofs.Common.{Some, None, is_some, ◌||◌, length, take, get_or, refl, sym, ap, ◌∙◌}
 use Rattle.std.proofs.{Common.arith, lemmas.Bool.true≢false}
@@ -10,7 +11,7 @@ use Rattle.cnf_base.proofs.MapLemmas.{insert_here, insert_other, same_maps, sum_
 use Rattle.cnf_base.proofs.MapLemmas.{sum_insert, sum_remove, sum_replace}
 use Rattle.clause_db.specs.Store.{copies_with}
 use Rattle.clause_db.specs.Code.{Counts.AreCounted, Counts.count_of, Kept.has_in}
-use Rattle.clause_db.proofs.StoreLemmas.Marks.{eqb_turn, new_here}
+use Rattle.clause_db.proofs.StoreLemmas.Marks.{eqb_turn, new_here, size_more}
 use Rattle.tables.specs.{Filled.at, declared.filled.Filled.Filled}
 
 abbrev with_literal : ℕ → Clause → ℕ
@@ -116,3 +117,6 @@ pub count_whole : (live : FinMap nat_cmp Clause) (slot : ℕ) (l : Literal) (cou
     → ((s : ℕ) → is_some (maps.get live s) ≡ true → s < slot) → IsCountBelow live slot l count
     → count ≡ copies_with live l
 count_whole live slot l count all so_far = grind (arith, same_maps)
+
+-- what is said of literals that are counted
+pub ruleset count_steps = (met_more, new_here, size_more, is_in)

@@ -1,4 +1,5 @@
 -- What is so of the fields of a store, through a change.
+use Rattle.cnf_base.proofs.MapLemmas.{insert_here, insert_other}
 use Rattle.std.proofs.Common.{◌≡◌, ℕ, ◌+◌, ◌-◌, ◌*◌, ◌<◌, ◌≤◌, Bool, true, false, is_some, Some}
 use Rattle.std.proofs.Common.{None, length, arith, nat_cmp}
 use Rattle.std.specs.FinMap.{FinMap}
@@ -56,3 +57,6 @@ module _ (live : FinMap nat_cmp Clause) (stored : ℕ) (marks : Filled Bool) (su
       where
         same_size : size y ≡ size x
         same_size = grind (arith, size_same)
+
+-- what is said of a clause that is inserted
+pub ruleset insert_steps = (insert_here, insert_other)

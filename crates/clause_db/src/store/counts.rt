@@ -53,6 +53,7 @@ fn count_down(counts: &mut Filled<u32>, l: Lit)
 }
 
 /// Counts each of the literals once less, where no literal is repeated.
+#[tactic(auto, using(crate::proofs::StoreLemmas::Counts::count_steps))]
 fn release(counts: &mut Filled<u32>, lits: &[Lit])
     requires different { size lits.now ≡ length lits.now }
     requires counted { (l : ℕ) → has lits.now l ≡ true → 0 < count_of (at counts.old l) }
@@ -66,6 +67,7 @@ fn release(counts: &mut Filled<u32>, lits: &[Lit])
 
 /// Counts each of the literals once more, where no literal is repeated. Where memory is refused, it
 /// counts none.
+#[tactic(auto, using(crate::proofs::StoreLemmas::Counts::count_steps))]
 fn count_all(counts: &mut Filled<u32>, lits: &[Lit]) -> Result<(), OutOfMemory>
     requires different { size lits.now ≡ length lits.now }
     requires few { (l : ℕ) → count_of (at counts.old l) < 4294967295 }

@@ -58,6 +58,7 @@ fn is_among(lits: &[Lit], l: Lit) -> bool
 
 /// Whether no literal is repeated. It takes a time that grows with the square of how many there are.
 #[inline(always)]
+#[tactic(auto, using(crate::proofs::StoreLemmas::Marks::size_more))]
 pub(crate) fn are_different(lits: &[Lit]) -> bool
     ensures { result ≡ true → size lits.now ≡ length lits.now }
 {

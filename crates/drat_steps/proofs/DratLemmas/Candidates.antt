@@ -11,7 +11,7 @@ use Rattle.drat_steps.specs.declared.candidates.{Candidates.TheVariants.ReducedB
 use Rattle.drat_steps.{proofs.DratLemmas.Steps.clash_same, specs.Code.Assumed.IsAsBefore}
 use Rattle.propagation.specs.Assumptions.{HasAt, LastIsAnswered, MayAssume, Propagation, assumed_by}
 use Rattle.std.proofs.Common.{Bool, Some, arith, eqb-true, false, get_or, inl, inr, is_some, length}
-use Rattle.std.proofs.Common.{List, rules, slice_index, subst, sym, take, true, ◌++◌, ◌+◌, ◌<◌, ◌≡◌}
+use Rattle.std.proofs.Common.{List, rules, slice_index, take, true, ◌++◌, ◌+◌, ◌<◌, ◌≡◌}
 use Rattle.std.proofs.{Common.IsSome, lemmas.Bool.or_cases, lemmas.Grind.get_or_default_zero}
 use Rattle.std.{proofs.Common.ℕ, specs.FinMap.FinMap, specs.List.list_any, specs.Ordering.nat_cmp}
 use Rattle.theory.proofs.PropagationLemmas.Forced.{forced_assumed, forced_through}
@@ -55,8 +55,7 @@ passes_before before after same candidates slot found passes is h = search rules
 pub clashed_after : (before after : Propagation) → IsAsBefore before after → (them : Candidates) (last : Clashed) → HasClashed before them last → HasClashed after them last
 clashed_after before after same them last known = record {
   left = known.left;
-  clashes = λ some.
-      rw same.live (rw same.assumptions (known.clashes some));
+  clashes = λ some. rw same.live (rw same.assumptions (known.clashes some));
 }
 
 -- more literals assumed false clash too

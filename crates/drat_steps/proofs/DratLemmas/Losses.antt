@@ -5,19 +5,18 @@ use Rattle.cnf_base.specs.Literals.{Clause, Literal, has, same_clause}
 use Rattle.drat_steps.proofs.DratLemmas.Steps.{covered_by_slots, reason-slots, slots-clash}
 use Rattle.drat_steps.proofs.DratLemmas.Steps.{slots-reason, slots-remove, slots_covered}
 use Rattle.propagation.specs.Assumptions.{Assuming, IsAnswer, IsValue, Propagation, assumed_by}
-use Rattle.std.proofs.Common.{Bool, IfOk, IsSome, List}
-use Rattle.std.proofs.Common.{Ok, OnErr, Result, Some, [], ap, arith, false, inl, inr, is_some}
-use Rattle.std.proofs.Common.{refl, rules, slice_get, subst, sym, true, ℕ, ◌↔◌, ◌≡◌, ◌≤◌, ◌⊎◌}
+use Rattle.std.proofs.Common.{Bool, IfOk, IsSome, List, Ok, Result, Some, [], arith, false, inl}
+use Rattle.std.proofs.Common.{inr, is_some, refl, rules, slice_get, sym, true, ℕ, ◌↔◌, ◌≡◌, ◌≤◌}
 use Rattle.std.{proofs.lemmas.Bool.cases_Bool, proofs.lemmas.Bool.false≢true, specs.FinMap.FinMap}
 use Rattle.theory.proofs.LawLemmas.Losses.{no_reason_kept, none_held, still_held}
 use Rattle.theory.proofs.PropagationLemmas.Covers.{Covers, clash_covers, forced_covers}
+use Rattle.theory.proofs.{PropagationLemmas.Forced.clash_through, DratLemmas.Copies.covers_of}
 use Rattle.theory.specs.Propagation.{Clash, Forced, IsRootReason, Live, by_both}
-use Rattle.theory.specs.declared.accepted.Accepted.TheVariants.{Deleted}
-use Rattle.theory.specs.{Drat.SameLive, Drat.take_off, Losses.DeleteLoses}
-use Rattle.trail.specs.declared.value.Value.TheVariants.{False, Open, True}
-use Rattle.{clause_db.specs.Store.literals_in, theory.proofs.PropagationLemmas.Forced.clash_through}
+use Rattle.theory.specs.{declared.accepted.Accepted.TheVariants.Deleted, Losses.DeleteLoses}
+use Rattle.trail.specs.declared.value.Value.TheVariants.{False, True}
+use Rattle.{clause_db.specs.Store.literals_in, std.proofs.Common.◌⊎◌}
 use Rattle.{propagation.specs.declared.answer.Answer.Answer, trail.specs.declared.value.Value.Value}
-use Rattle.{std.specs.Ordering.nat_cmp, theory.proofs.DratLemmas.Copies.covers_of}
+use Rattle.{theory.specs.Drat.SameLive, theory.specs.Drat.take_off, std.specs.Ordering.nat_cmp}
 use Rattle.std.specs.FinMap as maps
 use Rattle.propagation.specs.declared.answer.Answer.TheVariants as answers
 
@@ -52,10 +51,8 @@ module _ (live : FinMap nat_cmp Clause) (slot : ℕ) (c lits : Clause) (there : 
 
   -- past a clash
   pub loses_past_clash : Clash (maps.get live) [] → IsRootReason (maps.get live) c → (true ≡ true) ↔ Loses
-  loses_past_clash clash reason = (
-    λ is. inl ((slots-clash live []).0 clash, slots-reason live c lits same reason),
-    λ loses. refl,
-  )
+  loses_past_clash clash reason =
+      (λ is. inl ((slots-clash live []).0 clash, slots-reason live c lits same reason), λ loses. refl)
 
   module _ (quiet : ¬ Clash (maps.get live) []) where
     quiet_listed : ¬ Clash (slice_get (maps.values live)) []
@@ -97,14 +94,8 @@ pub unlost : (had : Bool) (before after : Propagation) (slot : ℕ) (lits : Clau
     → ((e : Clause) → maps.get after.live slot ≡ Some e → ¬ IsRootReason (maps.get after.live) e)
     → (had ≡ true) ↔ ((had ≡ true) ⊎ DeleteLoses (maps.values before.live) lits Deleted)
 unlost had before after slot lits same found none =
-    let None : FinMap _ _ → Type 0 = λ m. (e : Clause) → maps.get m slot ≡ Some e
-    → ¬ IsRootReason (maps.get m) e in
-    noted_before had _ (reasonless before.live slot found.0 lits found.1 found.2
-    (subst None (ap (λ s. s.live) same) none found.0 found.1))
-
--- a loss was noted before
-pub noted_already : (had : Bool) (X : Type 0) → had ≡ true → (had ≡ true) ↔ ((had ≡ true) ⊎ X)
-noted_already had X is = grind arith
+    let shown = rw same at none in
+    noted_before had _ (reasonless before.live slot found.0 lits found.1 found.2 (shown found.0 found.1))
 
 -- nothing was noted before
 pub noted_now : (had told : Bool) (X : Type 0) → had ≡ false → (told ≡ true) ↔ X → (told ≡ true) ↔ ((had ≡ true) ⊎ X)
@@ -114,9 +105,8 @@ noted_now had told X none tells = search rules
 
 -- what isn't true doesn't follow, where nothing clashes
 pub not_forced : (live : Live) (assumed : List Literal) (l : Literal) (v : Value) → ¬ Clash live assumed → IsValue live assumed l v → (v ≡ True → ⊥) → ¬ Forced live assumed l
-not_forced live assumed l True quiet is not f = not refl
 not_forced live assumed l False quiet is not f = quiet (by_both l f is)
-not_forced live assumed l Open quiet is not f = is.0 f
+not_forced live assumed l v quiet is not f = grind arith
 
 -- ---- Nothing is assumed but what is
 
@@ -151,9 +141,6 @@ module _ {E : Type 0} (before after : Propagation) (answer : Answer) (idle : bef
 
 pub if_ok_both : {A E : Type 0} (result : Result A E) (X Y Z : A → Type 0) → ((a : A) → X a → Y a → Z a) → IfOk result X → IfOk result Y → IfOk result Z
 if_ok_both result X Y Z h h2 h3 = search rules
-
-pub on_err_too : {A E : Type 0} (result : Result A E) (X : Type 0) → X → OnErr result X
-on_err_too result X h = search rules
 
 -- without a clause there are no more literals
 pub fewer_literals : (live : FinMap nat_cmp Clause) (slot : ℕ) → IsSome (maps.get live slot) → literals_in (maps.remove live slot) ≤ literals_in live

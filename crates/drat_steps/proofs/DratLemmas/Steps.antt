@@ -20,7 +20,7 @@ use Rattle.theory.proofs.DratLemmas.Copies.{alive_at, copies-cons, copies-take_o
 use Rattle.theory.proofs.PropagationLemmas.Covers.{Covers, clash_covers, reason_covers}
 use Rattle.theory.proofs.PropagationLemmas.Forced.{clash_by_false, clash_through, forced_assumed}
 use Rattle.theory.proofs.{DratLemmas.Copies.rat_covers, PropagationLemmas.Conflicts.not_both}
-use Rattle.theory.specs.Drat.{AnswersListed, AnswersWithWitness, SameLive, copies_of, take_off}
+use Rattle.theory.specs.Drat.{AnswersListed, AnswersWithWitness, SameLive, take_off}
 use Rattle.theory.specs.Propagation.{HasPr, HasRat, HasRup, IsRootReason, Live, open_literals}
 use Rattle.theory.specs.declared.accepted.Accepted.TheVariants.{Deleted, Ignored, Pr, Rat}
 use Rattle.theory.specs.declared.refusal.Refusal.TheVariants.{InconsistentSet, NeitherRupNorPr}
@@ -59,40 +59,41 @@ find_listed (x ∷ es) k c at = elim (cases_Bool (eq_by_cmp nat_cmp k x.0)) [
 
 listed_found : (es : List (ℕ × Clause)) → T (is_sorted nat_cmp es) → (j : ℕ) (c : Clause) → slice_get (clauses_in es) j ≡ Some c → (k : ℕ) × (find nat_cmp k es ≡ Some c)
 listed_found [] sorted j c at = absurd (none-some c at)
-listed_found (x ∷ es) sorted zero c at = (x.0, ap (λ b. cond b (Some x.1) (find nat_cmp x.0 es)) (eq_itself x.0) ∙ at)
+listed_found (x ∷ es) sorted zero c at = (x.0, grind (arith, eq_itself))
 listed_found (x ∷ es) sorted (suc j) c at =
-    search (
-      rules,
-      arith,
-      both,
-      below_found,
-      false_from_ne_true,
-      tied,
-      (listed_found es (grind (arith, both)) j c at),
-    )
+    let later = listed_found es (grind (arith, both)) j c at in
+    search (rules, arith, both, below_found, false_from_ne_true, tied, later)
 
-pub slots_covered : (m : FinMap nat_cmp Clause) → Covers (maps.get m) (slice_get (maps.values m))
-slots_covered m k c at = let w = find_listed _ _ _ (sym (get-entries m k) ∙ at) in (w.0, c, w.1, same_itself c)
+module _ (m : FinMap nat_cmp Clause) where
+  pub slots_covered : Covers (maps.get m) (slice_get (maps.values m))
+  slots_covered k c at =
+      let w = find_listed _ k c (grind (arith, get-entries)) in (w.0, c, w.1, same_itself c)
 
-pub covered_by_slots : (m : FinMap nat_cmp Clause) → Covers (slice_get (maps.values m)) (maps.get m)
-covered_by_slots m j c at = let w = listed_found _ (maps.entries_sorted m) j c at in (w.0, c, get-entries m w.0 ∙ w.1, same_itself c)
+  pub covered_by_slots : Covers (slice_get (maps.values m)) (maps.get m)
+  covered_by_slots j c at = let w = listed_found _ (maps.entries_sorted m) j c at in
+      (w.0, c, get-entries m w.0 ∙ w.1, same_itself c)
 
--- propagation, RAT and PR over the slots are those over the list of values
-pub slots-clash : (m : FinMap nat_cmp Clause) (assumed : List Literal) → Clash (maps.get m) assumed ↔ Clash (slice_get (maps.values m)) assumed
-slots-clash m assumed = search (rules, arith, clash_covers, slots_covered, covered_by_slots)
+  -- propagation, RAT and PR over the slots are those over the list of values
+  pub slots-clash : (assumed : List Literal)
+      → Clash (maps.get m) assumed ↔ Clash (slice_get (maps.values m)) assumed
+  slots-clash assumed = search (rules, arith, clash_covers, slots_covered, covered_by_slots)
 
-pub slots-rat : (m : FinMap nat_cmp Clause) (c : Clause) (pivot : Literal) → HasRat (maps.get m) c pivot ↔ HasRat (slice_get (maps.values m)) c pivot
-slots-rat m c pivot = search (rules, arith, rat_covers, slots_covered, covered_by_slots)
+  slots-rat : (c : Clause) (pivot : Literal)
+      → HasRat (maps.get m) c pivot ↔ HasRat (slice_get (maps.values m)) c pivot
+  slots-rat c pivot = search (rules, arith, rat_covers, slots_covered, covered_by_slots)
 
-pub slots-pr : (m : FinMap nat_cmp Clause) (c set : List Literal) → HasPr (maps.get m) c set ↔ HasPr (slice_get (maps.values m)) c set
-slots-pr m c set = search (rules, arith, pr_covers, slots_covered, covered_by_slots)
+  slots-pr : (c set : List Literal)
+      → HasPr (maps.get m) c set ↔ HasPr (slice_get (maps.values m)) c set
+  slots-pr c set = search (rules, arith, pr_covers, slots_covered, covered_by_slots)
 
--- a clause that is the reason of a root-level literal, however it is written
-pub slots-reason : (m : FinMap nat_cmp Clause) (c d : Clause) → same_clause c d ≡ true → IsRootReason (maps.get m) c → IsRootReason (slice_get (maps.values m)) d
-slots-reason m c d same r = reason_covers _ _ (slots_covered m) c d same r
+  -- a clause that is the reason of a root-level literal, however it is written
+  pub slots-reason : (c d : Clause) → same_clause c d ≡ true → IsRootReason (maps.get m) c
+      → IsRootReason (slice_get (maps.values m)) d
+  slots-reason c d same r = reason_covers _ _ slots_covered c d same r
 
-pub reason-slots : (m : FinMap nat_cmp Clause) (c d : Clause) → same_clause c d ≡ true → IsRootReason (slice_get (maps.values m)) c → IsRootReason (maps.get m) d
-reason-slots m c d same r = reason_covers _ _ (covered_by_slots m) c d same r
+  pub reason-slots : (c d : Clause) → same_clause c d ≡ true
+      → IsRootReason (slice_get (maps.values m)) c → IsRootReason (maps.get m) d
+  reason-slots c d same r = reason_covers _ _ covered_by_slots c d same r
 
 -- ---- RUP and RAT
 
@@ -171,10 +172,7 @@ module _ (old new : FinMap nat_cmp Clause) (slot : ℕ) (c lits : Clause) (free 
   -- a clause in a slot that was free is one copy more
   pub one_more : SameLive (maps.values new) (lits ∷ maps.values old)
   one_more = record {
-    copies = λ e. ap (λ m. copies_of e (maps.values m)) is_insert
-        ∙ (slots-insert old slot c free).copies e ∙ copies-cons e c (maps.values old)
-        ∙ ap (λ b. cond b 1 0 + copies_of e (maps.values old)) (grind (arith, both_pass, same_trans, same_symm))
-        ∙ sym (copies-cons e lits (maps.values old));
+    copies = λ e. grind (arith, is_insert, slots-insert old slot c free, copies-cons, both_pass, same_trans, same_symm);
   }
 
 -- ---- Deletions
@@ -182,11 +180,9 @@ module _ (old new : FinMap nat_cmp Clause) (slot : ℕ) (c lits : Clause) (free 
 module _ (live : FinMap nat_cmp Clause) (lits : Clause) where
   alive_listed : (slot : ℕ) (c : Clause) → maps.get live slot ≡ Some c → same_clause c lits ≡ true → list_any (same_clause lits) (maps.values live) ≡ true
   alive_listed slot c at same =
-      let w = slots_covered _ _ _ at in
-      found _ w.0 w.1 w.2 (grind (arith, same_trans, same_symm))
-    where
-      found : (over : List Clause) (j : ℕ) (d : Clause) → slice_get over j ≡ Some d → same_clause lits d ≡ true → list_any (same_clause lits) over ≡ true
-      found over j d at same = list_any_at (same_clause lits) over j [] (slice_get_within over j d at) (subst (λ x. same_clause lits x ≡ true) (sym (get_or_from_slice_get over j d [] at)) same)
+      let w = slots_covered live slot c at in
+      list_any_at (same_clause lits) (maps.values live) w.0 [] (slice_get_within _ w.0 w.1 w.2)
+      (grind (arith, same_trans, same_symm, get_or_from_slice_get))
 
   pub none_listed : ((s : ℕ) (c : Clause) → maps.get live s ≡ Some c → same_clause c lits ≡ true → ⊥) → list_any (same_clause lits) (maps.values live) ≡ false
   none_listed none =
@@ -276,15 +272,11 @@ module _ (live : FinMap nat_cmp Clause) (c witness assumed : List Literal) (same
     answers_reduced : (found b : Bool) → found ≡ b → Searched (maps.get live) assumed (is_reduced (has witness)) (open_literals witness) found → AnswersWithWitness (slice_get (maps.values live)) c witness (cond b (Ok Pr) (Err NeitherRupNorPr))
     answers_reduced true true value all = answers_pr all
     answers_reduced false false value some = (consistent, no_rup_listed live c none, λ pr. some_not_pr some ((slots-pr _ _ _).1 pr))
-    answers_reduced true false value all = absurd (true≢false value)
-    answers_reduced false true value some = grind (arith, true≢false)
+    answers_reduced found b value some = grind (arith, true≢false)
 
     pub answers_filled : (set : LiteralSet) → ((l : Literal) → in_set set l ≡ has witness l) → (found b : Bool) → found ≡ b →
         Searched (maps.get live) assumed (is_reduced (in_set set)) (λ d. filter (λ l. not (in_set set (complement l))) d) found → AnswersWithWitness (slice_get (maps.values live)) c witness (cond b (Ok Pr) (Err NeitherRupNorPr))
     answers_filled set filled found b value searched = answers_reduced found b value (searched_filled set witness filled (maps.get live) assumed found searched)
-
-pub parts_given : (lits c witness : List Literal) → c ≡ clause_part lits → witness ≡ witness_part lits → (witness ≡ []) ⊎ ((l : Literal) × (has c l ≡ true) × (has witness l ≡ true))
-parts_given lits c witness c_is set_is = search (rules, arith, witness_part, parts_meet)
 
 -- the clause has RUP, whether the addition lists a witness or not
 pub listed_rup : (live : FinMap nat_cmp Clause) (c witness : List Literal) (word : Accepted) → AnswersChain (λ _. None) c [] conflict (Ok word) → conflicts witness ≡ false → (witness ≡ []) ⊎ ((l : Literal) × (has c l ≡ true) × (has witness l ≡ true)) →
@@ -294,3 +286,6 @@ listed_rup live [] (w ∷ witness) word is consistent (inl none) clash = cc
 listed_rup live [] (w ∷ witness) word is consistent (inr met) clash = cc
 listed_rup live (l ∷ c) (w ∷ witness) word is consistent meets clash =
     subst (AnswersWithWitness _ (l ∷ c) (w ∷ witness)) (sym is) (consistent, rup_listed live (l ∷ c) clash)
+
+-- what is said of a clause that is deleted
+pub ruleset delete_steps = (none_listed, taken_off)

@@ -1,4 +1,5 @@
 -- Identifiers by pages, and as a finite map.
+use Rattle.std.specs.{BTreeMap.is_at, Map.lookup}
 use Rattle.std.proofs.Common.{◌≡◌, ◌≢◌, ℕ, zero, suc, ◌+◌, ◌/◌, ◌^◌, ◌<◌, ◌≤◌, cond, eqb, eq-eqb}
 use Rattle.std.proofs.Common.{ne_eqb, Option, Some, None, List, length, get_or, set, nat_cmp, refl}
 use Rattle.std.proofs.Common.{sym, ap, ◌∙◌, subst, arith, inl, inr, get_or-set_same}
@@ -148,3 +149,8 @@ module _ (directory : Directory) (pages : Pages) (far : BTreeMap ℕ ℕ) (id : 
 pub if_none_always : {T : Type 0} (o : Option T) {P : Type 0} → P → IfNone o P
 if_none_always None h = h
 if_none_always (Some x) h = tt
+
+-- what is said of the slots of identifiers
+pub ruleset map_steps = (get-as_map, get-unbound, get-past, if_none_always, cases_lt)
+
+pub ruleset empty_steps = (as_map-empty, entry_for-else, has_no_page, lookup, is_at)

@@ -1,4 +1,5 @@
 -- How many entries of a page are bound.
+use Rattle.std.proofs.lemmas.{Bool.Decides.nat_tests, Grind.common_steps}
 use Rattle.std.proofs.Common.{◌≡◌, ◌≢◌, ℕ, zero, suc, ◌+◌, ◌*◌, ◌<◌, ◌≤◌, cond, eq-eqb, ne_eqb}
 use Rattle.std.proofs.Common.{List, [], length, get_or, set, refl, sym, ap, ◌∙◌, subst, arith, inl}
 use Rattle.std.proofs.Common.{inr, get_or-set_same, get_or-set_other}
@@ -85,3 +86,6 @@ counts_empty entries live none none_live i =
     none_bound : (s n : ℕ) → bound_from [] s n ≡ 0
     none_bound s zero = bound_from-zero [] s
     none_bound s (suc n) = bound_from-suc [] s n ∙ ap (λ m. m + 0) (none_bound s n)
+
+-- what is said of pages that are read or written
+pub ruleset page_steps = (common_steps, nat_tests, counts_none, counts_empty, counts_written)

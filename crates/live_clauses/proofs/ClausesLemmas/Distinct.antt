@@ -1,15 +1,13 @@
 -- Lists of different numbers.
-use Rattle.std.proofs.Common.{◌≡◌, ℕ, true, false, List, [], ◌∷◌, nat_eq, sym, ◌∙◌, inl, inr, arith}
-use Rattle.std.proofs.Common.{subst, map, eqb}
-use Rattle.std.proofs.lemmas.Bool.{false≢true, true≢false, false_from_ne_true, Decides.nat_tests}
-use Rattle.std.proofs.lemmas.List.Sorted.{IsNonDecreasingBy-from_sort}
-use Rattle.std.proofs.lemmas.Map.Keys.{IsDistinct-from_sorted, IsDistinct-IsPermutation}
-use Rattle.std.proofs.lemmas.Map.Keys.{sorted_from_strictly_increasing}
-use Rattle.std.proofs.lemmas.Map.Keys.{IsStrictlyIncreasing-from_distinct}
-use Rattle.std.specs.{List.IsDistinct, List.AllByRecursion, Ordering.nat_cmp, Ordering.eq_by_cmp}
-use Rattle.std.specs.List.Sorted.{IsStrictlySortedBy, IsStrictlyIncreasing, IsPermutation, IsSorted}
-use Rattle.cnf_base.specs.Literals.{has}
 use Rattle.cnf_base.proofs.SetLemmas.{has_cases, has_head, has_tail}
+use Rattle.std.proofs.Common.{List, [], arith, eqb, false, map, nat_eq, subst, true, ℕ, ◌∷◌, ◌≡◌}
+use Rattle.std.proofs.lemmas.Map.Keys.{IsDistinct-IsPermutation, IsDistinct-from_sorted}
+use Rattle.std.proofs.lemmas.Map.Keys.{IsStrictlyIncreasing-from_distinct}
+use Rattle.std.proofs.lemmas.{List.Sorted.IsNonDecreasingBy-from_sort, Bool.Decides.nat_tests}
+use Rattle.std.proofs.lemmas.{Map.Keys.sorted_from_strictly_increasing, Bool.false_from_ne_true}
+use Rattle.std.specs.List.Sorted.{IsPermutation, IsSorted, IsStrictlyIncreasing, IsStrictlySortedBy}
+use Rattle.{std.specs.Ordering.eq_by_cmp, std.specs.Ordering.nat_cmp, cnf_base.specs.Literals.has}
+use Rattle.{theory.proofs.RenamingLemmas.Clauses.mapped_has, std.specs.List.IsDistinct}
 
 pub distinct_tail : (k : ℕ) (ks : List ℕ) → IsDistinct nat_eq (k ∷ ks) → IsDistinct nat_eq ks
 unfolding IsDistinct
@@ -17,69 +15,32 @@ distinct_tail k ks h = h.1
 
 pub distinct_head : (k : ℕ) (ks : List ℕ) → IsDistinct nat_eq (k ∷ ks) → has ks k ≡ true → ⊥
 unfolding IsDistinct
-distinct_head k ks h member = none_equal ks h.0 member
-  where
-    none_equal : (ks : List ℕ) → AllByRecursion (λ y. nat_eq k y ≡ false) ks → has ks k ≡ true → ⊥
-    none_equal [] all member = false≢true member
-    none_equal (j ∷ ks) all member = elim (has_cases j ks k member) [
-      | inl e ↦ true≢false (sym (equal j e) ∙ all.0)
-      | inr later ↦ none_equal ks all.1 later
-    ]
-      where
-        equal : (j : ℕ) → j ≡ k → nat_eq k j ≡ true
-        equal j e = grind (arith, nat_tests)
+distinct_head k [] h member = grind arith
+distinct_head k (j ∷ ks) h member =
+    grind (arith, nat_tests, has_cases, (distinct_head k ks (h.0.1, h.1.1)))
 
 pub distinct_more : (k : ℕ) (ks : List ℕ) → has ks k ≡ false → IsDistinct nat_eq ks → IsDistinct nat_eq (k ∷ ks)
 unfolding IsDistinct
-distinct_more k ks absent h = (all_other ks absent, h)
-  where
-    all_other : (ks : List ℕ) → has ks k ≡ false → AllByRecursion (λ y. nat_eq k y ≡ false) ks
-    all_other [] absent = tt
-    all_other (j ∷ ks) absent = (
-      false_from_ne_true (nat_eq k j) (λ e. true≢false (sym (subst (λ i. has (i ∷ ks) k ≡ true) (equal j e) (has_head k ks)) ∙ absent)),
-      all_other ks (false_from_ne_true (has ks k) (λ h. true≢false (sym (has_tail j ks k h) ∙ absent))),
-    )
-      where
-        equal : (j : ℕ) → nat_eq k j ≡ true → k ≡ j
-        equal j e = grind (arith, nat_tests)
+distinct_more k [] absent h = grind arith
+distinct_more k (j ∷ ks) absent h =
+    grind (arith, nat_tests, has_head, has_tail, (distinct_more k ks))
 
 tie : (j k : ℕ) → eq_by_cmp nat_cmp k j ≡ nat_eq k j
 tie j k = grind arith
 
 pub distinct_from_sorted : (keys : List ℕ) → IsStrictlySortedBy nat_cmp keys → IsDistinct nat_eq keys
 unfolding IsDistinct
-distinct_from_sorted keys sorted = same keys (IsDistinct-from_sorted nat_cmp keys sorted)
-  where
-    all_other : (k : ℕ) (ks : List ℕ) → AllByRecursion (λ y. eq_by_cmp nat_cmp k y ≡ false) ks → AllByRecursion (λ y. nat_eq k y ≡ false) ks
-    all_other k [] all = tt
-    all_other k (j ∷ ks) all = (sym (tie j k) ∙ all.0, all_other k ks all.1)
-
-    same : (ks : List ℕ) → IsDistinct (eq_by_cmp nat_cmp) ks → IsDistinct nat_eq ks
-    same [] different = tt
-    same (k ∷ ks) different = (all_other k ks different.0, same ks different.1)
+distinct_from_sorted keys sorted = subst (λ e. IsDistinct e keys) (λ i k j. tie j k i)
+    (IsDistinct-from_sorted nat_cmp keys sorted)
 
 -- ---- Numbers that are found one for each of other numbers
 
 module _ (f : ℕ → ℕ) where
-  pub mapped_has : (ks : List ℕ) (j : ℕ) → has ks j ≡ true → has (map f ks) (f j) ≡ true
-  mapped_has [] j h = h
-  mapped_has (k ∷ ks) j h = elim (has_cases k ks j h) [
-    | inl e ↦ subst (λ i. has (f k ∷ map f ks) (f i) ≡ true) e (has_head (f k) (map f ks))
-    | inr later ↦ has_tail (f k) (map f ks) (f j) (mapped_has ks j later)
-  ]
-
-  pub mapped_from : (ks : List ℕ) (y : ℕ) → has (map f ks) y ≡ true → (j : ℕ) × (has ks j ≡ true) × (f j ≡ y)
-  mapped_from [] y h = absurd (false≢true h)
-  mapped_from (k ∷ ks) y h = elim (has_cases (f k) (map f ks) y h) [
-    | inl e ↦ (k, has_head k ks, e)
-    | inr later ↦ let w = mapped_from ks y later in (w.0, has_tail k ks w.0 w.1, w.2)
-  ]
-
   distinct_mapped : (ks : List ℕ) → ((j k : ℕ) → has ks j ≡ true → has ks k ≡ true → f j ≡ f k → j ≡ k) → IsDistinct nat_eq ks → IsDistinct nat_eq (map f ks)
   distinct_mapped [] one_to_one different = different
   distinct_mapped (k ∷ ks) one_to_one different =
       distinct_more (f k) (map f ks) (false_from_ne_true (has (map f ks) (f k)) (λ member.
-      let w = mapped_from ks (f k) member in
+      let w = mapped_has f ks (f k) member in
       distinct_head k ks different (subst (λ i. has ks i ≡ true) (one_to_one w.0 k (has_tail k ks w.0 w.1) (has_head k ks) w.2) w.1)))
       (distinct_mapped ks (λ i j left right. one_to_one i j (has_tail k ks i left) (has_tail k ks j right)) (distinct_tail k ks different))
 

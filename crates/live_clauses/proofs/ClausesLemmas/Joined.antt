@@ -144,8 +144,8 @@ slots_counted : (ids : FinMap nat_cmp ℕ) (l : Literal) → ((j k slot : ℕ) �
 slots_counted ids l own [] store different hold = omega arith
 slots_counted ids l own (k ∷ ks) store different hold =
     let here = hold k (has_head k ks) in
-    let rest = slots_counted ids l own ks (maps.remove store here.0) (distinct_tail k ks different) (λ j member. search (rules, arith, has_tail, distinct_head, remove_other)) in
-    search (rules, arith, sum_remove)
+    let rest = slots_counted ids l own ks (maps.remove store here.0) (distinct_tail k ks different) in
+    search (rules, arith, sum_remove, has_tail, distinct_head, remove_other)
 
 -- the slot of an identifier whose clause holds the literal, and the clause in it
 pub holder : (ids : FinMap nat_cmp ℕ) (store : FinMap nat_cmp Clause) (state : LiveClausesState) → joined ids store ≡ state.live → IsPaired ids store → (l : Literal) (k : ℕ) → Holds (maps.get state.live) l k →

@@ -1,16 +1,15 @@
 -- The clauses that a literal touches, by their slots and by their identifiers.
-use Rattle.std.proofs.Common.{◌≡◌, ℕ, true, Some, List, [], ◌∷◌, map, ◌∙◌, slice_index, arith}
-use Rattle.std.proofs.{Common.rules, lemmas.Bool.or_left, lemmas.List.Sorted.list_any-IsPermutation}
-use Rattle.std.specs.{Ordering.nat_cmp, FinMap.FinMap}
-use Rattle.std.specs.List.Sorted.{IsStrictlyIncreasing, IsPermutation, IsSorted}
-use Rattle.std.specs.FinMap as maps
-use Rattle.cnf_base.specs.Literals.{Literal, Clause, complement, has}
-use Rattle.clause_db.specs.Store.{IsTouchedAt}
-use Rattle.theory.specs.Propagation.{Live}
-use Rattle.live_clauses.specs.LiveClauses.{LiveClausesState, Holds}
-use Rattle.live_clauses.specs.Code.LiveClauses.{joined, IsPaired, AreNoted}
-use Rattle.live_clauses.proofs.ClausesLemmas.Distinct.{mapped_has, mapped_from, rising_mapped}
+use Rattle.cnf_base.specs.Literals.{Clause, Literal, complement, has}
 use Rattle.live_clauses.proofs.ClausesLemmas.Joined.{holder, joined_is}
+use Rattle.live_clauses.specs.Code.LiveClauses.{AreNoted, IsPaired, joined}
+use Rattle.live_clauses.specs.LiveClauses.{Holds, LiveClausesState}
+use Rattle.std.proofs.Common.{List, Some, [], arith, map, rules, slice_index, true, ℕ, ◌∙◌, ◌∷◌}
+use Rattle.std.proofs.{lemmas.List.Sorted.list_any-IsPermutation, Common.◌≡◌, lemmas.Bool.or_left}
+use Rattle.std.specs.List.Sorted.{IsPermutation, IsSorted, IsStrictlyIncreasing}
+use Rattle.theory.proofs.RenamingLemmas.Clauses.{has_mapped, mapped_has}
+use Rattle.{live_clauses.proofs.ClausesLemmas.Distinct.rising_mapped, theory.specs.Propagation.Live}
+use Rattle.{std.specs.Ordering.nat_cmp, std.specs.FinMap.FinMap, clause_db.specs.Store.IsTouchedAt}
+use Rattle.std.specs.FinMap as maps
 
 -- those of the clauses that the literal touches, in ascending order
 pub record AreTouched (live : Live) (l : Literal) (found : List ℕ) : Type 0 where
@@ -30,13 +29,13 @@ module _ (ids : FinMap nat_cmp ℕ) (store : FinMap nat_cmp Clause) (state : Liv
 
   touched_each : (k : ℕ) → has found k ≡ true → Holds (maps.get state.live) (complement l) k
   touched_each k member =
-      let w = mapped_from _ slots k (found_has k ∙ member) in
+      let w = mapped_has _ slots k (found_has k ∙ member) in
       grind (arith, joined_is, owner_of)
 
   touched_all : (k : ℕ) → Holds (maps.get state.live) (complement l) k → has found k ≡ true
   touched_all k holds =
       let w = holder ids store state view paired (complement l) k holds in
-      let member = mapped_has (λ s. slice_index by_slot s) slots w.0 (search (rules, or_left)) in
+      let member = has_mapped (λ s. slice_index by_slot s) slots w.0 (search (rules, or_left)) in
       search (rules, found_has)
 
   touched_rise : IsStrictlyIncreasing slots → IsSorted nat_cmp found → IsStrictlyIncreasing found

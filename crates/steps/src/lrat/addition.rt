@@ -21,6 +21,7 @@ use trail::{Trail, Whole};
 /// The answer where the unit hints gave no conflict: the groups in their order, and then the
 /// candidates without one. Only the set of the candidates that groups name takes memory, and the
 /// search for others.
+#[tactic(auto, using(crate::proofs::LratLemmas::addition_steps))]
 fn judge_rat(
     room: &mut HintsRoom,
     live: &mut LiveClauses,

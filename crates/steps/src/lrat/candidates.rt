@@ -38,6 +38,7 @@ impl HintsRoom {
 
 /// Walks over a group's hints from where what is left of its candidate is false. The true literals
 /// stay as they were.
+#[tactic(auto, using(crate::proofs::LratLemmas::walk_steps))]
 fn walk_group(
     live: &LiveClauses,
     trues: &mut Trail,
@@ -177,6 +178,7 @@ fn is_left_out(live: &LiveClauses, trues: &mut Trail, pivot: Lit, named: &IdSet,
 
 /// The first of these identifiers whose clause is a candidate that no group names and that gives no
 /// conflict at once.
+#[tactic(auto, using(crate::proofs::LratLemmas::candidate_steps))]
 fn first_unnamed(
     live: &LiveClauses,
     trues: &mut Trail,
@@ -204,6 +206,7 @@ fn first_unnamed(
 /// The lowest identifier of a candidate that no group names and that gives no conflict at once. The
 /// first call takes memory to count the clauses by literal, and each call where some candidate is
 /// not named takes some to find the candidates.
+#[tactic(auto, using(crate::proofs::LratLemmas::none_left))]
 pub(crate) fn first_left_out(
     live: &mut LiveClauses,
     trues: &mut Trail,

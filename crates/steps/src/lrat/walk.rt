@@ -66,6 +66,7 @@ fn left_of_hint(trues: &Trail, clause: &[Lit]) -> Left
 ///
 /// Clauses lie far apart in memory, so each is looked up before the looks at the two before it,
 /// which go on meanwhile.
+#[tactic(auto, using(crate::proofs::LratLemmas::walk_steps))]
 pub(crate) fn walk(live: &LiveClauses, trues: &mut Trail, hints: &[i64]) -> WalkEnd
     requires quiet { IsFalse (conflicts trues.old.lits) }
     requires room { HasRoomForAll trues.old.reserved (maps.get live.now.live) }

@@ -1,17 +1,10 @@
-use Rattle.drat_steps.proofs.DratLemmas.Steps.{none_listed, not_kept_deleted, taken_off}
-use Rattle.drat_steps.proofs.DratLemmas.{Losses.noted_now, Losses.unlost, Steps.kept_ignored}
-use Rattle.std.proofs.Common.{ap, arith, subst, sym, true, ◌↔◌, ◌∙◌, ◌≡◌}
-use Rattle.std.{proofs.lemmas.Bool.false≢true, specs.FinMap.FinMap, specs.Ordering.nat_cmp}
-use Rattle.theory.specs.{Losses.DeleteLoses, declared.accepted.Accepted.TheVariants.Deleted}
-use Rattle.{cnf_base.specs.Literals.Clause, drat_steps.proofs.DratLemmas.Losses.noted_already}
+use Rattle.drat_steps.proofs.DratLemmas.Steps.{kept_ignored, not_kept_deleted}
+use Rattle.drat_steps.proofs.DratLemmas.{Losses.noted_now, Losses.unlost}
+use Rattle.std.proofs.Common.{ap, arith, subst, true, ◌↔◌, ◌∙◌, ◌≡◌}
+use Rattle.theory.specs.{declared.accepted.Accepted.TheVariants.Deleted, Losses.DeleteLoses}
+use Rattle.{cnf_base.specs.Literals.Clause, std.specs.Ordering.nat_cmp, std.specs.FinMap.FinMap}
 use Rattle.std.specs.FinMap as maps
 use Rattle.drat_steps.proofs.deletion.delete.Goals as goal
-
-pub returns-then-rules-clause-answers : goal.returns-then-rules-clause-answers
-returns-then-rules-clause-answers g c = grind (arith, none_listed)
-
-pub returns-else-rules-clause-answers : goal.returns-else-rules-clause-answers
-returns-else-rules-clause-answers g c = grind (arith, none_listed)
 
 pub returns-then-branch-clause-answers : goal.returns-then-branch-clause-answers
 returns-then-branch-clause-answers g c =
@@ -25,9 +18,6 @@ returns-then-rules-2-clause-answers g c =
     not_kept_deleted _ _ c.in-Some.ensures.same c.args.rules _ _ c.in-Some.ensures.found
     (λ d there kept. c.in_ok-is_root_reason.ensures.no c.if-branch.false d there kept.1)
 
-pub returns-then-rules-2-clause-live : goal.returns-then-rules-2-clause-live
-returns-then-rules-2-clause-live g c = grind (arith, taken_off)
-
 pub returns-then-rules-2-clause-lost : goal.returns-then-rules-2-clause-lost
 returns-then-rules-2-clause-lost g c =
     unlost _ _ _ _ _ c.in-Some.ensures.same c.in-Some.ensures.found (c.in_ok-is_root_reason.ensures.no c.if-branch.false)
@@ -36,24 +26,13 @@ returns-then-rules-2-clause-lost g c =
 
 pub returns-then-has_lost_literal-clause-answers : goal.returns-then-has_lost_literal-clause-answers
 returns-then-has_lost_literal-clause-answers g c =
-    not_kept_deleted _ _ c.in-Some.ensures.same c.args.rules _ _ c.in-Some.ensures.found
-    (λ d there kept. false≢true (sym c.if-rules-2.false ∙ kept.0))
-
-pub returns-then-has_lost_literal-clause-live : goal.returns-then-has_lost_literal-clause-live
-returns-then-has_lost_literal-clause-live g c = grind (arith, taken_off)
-
-pub returns-then-has_lost_literal-clause-lost : goal.returns-then-has_lost_literal-clause-lost
-returns-then-has_lost_literal-clause-lost g c = grind (arith, noted_already)
+    not_kept_deleted _ _ c.in-Some.ensures.same c.args.rules _ _ c.in-Some.ensures.found (grind arith)
 
 -- ---- Where none was, and the clause is no reason
 
 pub returns-then-not-branch-clause-answers : goal.returns-then-not-branch-clause-answers
 returns-then-not-branch-clause-answers g c =
-    not_kept_deleted _ _ c.in-Some.ensures.same c.args.rules _ _ c.in-Some.ensures.found
-    (λ d there kept. false≢true (sym c.if-rules-2.false ∙ kept.0))
-
-pub returns-then-not-branch-clause-live : goal.returns-then-not-branch-clause-live
-returns-then-not-branch-clause-live g c = grind (arith, taken_off)
+    not_kept_deleted _ _ c.in-Some.ensures.same c.args.rules _ _ c.in-Some.ensures.found (grind arith)
 
 pub returns-then-not-branch-clause-lost : goal.returns-then-not-branch-clause-lost
 returns-then-not-branch-clause-lost g c =
@@ -63,11 +42,7 @@ returns-then-not-branch-clause-lost g c =
 
 pub returns-clause-answers : goal.returns-clause-answers
 returns-clause-answers g c =
-    not_kept_deleted _ _ c.in-Some.ensures.same c.args.rules _ _ c.in-Some.ensures.found
-    (λ d there kept. false≢true (sym c.if-rules-2.false ∙ kept.0))
-
-pub returns-clause-live : goal.returns-clause-live
-returns-clause-live g c = grind (arith, taken_off)
+    not_kept_deleted _ _ c.in-Some.ensures.same c.args.rules _ _ c.in-Some.ensures.found (grind arith)
 
 pub returns-clause-lost : goal.returns-clause-lost
 returns-clause-lost g c =

@@ -1,6 +1,6 @@
 use Rattle.drat_steps.proofs.DratLemmas.Losses.{forced_before, forced_now, has_clashed}
 use Rattle.drat_steps.proofs.DratLemmas.Losses.{if_ok_both, is_quiet, loses_held, loses_nothing}
-use Rattle.drat_steps.proofs.DratLemmas.Losses.{loses_past_clash, no_clash_now, on_err_too}
+use Rattle.drat_steps.proofs.DratLemmas.Losses.{loses_past_clash, no_clash_now}
 use Rattle.std.proofs.Common.{IfOk, [], ap, arith, false, subst, true, ◌∙◌, ◌≡◌, ◌⊎◌}
 use Rattle.std.{proofs.lemmas.Bool.false≢true, specs.FinMap.FinMap, specs.Ordering.nat_cmp}
 use Rattle.theory.specs.Propagation.{Clash, Forced}
@@ -35,7 +35,7 @@ returns-in-Some-clause-loses g c =
     (subst Lost gone c.is_lost.ensures.yes) (subst Stays gone c.is_lost.ensures.no)
 
 pub returns-in-Some-clause-refused : goal.returns-in-Some-clause-refused
-returns-in-Some-clause-refused g c = grind (arith, fewer_literals, on_err_too)
+returns-in-Some-clause-refused g c = grind (arith, fewer_literals)
 
 pub returns-in-None-clause-loses : goal.returns-in-None-clause-loses
 returns-in-None-clause-loses g c d lits there same =

@@ -3,7 +3,7 @@ use Rattle.std.{specs.FinMap.FinMap, proofs.lemmas.Option.same_Some}
 use Rattle.std.specs.FinMap as maps
 use Rattle.clause_memory.specs.Memory as memory
 use Rattle.cnf_base.specs.Literals.{Clause, has, size}
-use Rattle.cnf_base.proofs.{SetLemmas.same_there, MapLemmas.insert_here, MapLemmas.insert_other}
+use Rattle.cnf_base.proofs.{SetLemmas.same_there, MapLemmas.insert_here}
 use Rattle.clause_memory.specs.Memory.{MemoryState}
 use Rattle.clause_db.specs.Code.{Counts.AreCounted, Fields.IsStore, Fields.IsTakenIn, Kept.AreKept}
 use Rattle.clause_db.proofs.StoreLemmas.Fields.{live_alone, sound_with, sum_fits}
@@ -18,16 +18,7 @@ invariant_of-self g c = grind arith
 pub returns-in_err-slot-clause-live_alone : goal.returns-in_err-slot-clause-live_alone
 returns-in_err-slot-clause-live_alone g c = live_alone (g.M.Memory.seen c.take_in.new.memory).live (g.M.Memory.seen c.take_in.new.memory).stored c.take_in.new.marks _ (invariant_of-self g c).0
 
-pub returns-in_err-slot-clause-err_live : goal.returns-in_err-slot-clause-err_live
-returns-in_err-slot-clause-err_live g c = grind arith
-
-pub returns-in_err-slot-clause-err_stored : goal.returns-in_err-slot-clause-err_stored
-returns-in_err-slot-clause-err_stored g c = grind arith
-
 -- ---- Where it is told to the index
-
-pub clause-kept-requires : goal.clause-kept-requires
-clause-kept-requires g c = grind (arith, insert_here)
 
 pub list_up-requires-clause-free : goal.list_up-requires-clause-free
 list_up-requires-clause-free g c =
@@ -72,19 +63,10 @@ pub returns-in-Ok-clause-free : goal.returns-in-Ok-clause-free
 returns-in-Ok-clause-free g c =
     ap (maps.get c.args.self.now.live) c.at.ensures ∙ ap (λ v. maps.get v.live c.in_ok-slot.slot) (sym c.self.view_is) ∙ c.in_ok-slot.ensures.taken.free
 
-pub returns-in-Ok-clause-stored : goal.returns-in-Ok-clause-stored
-returns-in-Ok-clause-stored g c = grind (arith, insert_here)
-
-pub returns-in-Ok-clause-others : goal.returns-in-Ok-clause-others
-returns-in-Ok-clause-others g c s apart = grind (arith, insert_other)
-
 pub returns-in-Ok-clause-live_alone : goal.returns-in-Ok-clause-live_alone
 returns-in-Ok-clause-live_alone g c = live_alone (g.M.Memory.seen c.take_in.new.memory).live (g.M.Memory.seen c.take_in.new.memory).stored c.take_in.new.marks _ (invariant_of-self-in-Ok g c).0
 
 -- ---- Where no memory is left for the index
-
-pub remove-requires : goal.remove-requires
-remove-requires g c = grind arith
 
 -- the clauses are those from before the call
 undone : {m n : MemoryState} {live : FinMap nat_cmp Clause} {slot : ℕ} {lits : Clause} → IsTakenIn m n slot lits → live ≡ maps.remove n.live slot → live ≡ m.live

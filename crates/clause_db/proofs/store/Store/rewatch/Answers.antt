@@ -1,4 +1,4 @@
-use Rattle.std.proofs.Common.{◌-◌, ap, ◌∙◌}
+use Rattle.std.proofs.Common.{ap, ◌∙◌}
 use Rattle.std.specs.FinMap as maps
 use Rattle.clause_db.proofs.StoreLemmas.{Fields.live_alone, Replaced.all_replaced}
 use Rattle.clause_db.proofs.StoreLemmas.Swap.{has_rewatched, length_rewatched}

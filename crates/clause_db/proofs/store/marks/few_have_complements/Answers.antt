@@ -1,4 +1,4 @@
-use Rattle.std.proofs.Common.{◌≡◌, ◌∙◌, sym, ap, true, false, take, arith}
+use Rattle.std.proofs.Common.{◌≡◌, ◌∙◌, sym, ap, false, take, arith}
 use Rattle.cnf_base.proofs.{SetLemmas.any_from, WalkLemmas.has_take, SizeLemmas.has_at}
 use Rattle.cnf_base.specs.Literals.{complement, has}
 use Rattle.clause_db.proofs.StoreLemmas.Tautologies.{none_so_far}

@@ -1,4 +1,4 @@
-use Rattle.std.proofs.Common.{◌≡◌, true, false, take, ◌∙◌, arith}
+use Rattle.std.proofs.Common.{◌≡◌, false, take, ◌∙◌, arith}
 use Rattle.cnf_base.proofs.{SetLemmas.any_from, WalkLemmas.has_take, SizeLemmas.has_at}
 use Rattle.cnf_base.specs.Literals.{complement, has}
 use Rattle.clause_db.proofs.StoreLemmas.{Marks.mark_more, Tautologies.none_so_far}

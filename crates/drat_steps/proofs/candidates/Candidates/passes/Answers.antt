@@ -1,10 +1,7 @@
 -- The clause is no candidate, has all that is left of one that clashed, or is tried.
 use Rattle.drat_steps.proofs.DratLemmas.Candidates.{clashed_now, clashes_seen, clashes_within}
-use Rattle.drat_steps.{proofs.DratLemmas.Candidates.looked_at, specs.Code.Candidates.rest_of}
-use Rattle.propagation.specs.Assumptions.{IsAnswer, assumed_by}
-use Rattle.std.proofs.Common.{arith, subst, sym, ◌++◌, ◌∙◌}
-use Rattle.{cnf_base.specs.Literals.complements, std.proofs.lemmas.Bool.false≢true}
-use Rattle.std.specs.FinMap as maps
+use Rattle.std.proofs.Common.{arith, sym, ◌∙◌}
+use Rattle.{drat_steps.proofs.DratLemmas.Candidates.looked_at, std.proofs.lemmas.Bool.false≢true}
 use Rattle.drat_steps.proofs.candidates.Candidates.passes.Goals as goal
 
 pub returns-then-not-includes-clause-passes : goal.returns-then-not-includes-clause-passes
@@ -28,11 +25,8 @@ returns-in_ok-note-in-Clash-clause-clashed g c =
     _ c.in_ok-note-in-Clash.ensures
 
 pub returns-in-Quiet-clause-passes : goal.returns-in-Quiet-clause-passes
-returns-in-Quiet-clause-passes g c = λ d at.
-    let now = g.P.Propagate.state c.args.clauses.now in (
-      looked_at _ c.args.self.now c.clause-clause.result.now c.includes.result c.clause-clause.ensures.clause c.includes.ensures d at ∙ c.if-not-includes.false,
-      rw c.in-Quiet.is at (c.in_ok-answer_with.ensures.answer d at),
-    )
+returns-in-Quiet-clause-passes g c d at =
+    (grind (arith, looked_at), rw c.in-Quiet.is at (c.in_ok-answer_with.ensures.answer d at))
 
 pub returns-then-clashes_at_once-clause-passes : goal.returns-then-clashes_at_once-clause-passes
 returns-then-clashes_at_once-clause-passes g c =

@@ -1,6 +1,5 @@
-use Rattle.std.proofs.Common.{ap, ◌∙◌}
-use Rattle.clause_db.specs.Store.{copies_with}
 use Rattle.live_clauses.proofs.ClausesLemmas.Joined.{holding_counts}
+use Rattle.{clause_db.specs.Store.copies_with, std.proofs.Common.ap, std.proofs.Common.◌∙◌}
 use Rattle.live_clauses.proofs.clauses.LiveClauses.holding.Goals as goal
 
 pub returns-clause-bound : goal.returns-clause-bound

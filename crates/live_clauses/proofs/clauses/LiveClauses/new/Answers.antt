@@ -1,7 +1,5 @@
-use Rattle.std.proofs.Common.{arith, rules, arith, rules}
-use Rattle.std.specs.FinMap.{get-empty}
-use Rattle.cnf_base.proofs.MapLemmas.{sum_empty}
-use Rattle.live_clauses.proofs.ClausesLemmas.Joined.{start_view}
+use Rattle.{cnf_base.proofs.MapLemmas.sum_empty, std.proofs.Common.arith, std.proofs.Common.rules}
+use Rattle.{live_clauses.proofs.ClausesLemmas.Joined.start_view, std.specs.FinMap.get-empty}
 use Rattle.live_clauses.proofs.clauses.LiveClauses.new.Goals as goal
 
 pub invariant_of-result : goal.invariant_of-result

@@ -1,8 +1,7 @@
-use Rattle.live_clauses.proofs.ClausesLemmas.Joined.{held_without, joined_is, none_without}
-use Rattle.live_clauses.proofs.ClausesLemmas.Joined.{removed_invariant, absent_invariant}
-use Rattle.live_clauses.proofs.ClausesLemmas.Joined.{owners_without}
-use Rattle.cnf_base.proofs.MapLemmas.{sum_remove}
-use Rattle.std.proofs.Common.{arith, rules}
+use Rattle.live_clauses.proofs.ClausesLemmas.Joined.{absent_invariant, held_without, joined_is}
+use Rattle.live_clauses.proofs.ClausesLemmas.Joined.{none_without, owners_without}
+use Rattle.live_clauses.proofs.ClausesLemmas.Joined.{removed_invariant}
+use Rattle.{cnf_base.proofs.MapLemmas.sum_remove, std.proofs.Common.arith, std.proofs.Common.rules}
 use Rattle.live_clauses.proofs.clauses.LiveClauses.remove.Goals as goal
 
 pub invariant_of-self : goal.invariant_of-self

@@ -1,7 +1,7 @@
 use Rattle.std.proofs.Common.{◌&&◌, not, eq-eqb, ne_eqb, sym, ap, ◌∙◌, inl, inr, arith}
 use Rattle.std.proofs.lemmas.Bool.{cases_eq}
 use Rattle.tables.specs.Lists.{list_at}
-use Rattle.occurrences.specs.{Code.Known.is_known, Occurrences.occurs}
+use Rattle.occurrences.specs.{Occurrences.occurs}
 use Rattle.occurrences.proofs.TestLemmas.{and_true, and_false, all_weaker}
 use Rattle.occurrences.proofs.EntryLemmas.{reserved, reserved_known, reserved_occurs}
 use Rattle.occurrences.proofs.by_literal.Occurrences.add.Goals as goal

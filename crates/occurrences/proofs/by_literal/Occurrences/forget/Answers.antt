@@ -1,4 +1,4 @@
-use Rattle.std.proofs.Common.{◌≡◌, true, refl, sym, ap, ◌∙◌, subst, arith}
+use Rattle.std.proofs.Common.{◌≡◌, true, sym, ap, ◌∙◌, subst, arith}
 use Rattle.std.specs.List.{list_any, list_all}
 use Rattle.tables.specs.Lists.{list_at}
 use Rattle.occurrences.specs.{Entries.is_of, Code.Known.is_known, Occurrences.occurs}

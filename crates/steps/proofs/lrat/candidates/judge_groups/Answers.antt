@@ -1,10 +1,10 @@
 use Rattle.std.proofs.Common.{ap, arith, drop, eqb, length, rules, sym, ℕ, ◌+◌, ◌<◌, ◌||◌, ◌∙◌, ◌≡◌}
-use Rattle.steps.proofs.LratLemmas.{groups_go_on, groups_pass_over}
-use Rattle.steps.proofs.LratLemmas.{groups_stop, held_grow, named_grows, named_kept, when_none}
+use Rattle.steps.proofs.LratLemmas.{groups_go_on, groups_more, groups_pass_over, held_grow}
+use Rattle.steps.proofs.LratLemmas.{named_grows, named_kept, when_none}
 use Rattle.steps.proofs.lrat.candidates.judge_groups.Goals.{else-hint-lt0}
 use Rattle.steps.proofs.lrat.candidates.judge_groups.Goals.{then-hint-lt0+in_ok-refusal+else-is_some}
 use Rattle.theory.specs.Lrat.{group_refusal, units_of}
-use Rattle.{cnf_base.specs.Literals.has, std.proofs.lemmas.List.take_rest}
+use Rattle.{std.proofs.lemmas.List.take_rest, cnf_base.specs.Literals.has}
 use Rattle.std.specs.FinMap as maps
 use Rattle.steps.proofs.lrat.candidates.judge_groups.Goals as goal
 
@@ -31,4 +31,4 @@ loop-i-preserved c =
     ]
 
 pub returns-then-is_some-clause-refusal : goal.returns-then-is_some-clause-refusal
-returns-then-is_some-clause-refusal c = grind (arith, take_rest, groups_stop)
+returns-then-is_some-clause-refusal c = grind (arith, take_rest, groups_more)

@@ -1,4 +1,4 @@
-use Rattle.std.proofs.Common.{◌++◌, ◌∷◌, [], true, length, length-append, take, refl, sym, arith}
+use Rattle.std.proofs.Common.{◌++◌, ◌∷◌, [], length, length-append, take, refl, sym, arith}
 use Rattle.std.proofs.{Common.ap, Common.◌∙◌, Common.arith, lemmas.List.take_all}
 use Rattle.cnf_base.specs.Literals.{complement, has}
 use Rattle.cnf_base.proofs.{LiteralLemmas.complement-complement, WalkLemmas.is_in}
