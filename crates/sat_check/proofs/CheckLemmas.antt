@@ -1,41 +1,42 @@
 -- A check, step by step, and how far it reads a proof.
-use Rattle.std.proofs.Common.{Bool, Err, IsSome, List, None, Ok, Option, Some, [], ap, append_assoc}
-use Rattle.std.proofs.Common.{arith, false, inr, is_some, refl, rules, subst, sym, true, ℕ, ◌++◌}
-use Rattle.std.proofs.Common.{◌+◌, ◌↔◌, ◌∙◌, ◌∷◌, ◌≡◌, ◌≤◌, ◌⊎◌}
-use Rattle.std.proofs.lemmas.{Bool.MatchBool-at_false, Bool.false≢true, Option.none-some}
-use Rattle.std.specs.{List.list_any, Prelude.IsTrue, Prelude.Result}
-use Rattle.sat_check.specs.declared.input_fault.InputFault.TheVariants as of
 use Rattle.cnf_base.proofs.SeenLemmas.{Seen-fact, Seen-nothing, Seen-run}
 use Rattle.cnf_base.proofs.StreamLemmas.{Along-map, Along-none, Along-then, Along-within}
-use Rattle.cnf_base.specs.{Literals.Clause, Seen.IsSeen, Seen.Seen, Stream.Along, Stream.Input}
-use Rattle.cnf_base.specs.Stream.{Reader, Stream, Suffix, bytes_read, from_start, unread_stream}
-use Rattle.cnf_base.specs.declared.fault.Fault.{Fault, TheVariants.OutOfMemory}
-use Rattle.dimacs.specs.Formula.{formula_of}
+use Rattle.cnf_base.specs.Stream.{Along, Input, Reader, Stream, Suffix, bytes_read, from_start}
+use Rattle.cnf_base.specs.declared.fault.Fault.TheVariants.{OutOfMemory}
 use Rattle.proofs.specs.Reading.{GivesStep, IsFaulty, PassesNoEnd, PlacedStep, Proof, ProofReading}
-use Rattle.proofs.specs.{Reading.with_step, Steps.Step, declared.step_end.StepEnd.StepEnd}
-use Rattle.report.specs.declared.status.Status.{Status}
+use Rattle.proofs.specs.declared.step_end.StepEnd.{StepEnd}
 use Rattle.report.specs.declared.status.Status.TheVariants.{Malformed, NotVerified}
 use Rattle.report.specs.declared.status.Status.TheVariants.{OutOfMemory as NoMemory, WriteFailed}
-use Rattle.sat_check.proofs.{FormulaLemmas.unread_fault, OutcomeLemmas.Outcome-after}
-use Rattle.sat_check.proofs.OutcomeLemmas.{Writes-all, Writes-still, no_verdict, text_of-append}
-use Rattle.sat_check.proofs.ReportLemmas.{Rest-fault, Rest-some, Rest-step, some_report}
-use Rattle.sat_check.{proofs.ReportLemmas.traced_same, specs.FormulaReach.ReadsNoFurtherThanFault}
+use Rattle.sat_check.proofs.OutcomeLemmas.{Outcome-after, no_verdict, text_of-append}
+use Rattle.sat_check.proofs.ReportLemmas.{Rest-some, Rest-step, some_report, traced_same}
 use Rattle.sat_check.specs.Code.Checking.{AllReports, GoesOn, IsLoaded, IsRefused, IsTold}
 use Rattle.sat_check.specs.Code.Checking.{LeavesProof, LeavesRest, Loads, Rest, RunsInto, Standing}
 use Rattle.sat_check.specs.Code.Checking.{Stops, counted, end_report, traced}
-use Rattle.sat_check.specs.Code.{Reach.IsVerdict, Writer.LeavesWriter}
-use Rattle.sat_check.specs.Reach.{ReadsNoFurther, TellsFault, TellsLoss, deciding_step, refused_end}
+use Rattle.sat_check.specs.FormulaReach.{ReadsNoFurtherThanFault}
+use Rattle.sat_check.specs.Reach.{ReadsNoFurther, TellsFault, deciding_step}
 use Rattle.sat_check.specs.Report.{Outcome, Report, Reports, bare_steps, is_cut_short, text_of}
-use Rattle.sat_check.specs.{Report.with_lines, declared.checked.Checked.Checked}
+use Rattle.sat_check.{proofs.FormulaLemmas.unread_fault, specs.declared.checked.Checked.Checked}
+use Rattle.std.proofs.Common.{Bool, Err, IsSome, List, None, Ok, Option, Some, [], ap, append_assoc}
+use Rattle.std.proofs.Common.{arith, false, is_some, refl, rules, subst, sym, true, ℕ, ◌++◌, ◌+◌}
+use Rattle.std.proofs.Common.{◌↔◌, ◌∙◌, ◌∷◌, ◌≡◌, ◌≤◌, ◌⊎◌}
+use Rattle.std.proofs.lemmas.Bool.{MatchBool-at_false, false≢true}
 use Rattle.steps.specs.ProofSession.{View, is_over}
 use Rattle.theory.proofs.LawLemmas.Existence.{after_finite, same_finite}
-use Rattle.theory.proofs.LawLemmas.{Losses.lost_same, Rules.answer_unique, Verdicts.ends_same}
-use Rattle.theory.proofs.LratLemmas.{LiveSets.SameClauses-sym, Steps.ok_err, Steps.ok_is}
-use Rattle.theory.specs.{Losses.HasLost, Losses.LostBySteps, Losses.StepLoses, Rules.Answers}
-use Rattle.theory.specs.{Verdicts.verified, declared.accepted.Accepted.Accepted}
-use Rattle.theory.specs.Rules.{IsFinite, Rule, Same, State, after, by_copies, by_ids, start, sum_of}
-use Rattle.theory.specs.Verdicts.{Ending, Ends, Verdict, is_empty, is_last, system_of}
-use Rattle.writers.{proofs.LineLemmas.Writes-then, specs.Lines.Sink, specs.Lines.Writes}
+use Rattle.theory.proofs.LratLemmas.{Steps.ok_err, Steps.ok_is, LiveSets.SameClauses-sym}
+use Rattle.theory.specs.Rules.{Answers, IsFinite, Rule, Same, State, after, by_copies, by_ids}
+use Rattle.theory.specs.Verdicts.{Ending, Ends, Verdict, is_empty, is_last, system_of, verified}
+use Rattle.theory.{proofs.LawLemmas.Rules.answer_unique, specs.declared.accepted.Accepted.Accepted}
+use Rattle.theory.{specs.Losses.HasLost, specs.Losses.StepLoses, proofs.LawLemmas.Losses.lost_same}
+use Rattle.writers.{specs.Lines.Sink, specs.Lines.Writes, proofs.LineLemmas.Writes-then}
+use Rattle.{cnf_base.specs.Literals.Clause, proofs.specs.Reading.with_step}
+use Rattle.{cnf_base.specs.Stream.unread_stream, sat_check.specs.Code.Reach.IsVerdict}
+use Rattle.{dimacs.specs.Formula.formula_of, cnf_base.specs.Seen.IsSeen, cnf_base.specs.Seen.Seen}
+use Rattle.{proofs.specs.Steps.Step, std.specs.List.list_any}
+use Rattle.{report.specs.declared.status.Status.Status, theory.proofs.LawLemmas.Verdicts.ends_same}
+use Rattle.{sat_check.specs.Code.Writer.LeavesWriter, cnf_base.specs.declared.fault.Fault.Fault}
+use Rattle.{std.specs.Prelude.IsTrue, std.specs.Prelude.Result, sat_check.specs.Report.with_lines}
+use Rattle.{theory.specs.Rules.start, theory.specs.Rules.sum_of, std.proofs.lemmas.Option.none-some}
+use Rattle.sat_check.specs.declared.input_fault.InputFault.TheVariants as of
 
 same_sym : (s t : State) → Same s t → Same t s
 same_sym (by_ids s) (by_ids t) same = (SameClauses-sym _ _ same.0, sym same.1)
@@ -43,11 +44,6 @@ same_sym (by_copies a x) (by_copies b y) same = search rules
 same_sym s t same = absurd same
 
 -- ---- The steps of a proof
-
--- so its end wasn't passed where no step's was
-pub not_passed : (p : Proof) (rest : Suffix) → PassesNoEnd p rest → (words : List Accepted) (ending : Ending) (last : PlacedStep)
-    → deciding_step p.steps words ending ≡ Some last → rest.offset ≤ last.offset
-not_passed p rest reach words ending last d = search rules
 
 -- no fault is told where no input is malformed
 pub TellsFault-none : (formula second : Option Fault) (checked : Checked) → checked.fault ≡ None → (checked.status ≡ Malformed → ⊥) → TellsFault formula second checked
@@ -68,11 +64,6 @@ pub LeavesRest-none : (s : View) (fault : Option Fault) (end : Option ℕ) (rest
     → PassesNoEnd (record { steps = []; fault = fault; fault_end = end }) rest → LeavesRest s (record { steps = []; fault = fault; fault_end = end }) rest checked
 LeavesRest-none s fault end rest checked none quiet tells reach = search (rules, none, none-some)
 
--- no verdict was answered
-pub LeavesRest-broken : (s : View) (p : Proof) (rest : Suffix) (checked : Checked) → checked.refused ≡ None → checked.literal_lost ≡ false → (IsVerdict checked.status → ⊥) → TellsFault None p.fault checked → PassesNoEnd p rest
-    → LeavesRest s p rest checked
-LeavesRest-broken s p rest checked none quiet broken tells reach = search rules
-
 module _ (s : View) (step : Step) (end : StepEnd) (offset : ℕ) (p : Proof) (rest : Suffix) (checked : Checked) where
   abbrev here : PlacedStep
   here = record { step = step; end = end; offset = offset }
@@ -83,21 +74,18 @@ module _ (s : View) (step : Step) (end : StepEnd) (offset : ℕ) (p : Proof) (re
       → (checked.status ≡ NotVerified → checked.literal_lost ≡ s.has_lost_literal) → ((checked.status ≡ NotVerified → ⊥) → checked.literal_lost ≡ false) → TellsFault None p.fault checked
       → PassesNoEnd (with_step step end offset p) rest → LeavesRest s (with_step step end offset p) rest checked
   LeavesRest-decided refuses told only loss none_lost tells reach =
-      search (rules, not_passed, with_step, is_some, ok_err, answer_unique)
+      search (rules, with_step, is_some, ok_err, answer_unique)
 
   -- it was accepted, and the check went on
   pub LeavesRest-step : (t : View) (word : Accepted) → Answers s.state step (Ok word) → is_last word ≡ false → Same t.state (after s.state step word)
       → IsTrue t.has_lost_literal ↔ (IsTrue s.has_lost_literal ⊎ StepLoses s.state step word)
       → LeavesRest t p rest checked → LeavesRest s (with_step step end offset p) rest checked
   LeavesRest-step t word a not_last same loss later = record {
-    past = λ words ending last e d. let x = split words ending e in
-        later.past x.0 ending last x.2 (sym (later_step p.steps word x.0 ending x.2) ∙ (rw x.1 at d));
+    past = search (rules, split, later_step, later.past);
     past_fault = later.past_fault;
-    refused = λ words ending v e. let x = split words ending e in
-        grind arith;
+    refused = search (rules, split, later.refused);
     only = later.only;
-    lost = λ words ending v e. let x = split words ending e in
-        rw x.1 (search (rules, (over x.0), (later.lost x.0 ending v x.2)));
+    lost = search (rules, split, over, later.lost);
     none_lost = later.none_lost;
     malformed = later.malformed;
   }
@@ -131,16 +119,13 @@ pub LeavesProof-checked : (rule : Rule) (s : View) (clauses : List Clause) (l : 
     → s.is_verified ≡ false → LeavesRest s p rest checked → LeavesProof rule None clauses p old new rest checked
 LeavesProof-checked rule s clauses l p old new rest checked unverified leaves = record {
   unread = search rules;
-  past = λ words ending last whole e d. inr (leaves.past words ending last (ends words ending e) d);
-  past_fault = λ offset e. inr (leaves.past_fault offset e);
+  past = search (rules, ends);
+  past_fault = search rules;
   told = record {
     unread = search rules;
-    refused = λ words ending whole v e. leaves.refused words ending v (ends words ending e);
+    refused = search (rules, ends, leaves.refused);
     only = leaves.only;
-    loss = record {
-      lost = λ words ending whole v e. loaded words (leaves.lost words ending v (ends _ _ e));
-      only = leaves.none_lost;
-    };
+    loss = record { lost = search (rules, loaded, ends, leaves.lost); only = leaves.none_lost };
     malformed = leaves.malformed;
   };
 }
@@ -197,17 +182,14 @@ Checking-start trace start first was whole sound finite least = record {
   count = 0;
   counts = refl;
   written = [];
-  run = Along-map _ _ _ _ (Along-none start.stream) (λ i j m e. search (rules, e));
-  wrote = Writes-still was;
+  run = Along-map _ _ _ _ (Along-none start.stream) (search rules);
+  wrote = search rules;
   whole = whole;
   sound = sound;
   finite = finite;
   least = least;
   no_failure = refl;
 }
-
-with_both : (front more : List (List ℕ)) (r : Report) → with_lines front (with_lines more r) ≡ with_lines (front ++ more) r
-with_both front more r = ap (λ x. record { lines = x; status = r.status }) (sym (append_assoc front more r.lines))
 
 module _ (trace : Bool) (start now new : Standing) (first session : View) (accepted : ℕ) (was lines : Sink) (so_far : Checking trace start now first session accepted was lines) where
   -- the report was written to its end, and what follows the step that decides is left
@@ -226,7 +208,7 @@ module _ (trace : Bool) (start now new : Standing) (first session : View) (accep
   ended checked last i j k r p rest o leaves = (
     _,
     p.0 r rest,
-    search (Outcome-after, Writes-all, so_far.wrote, so_far.whole),
+    search (rules, Outcome-after, so_far.wrote, so_far.whole),
     p.1 k checked leaves,
   )
 
@@ -242,8 +224,8 @@ module _ (trace : Bool) (start now new : Standing) (first session : View) (accep
       counts = counts;
       written = so_far.written ++ traced trace number goes.word;
       run = Along-then _ _ _ _ _ _ so_far.run gives (λ i j k m p q. (
-        (λ r rest.
-            rw (← with_both so_far.written (traced trace number goes.word) r) (p.0 (with_lines (traced trace number goes.word) r) (rw q.0.2 (front k q.0.0 r rest)))),
+        (λ r rest. rw append_assoc (p.0 (with_lines (traced trace number goes.word) r) (rw q.0.2 (rw (traced_same trace number (so_far.count + 1) goes.word counts)
+            (Rest-step _ _ _ _ _ _ _ _ goes.word t.state r goes.answers goes.not_last goes.state so_far.least (rw (← goes.peak) rest)))))),
         (λ left checked leaves.
             p.1 left checked (rw q.0.2 (LeavesRest-step session step q.0.0 k.offset (new.to_come k) left checked t goes.word goes.answers goes.not_last goes.state goes.lost leaves))),
       ));
@@ -254,12 +236,6 @@ module _ (trace : Bool) (start now new : Standing) (first session : View) (accep
       least = omega (arith, goes.peak);
       no_failure = goes.no_failure ∙ so_far.no_failure;
     }
-      where
-        front : (k : Suffix) (at : StepEnd) (r : Report) → Rest trace t.state (so_far.count + 1) t.peak (new.to_come k) r
-            → Rest trace session.state so_far.count session.peak (with_step step at k.offset (new.to_come k)) (with_lines (traced trace number goes.word) r)
-        front k at r rest =
-            rw (traced_same trace number (so_far.count + 1) goes.word counts) (Rest-step trace session.state so_far.count session.peak step at k.offset (new.to_come k) goes.word t.state r goes.answers goes.not_last
-            goes.state so_far.least (rw (← goes.peak) rest))
 
     pub Checking-stop : (checked : Checked) (last : Sink) → Stops trace number session step lines last checked.status
         → (checked.status ≡ NotVerified → IsRefused session.state step)
@@ -276,8 +252,7 @@ module _ (trace : Bool) (start now new : Standing) (first session : View) (accep
     pub Checking-end : Along now.stream new.stream (Gave (Ok false) None step)
         → Outcome checked.status lines.held last.held (end_report None) → TellsFault None None checked → Along start.stream new.stream (λ i j. Ended checked last i j)
     Checking-end gives o tells = Along-then _ _ _ _ _ _ so_far.run gives (λ i j k m p q.
-        ended checked last i j k (end_report None) p (rw q.0.1 (grind arith)) o
-        (grind arith))
+        ended checked last i j k (end_report None) p (rw q.0.1 (grind arith)) o (grind arith))
 
     -- what is told where the proof has this fault
     abbrev TellsOf : Fault → Type 0
@@ -290,12 +265,11 @@ module _ (trace : Bool) (start now new : Standing) (first session : View) (accep
     Checking-fault end OutOfMemory gives memory other tells = Along-then _ _ _ _ _ _ so_far.run gives (λ i j k m p q.
         let some = Rest-some _ _ _ _ so_far.finite _ in
         ended checked last i j k some.0 p some.1 (memory refl some.0)
-        (LeavesRest-broken session (now.to_come j) k checked none quiet (no_verdict checked.status lines.held last.held [] (memory refl (record { lines = []; status = Malformed })))
-        (record { malformed = λ m. absurd (tells.2 refl m); only = tells.1 }) q.1))
+        (search (rules, no_verdict, (memory refl (record { lines = []; status = Malformed })))))
     Checking-fault end f gives memory other tells = Along-then _ _ _ _ _ _ so_far.run gives (λ i j k m p q.
         let end = (now.to_come j).fault_end in let e = IsFaulty-is f (now.to_come j) q.0.0 in
-        ended checked last i j k (end_report (Some f)) p (rw e (Rest-fault trace session.state so_far.count session.peak f end)) (other (λ e. cc))
-        (rw e (LeavesRest-none session (Some f) end k checked none quiet (record { malformed = tells.0; only = tells.1 }) (rw (← e) q.1))))
+        ended checked last i j k (end_report (Some f)) p (rw e (search rules)) (other (λ e. cc))
+        (rw e (LeavesRest-none session (Some f) end k checked none quiet (search rules) (rw (← e) q.1))))
 
 -- what a call gave, by its answer's pattern
 pub step_told : (now new : Standing) (result answer : Result Bool Fault) (end : Option StepEnd) (s : Step)
@@ -312,12 +286,9 @@ reports_nothing rule trace steps formula proof new checked was now same none qui
     rw (← same) (record {
       first = Seen-nothing formula;
       second = Seen-nothing proof;
-      fact = λ i j s t. let some = some_report rule trace i (steps j) in (
-        grind arith,
-        grind arith,
-        record { unread = λ n. none; refused = λ words ending whole is e. absurd (no_verdict _ _ _ _ (o (record { lines = []; status = Malformed })) (inr is)); only = λ _. none; loss = grind arith; malformed = grind (arith, TellsFault-none) },
-        unread_fault i formula formula refl,
-      );
+      fact = λ i j s t. let some = some_report rule trace i (steps j) in
+          let told = no_verdict _ _ _ _ (o (record { lines = []; status = Malformed })) in
+          search (rules, arith, some, told, TellsFault-none, unread_fault);
     })
 
 -- memory ran out before either was read
@@ -350,12 +321,11 @@ module _ (rule : Rule) (trace : Bool) (to_come : ProofReading → Suffix → Pro
   reports_run other same reader made f run =
       let fresh : ProofReading = fresh_reading (unread_stream proof borrows) in
       let Q : Suffix → Suffix → Type 0 = λ j k. Did f fresh j k × (bytes_read proof last.reader + j.offset ≤ k.offset + 65536) in
-      let begun : Along (unread_stream proof borrows) last (Did f fresh) = grind arith in
-      let within = Along-within (unread_stream proof borrows) last (Did f fresh) (omega arith) begun in
+      let within = Along-within (unread_stream proof borrows) last (Did f fresh) (omega arith) (grind arith) in
       rw (kept, ← same) (record {
         first = f;
         second = Seen-run proof borrows last Q within;
         fact = λ i j s t. let seen = Seen-fact proof borrows last Q within j t in
             let did = seen.2.0 i s in
-            rw (← all j) (did.0, reads_no_further rule i seen.0 (to_come fresh (from_start j)) proof last.reader checked did.1 seen.2.1, did.1.told, did.2);
+            rw (← all j) (did.0, reads_no_further rule i seen.0 _ _ _ _ did.1 seen.2.1, did.1.told, did.2);
       })

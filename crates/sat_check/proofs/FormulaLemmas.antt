@@ -1,42 +1,42 @@
--- A formula is read, and loaded, clause by clause; what has no fault was read to its end.
+-- A formula is read, and loaded, clause by clause; what has no fault was read to its end; and claims.
 use Rattle.cnf_base.proofs.SeenLemmas.{Seen-fact, Seen-nothing, Seen-run}
-use Rattle.cnf_base.proofs.SetLemmas.{same_itself}
 use Rattle.cnf_base.proofs.StreamLemmas.{Along-map, Along-none, Along-then, Along-within}
-use Rattle.cnf_base.specs.{Code.Seen.OfSeen, Grammar.word_lines}
 use Rattle.cnf_base.specs.Literals.{Clause, Literal, has, same_clause, size}
-use Rattle.cnf_base.specs.{Printing.input_of, Stream.Along, Stream.Input}
-use Rattle.cnf_base.specs.Stream.{Reader, Stream, Suffix, bytes_read, from_start, unread_stream}
+use Rattle.cnf_base.specs.Stream.{Along, Input, Reader, Stream, Suffix, bytes_read, from_start}
 use Rattle.cnf_base.specs.Text.{Listed, Listing, Spot, is_comment, lines_listing, lines_of}
-use Rattle.cnf_base.specs.{Text.listing_of, declared.fault.Fault.Fault}
-use Rattle.cnf_base.specs.declared.fault.{Fault.TheVariants.OutOfMemory, TextFault.TextFault}
-use Rattle.cnf_base.specs.declared.input.Ending.{Ending, TheVariants.End, TheVariants.Failed}
-use Rattle.{cnf_base.specs.declared.place.Place.Place, dimacs.proofs.ModelGrammar.model_grammar}
+use Rattle.cnf_base.specs.declared.fault.Fault.TheVariants.{OutOfMemory}
+use Rattle.cnf_base.specs.declared.input.Ending.TheVariants.{End, Failed}
+use Rattle.cnf_base.specs.declared.{fault.Fault.Fault, place.Place.Place}
+use Rattle.cnf_base.specs.{declared.input.Ending.Ending, Printing.input_of, Grammar.word_lines}
 use Rattle.dimacs.specs.Claim.{IsConsistent, Said, claim_among, claim_of, nothing}
-use Rattle.dimacs.specs.Formula.{Body, body_among, body_on_word, ends_at, formula_at}
-use Rattle.dimacs.specs.Formula.{formula_of, formula_with, header_of, judged, opened}
-use Rattle.dimacs.specs.{Grammar.ModelText, Printing.IsModel, Reading.FormulaReading}
-use Rattle.dimacs.specs.Reading.{GivesClause, GivesEnd, PassesNoEnd, clauses_to_come, ends_to_come}
-use Rattle.dimacs.specs.{Reading.unopened, declared.header.Header.Header}
+use Rattle.dimacs.specs.Formula.{Body, body_among, ends_at, formula_at, formula_of, formula_with}
+use Rattle.dimacs.specs.Reading.{FormulaReading, GivesClause, GivesEnd, PassesNoEnd}
+use Rattle.dimacs.specs.Reading.{clauses_to_come, ends_to_come, unopened}
+use Rattle.dimacs.{specs.Formula.header_of, specs.Formula.opened, proofs.ModelGrammar.model_grammar}
 use Rattle.drat_steps.proofs.DratLemmas.Steps.{none_listed}
 use Rattle.sat_check.specs.Code.Checking.{IsLoaded, Loads, LoadsBody}
 use Rattle.sat_check.specs.{Code.FormulaReach.LeavesFault, FormulaReach.ReadsNoFurtherThanFault}
-use Rattle.std.proofs.Common.{Bool, Err, List, None, Ok, Option, Result, Some, []}
-use Rattle.std.proofs.Common.{ap, append-nil, append_assoc, arith, false, length}
-use Rattle.std.proofs.Common.{length-append, max, refl, reverse, rules, subst, suc, sym}
-use Rattle.std.proofs.Common.{true, zero, ℕ, ◌++◌, ◌+◌, ◌-◌, ◌||◌, ◌∙◌, ◌∷◌, ◌≡◌, ◌≤◌}
-use Rattle.std.proofs.lemmas.List.{Folds.list_any-append, Sorted.IsPermutation-reverse}
-use Rattle.std.proofs.lemmas.List.{Sorted.list_any-IsPermutation, Sums.sum_by-append, length_push}
-use Rattle.std.proofs.lemmas.{List.reverse-reverse, Option.none-some}
-use Rattle.std.specs.{FinMap.get-empty, Ordering.nat_cmp, Prelude.IfOk, Prelude.slice_get}
-use Rattle.steps.specs.{ProofSession.View, Session.SessionState, Session.fresh, Session.view_of}
+use Rattle.std.proofs.Common.{Bool, Err, List, None, Ok, Result, Some, [], ap, append-nil}
+use Rattle.std.proofs.Common.{append_assoc, arith, false, length, length-append, max, refl, reverse}
+use Rattle.std.proofs.Common.{rules, slice_get, suc, sym, true, ℕ, ◌++◌, ◌+◌, ◌-◌, ◌||◌, ◌∙◌, ◌∷◌}
+use Rattle.std.proofs.lemmas.List.Sorted.{IsPermutation-reverse, list_any-IsPermutation}
+use Rattle.std.proofs.lemmas.List.{Folds.list_any-append, length_push, reverse-reverse}
+use Rattle.std.specs.{FinMap.get-empty, Ordering.nat_cmp}
+use Rattle.std.{specs.Prelude.IfOk, proofs.Common.◌≡◌, proofs.Common.◌≤◌}
+use Rattle.steps.specs.Session.{SessionState, fresh, view_of}
 use Rattle.theory.proofs.DratLemmas.Copies.{copies-cons, none_alive}
-use Rattle.theory.proofs.LawLemmas.{Existence.numbered_above, Rules.same_trans, Rules.sum_same}
-use Rattle.theory.proofs.LratLemmas.{LiveSets.SameClauses-eq, SameSets.with_same}
-use Rattle.theory.proofs.LratLemmas.{States.numbered_push, Sums.sum_with}
-use Rattle.theory.specs.{Lrat.lrat_start, Lrat.numbered, Rules.Rule, Rules.Same, Rules.State}
-use Rattle.theory.specs.Rules.{by_copies, by_ids, drat, lrat, rule_of, start, sum_of, with_input}
-use Rattle.theory.specs.{Sizes.size_at, Sizes.sum_to, Sizes.total, Verdicts.is_empty}
-use Rattle.cnf_base.specs.declared.token.Token.TheVariants as token
+use Rattle.theory.proofs.LawLemmas.Rules.{same_trans, sum_same}
+use Rattle.theory.proofs.LratLemmas.{SameSets.with_same, States.numbered_push}
+use Rattle.theory.proofs.{LawLemmas.Existence.numbered_above, LratLemmas.LiveSets.SameClauses-eq}
+use Rattle.theory.specs.Rules.{Rule, Same, State, by_copies, by_ids, drat, lrat, rule_of, start}
+use Rattle.theory.specs.Sizes.{size_at, sum_to, total}
+use Rattle.theory.specs.{Rules.sum_of, Rules.with_input, Lrat.lrat_start, Lrat.numbered}
+use Rattle.{cnf_base.proofs.SetLemmas.same_itself, theory.proofs.LratLemmas.Sums.sum_with}
+use Rattle.{cnf_base.specs.Text.listing_of, dimacs.specs.Grammar.ModelText}
+use Rattle.{dimacs.specs.Printing.IsModel, steps.specs.ProofSession.View}
+use Rattle.{std.proofs.lemmas.List.Sums.sum_by-append, dimacs.specs.declared.header.Header.Header}
+use Rattle.{std.proofs.lemmas.Option.none-some, cnf_base.specs.Stream.unread_stream}
+use Rattle.{theory.specs.Verdicts.is_empty, cnf_base.specs.Code.Seen.OfSeen}
 use Rattle.std.specs.FinMap as maps
 
 -- ---- A whole input
@@ -52,10 +52,7 @@ pub seen_within : (P : Place → Suffix → Suffix → Type 0) (old : Reader) (b
 seen_within P old borrows source last new is kept run =
     let R : Suffix → Suffix → Type 0 = λ i j. P (record { line = 1; col = 1 }) i j × (bytes_read old last.reader + i.offset ≤ j.offset + 65536) in
     let within : Along (unread_stream old borrows) last R = Along-within (unread_stream old borrows) last _ (omega arith) (rw is at run) in
-    rw kept (record {
-      seen = Seen-run old borrows last R within;
-      fact = grind (arith, Seen-fact);
-    })
+    rw kept (record { seen = Seen-run old borrows last R within; fact = grind (arith, Seen-fact) })
 
 -- another fact of what was seen
 pub seen_map : (old new : Reader) (P Q : Input → Type 0) → OfSeen old new P → ((i : Input) → P i → Q i) → OfSeen old new Q
@@ -102,18 +99,14 @@ past_first xs ys n m h = search rules
 pub later_left : (read : List Clause) (old : FormulaReading) (i k : Suffix) (n offset : ℕ) →
     NonePassed old read i k → length read ≤ n → slice_get (ends_to_come old i) n ≡ Some offset
     → k.offset ≤ offset
-later_left read old i k n offset passed least at = let on = passed.2 in
-    let same : length on.1.0 ≡ length read = on.1.1 in
-    passed.3 (n - length read) offset
-    (grind (arith, past_first))
+later_left read old i k n offset passed least at =
+    passed.3 (n - length read) offset (grind (arith, past_first))
 
 -- so the token at fault wasn't
 pub fault_left : (read : List Clause) (old : FormulaReading) (i k : Suffix)
     → NonePassed old read i k → LeavesFault (clauses_to_come old i).clauses (ends_to_come old i) k
 fault_left read old i k passed offset at =
-    let all : length (clauses_to_come old i).clauses ≡ length read + length passed.0.clauses =
-    grind (arith, length-append) in
-    later_left read old i k _ offset passed (omega (arith, all)) at
+    later_left read old i k _ offset passed (grind (arith, length-append)) at
 
 -- after these clauses comes the fault; want of memory says nothing
 abbrev pub FaultAfter : List Clause → Fault → Body → Type 0
@@ -121,11 +114,8 @@ FaultAfter cs OutOfMemory b = Unit {0}
 FaultAfter cs f b = b ≡ record { clauses = cs; fault = Some f }
 
 pub Reads-start : (r : FormulaReading) → r.complete ≡ 0 → Reads r r []
-Reads-start r none = record {
-  count = sym none;
-  run = Along-map _ _ _ _ (Along-none r.stream) (grind arith);
-  header = refl;
-}
+Reads-start r none =
+    record { count = cc; run = Along-map _ _ _ _ (Along-none _) (grind arith); header = refl }
 
 module _ (old now new : FormulaReading) (clauses : List Clause) (so_far : Reads old now clauses) (c : Clause) where
   pub Reads-clause : Gave now new (Ok true) c → new.complete ≡ now.complete + 1
@@ -164,9 +154,6 @@ total_push : (cs : List Clause) (c : Clause) → total (lrat_start (cs ++ c ∷ 
 total_push cs c = ap (λ n. sum_to n (λ k. size_at (numbered (cs ++ c ∷ []) k))) (length_push cs c)
     ∙ sum_with (numbered cs) (numbered (cs ++ c ∷ [])) (length cs) (length cs + 1) c (omega arith) (numbered_above cs) (λ k. sym (numbered_push cs c k))
 
-sum_push : (rule : Rule) (cs : List Clause) (c : Clause) → sum_of (start rule cs) ≤ sum_of (start rule (cs ++ c ∷ []))
-sum_push rule cs c = search (rules, arith, total_push, sum_by-append)
-
 -- the next clause of a formula
 start_push : (rule : Rule) (cs : List Clause) (c : Clause) → Same (with_input (start rule cs) c) (start rule (cs ++ c ∷ []))
 start_push lrat cs c = grind (arith, SameClauses-eq, numbered_push, length_push)
@@ -182,30 +169,22 @@ pub loaded_more : (rule : Rule) (old new : View) (cs : List Clause) (c : Clause)
     → new.is_verified ≡ (old.is_verified || is_empty c) → new.peak ≡ max old.peak (sum_of new.state)
     → new.has_stepped ≡ false → new.is_ended ≡ false → new.has_lost_literal ≡ old.has_lost_literal → old.room ≤ new.room + 1 → IsLoaded rule new (cs ++ c ∷ [])
 loaded_more rule old new cs c l state verified peak unstepped sound reason room =
-    search (rules, same, list_any-append, (sum_same new.state (start rule (cs ++ c ∷ [])) same), (sum_push rule cs c), (length_push cs c))
+    search (rules, same, list_any-append, sum_same, total_push, sum_by-append, length_push)
   where
     same : Same new.state (start rule (cs ++ c ∷ []))
-    same = same_trans _ (with_input old.state c) _ state
-        (same_trans _ (with_input (start rule cs) c) _ (input_same old.state (start rule cs) c l.state) (start_push rule cs c))
+    same = same_trans _ _ _ state (same_trans _ _ _ (input_same _ _ c l.state) (start_push rule cs c))
 
 -- a session that is new
 pub unused : (rule : Rule) (s : SessionState) → s ≡ fresh rule → IsLoaded (rule_of (view_of s).state) (view_of s) []
-unused rule s is = rw is (search (rules, arith, none_held, no_sum))
+unused rule s is = rw is (search (rules, arith, none_held))
   where
-    none_numbered : (k : ℕ) → maps.get (fresh lrat).held.live k ≡ numbered [] k
-    none_numbered zero = get-empty nat_cmp zero
-    none_numbered (suc k) = get-empty nat_cmp (suc k)
-
     none_there : (e : Clause) (k : ℕ) (c : Clause) → maps.get (fresh lrat).held.live k ≡ Some c → same_clause c e ≡ true → ⊥
     none_there e k c at same = absurd (none-some c (sym (get-empty nat_cmp k) ∙ at))
 
     none_held : (rule : Rule) → Same (view_of (fresh rule)).state
         (start (rule_of (view_of (fresh rule)).state) [])
-    none_held lrat = search (rules, arith, none_numbered)
+    none_held lrat = search (rules, arith, get-empty)
     none_held (drat rules) = search (arith, none_alive, none_listed, none_there)
-
-    no_sum : (rule : Rule) → 0 ≡ sum_of (start (rule_of (view_of (fresh rule)).state) [])
-    no_sum rule = search rules
 
 -- ---- Clauses that were read and input
 
@@ -215,13 +194,13 @@ pub record Loading (rule : Rule) (old now : FormulaReading) (s : View) : Type 0 
   pub reads : Reads old now clauses
   pub loaded : IsLoaded rule s clauses
 
-pub Loading-start : (rule : Rule) (r : FormulaReading) (s : View) → IsLoaded rule s [] → r.complete ≡ 0 → Loading rule r r s
-Loading-start rule r s loaded none = record { clauses = []; reads = Reads-start r none; loaded = loaded }
+pub loading_start : (rule : Rule) (r : FormulaReading) (s : View) → IsLoaded rule s [] → r.complete ≡ 0 → Loading rule r r s
+loading_start rule r s loaded none = search (rules, Reads-start)
 
 module _ (rule : Rule) (old now new : FormulaReading) (s : View) (so_far : Loading rule old now s) where
   pub Loading-clause : (t : View) (c : Clause) → Gave now new (Ok true) c
       → IsLoaded rule t (so_far.clauses ++ c ∷ []) → new.complete ≡ now.complete + 1 → new.header ≡ now.header → Loading rule old new t
-  Loading-clause t c gives loaded count header = record { clauses = so_far.clauses ++ c ∷ []; reads = Reads-clause old now new so_far.clauses so_far.reads c gives count header; loaded = loaded }
+  Loading-clause t c gives loaded count header = search (rules, loaded, Reads-clause)
 
   -- what was loaded of the clauses that were to come, and that the token at fault wasn't passed
   abbrev pub Body-loaded : View → Result (Unit {0}) Fault → Suffix → Suffix → Type 0
@@ -235,7 +214,7 @@ module _ (rule : Rule) (old now new : FormulaReading) (s : View) (so_far : Loadi
   pub Loading-fault : (t : View) (c : Clause) (f : Fault) (result : Result (Unit {0}) Fault)
       → result ≡ Err f → Gave now new (Err f) c → Along old.stream new.stream (Body-loaded t result)
   Loading-fault t c f result is gives =
-      rw is (Along-map _ _ _ _ (Reads-fault old now new so_far.clauses so_far.reads c f gives) (λ i j m e. (by f (clauses_to_come old i) e.0, fault_left so_far.clauses old i j e.1)))
+      rw is (Along-map _ _ _ _ (Reads-fault old now new so_far.clauses so_far.reads c f gives) (λ i j m e. search (rules, by, fault_left)))
     where
       by : (f : Fault) (b : Body) → FaultAfter so_far.clauses f b → LoadsBody rule t (Err f) b
       by f b h = search rules
@@ -243,7 +222,7 @@ module _ (rule : Rule) (old now new : FormulaReading) (s : View) (so_far : Loadi
   pub Loading-refused : (t : View) (c : Clause) → Gave now new (Ok true) c
       → Along old.stream new.stream (Body-loaded t (Err OutOfMemory))
   Loading-refused t c gives =
-      Along-then _ _ _ _ _ _ so_far.reads.run gives (λ i j k m p q. (tt, fault_left so_far.clauses old i k (clauses_to_come now j, ends_to_come now j, p, q.1.1)))
+      Along-then _ _ _ _ _ _ so_far.reads.run gives (λ i j k m p q. (tt, fault_left so_far.clauses old i k (_, _, p, q.1.1)))
 
 -- ---- A whole formula, loaded
 
@@ -287,38 +266,20 @@ module _ (rule : Rule) (s : View) (left : Reader) (borrows : List ℕ) (source :
 
 listing_ending : (skips : Bool) (s : Spot) (lines : List (List ℕ)) (ending : Ending) →
     (lines_listing skips s lines ending).ending ≡ ending
-listing_ending skips s [] ending = refl
-listing_ending skips s (line ∷ []) ending = refl
 listing_ending skips s (line ∷ next ∷ lines) ending =
     listing_ending (is_comment next) _ (next ∷ lines) ending
+listing_ending skips s lines ending = refl
 
-module _ (e : Ending) where
-  abbrev EndsSo : Listing → Type 0
-  EndsSo l = l.ending ≡ e
-
-  header_so : (l : Listing) → EndsSo l → IfOk (header_of l) (λ h. EndsSo h.1)
-  header_so l so = search rules
+header_so : (e : Ending) (l : Listing) → l.ending ≡ e → IfOk (header_of l) (λ h. h.1.ending ≡ e)
+header_so e l so = search rules
 
 -- ---- Formulas
-
-module _ (h : Header) (ts : List Listed) (p : Place) where
-  abbrev Later : ℕ → List Literal → Type 0
-  Later complete literals = (body_among h complete literals ts p Failed).fault ≡ None → ⊥
-
-  word_failed : (complete : ℕ) (literals : List Literal) (q : Place)
-      (r : Result (Option Literal) TextFault) →
-      ((complete : ℕ) (literals : List Literal) → Later complete literals)
-      → (body_on_word complete literals q r
-      (λ complete literals. body_among h complete literals ts p Failed)).fault ≡ None → ⊥
-  word_failed complete literals q r h h2 = search rules
 
 body_failed : (h : Header) (complete : ℕ) (literals : List Literal) (ts : List Listed) (p : Place)
     → (body_among h complete literals ts p Failed).fault ≡ None → ⊥
 body_failed h complete literals [] p whole = cc
-body_failed h complete literals ((token.Word q w, offset) ∷ ts) p whole =
-    word_failed h ts p complete literals q (judged h complete w)
-    (λ complete literals. body_failed h complete literals ts p) whole
-body_failed h complete literals (t ∷ ts) p whole = body_failed h complete literals ts p whole
+body_failed h complete literals (t ∷ ts) p whole =
+    search (rules, (λ (n : ℕ) (ls : List Literal). body_failed h n ls ts p))
 
 -- a formula without a fault was read to its end
 pub formula_ends : (i : Input) → (formula_of i).fault ≡ None → i.ending ≡ End
@@ -331,8 +292,7 @@ formula_ends i whole = by i.ending refl
     by : (e : Ending) → i.ending ≡ e → e ≡ End
     by End is = refl
     by Failed is = absurd (of_header (header_of (listing_of i))
-        (header_so Failed (listing_of i) (listing_ending _ _ (lines_of i.bytes) i.ending ∙ is))
-        whole)
+        (header_so Failed (listing_of i) (listing_ending _ _ (lines_of i.bytes) i.ending ∙ is)) whole)
 
 -- and it has a header
 pub formula_header : (i : Input) → (formula_of i).fault ≡ None → (h : Header) × (formula_of i ≡
@@ -358,10 +318,9 @@ claim_ends i listed ok = by i.ending refl
   where
     by : (e : Ending) → i.ending ≡ e → e ≡ End
     by End is = refl
-    by Failed is = let P : Ending → Type 0 =
-        λ e. claim_among nothing (listing_of i).tokens (listing_of i).end e ≡ Ok listed in
-        absurd (claim_failed nothing (listing_of i).tokens (listing_of i).end listed
-        (subst P (listing_ending _ _ (lines_of i.bytes) i.ending ∙ is) ok))
+    by Failed is = let e : (listing_of i).ending ≡ Failed =
+        listing_ending _ _ (lines_of i.bytes) i.ending ∙ is in
+        absurd (claim_failed nothing (listing_of i).tokens (listing_of i).end listed (rw e at ok))
 
 -- ---- The claim of a solver's output, as the grammar of the output has it
 
@@ -380,9 +339,7 @@ pub claim_consistent : (i : Input) → IfOk (claim_of i) IsConsistent
 claim_consistent i = by (claim_of i) refl
   where
     of_listed : (listed : List Literal) → claim_of i ≡ Ok listed → IsConsistent listed
-    of_listed listed ok = let P : Input → Type 0 = λ x. claim_of x ≡ Ok listed in
-        let whole : claim_of (input_of i.bytes) ≡ Ok listed =
-        subst P (ap (λ e. record { bytes = i.bytes; ending = e }) (claim_ends i listed ok)) ok in
+    of_listed listed ok = let whole = rw (claim_ends i listed ok) at ok in
         search (rules, has_reverse, (claim_text i.bytes listed whole))
 
     by : (r : Result (List Literal) Fault) → claim_of i ≡ r → IfOk r IsConsistent

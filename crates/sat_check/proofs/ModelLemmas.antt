@@ -1,39 +1,40 @@
 -- A formula is judged by the literals of a model; the report of it, and what a verified one says.
-use Rattle.std.proofs.Common.{◌++◌, List, None, Option, Some, [], arith, codes, false, get_or}
-use Rattle.std.proofs.Common.{length, refl, rules, slice_get, suc, true, ℕ, ◌%◌, ◌*◌, ◌+◌, ◌-◌, ◌/◌}
-use Rattle.std.proofs.Common.{◌<◌, ◌∙◌, ◌∷◌, ◌≡◌, ◌≤◌}
-use Rattle.std.proofs.lemmas.{Option.none-some, Bool.Decides.nat_tests, Option.slice_get-get_or}
-use Rattle.std.specs.Prelude.{Err, IfOk, IsTrue, Ok, Result, ◌==◌}
-use Rattle.sat_check.specs.declared.input_fault.InputFault.TheVariants as of
-use Rattle.cnf_base.{proofs.SetLemmas.any_from, proofs.SetLemmas.any_some, specs.Code.Seen.OfSeen}
-use Rattle.cnf_base.specs.Literals.{Clause, Literal, complement, has}
-use Rattle.cnf_base.specs.{Seen.OfBothSeen, Stream.Input, Stream.Reader, Stream.bytes_read}
-use Rattle.cnf_base.specs.declared.fault.Fault.{Fault, TheVariants.OutOfMemory}
+use Rattle.cnf_base.proofs.SetLemmas.{any_from, any_some}
 use Rattle.cnf_base.proofs.StreamLemmas.{Along-map, Along-then}
-use Rattle.cnf_base.specs.Stream.{Along, Stream, Suffix, unread_stream}
-use Rattle.dimacs.proofs.OffsetLemmas.{ends_of-length}
-use Rattle.dimacs.specs.{Claim.IsClaim, Claim.IsConsistent, Claim.claim_of, Reading.unopened}
-use Rattle.dimacs.specs.Formula.{Formula, ends_of, formula_of, Body, ends_at, formula_at, opened}
+use Rattle.cnf_base.specs.Literals.{Clause, Literal, complement, has}
+use Rattle.cnf_base.specs.Stream.{Along, Input, Reader, Stream, Suffix, bytes_read, unread_stream}
+use Rattle.cnf_base.specs.declared.fault.Fault.TheVariants.{OutOfMemory}
+use Rattle.cnf_base.specs.{Seen.OfBothSeen, Code.Seen.OfSeen}
+use Rattle.dimacs.specs.Claim.{IsClaim, IsConsistent, claim_of}
+use Rattle.dimacs.specs.Formula.{Body, Formula, ends_at, ends_of, formula_at, formula_of, opened}
 use Rattle.dimacs.specs.Reading.{FormulaReading, PassesNoEnd, clauses_to_come, ends_to_come}
 use Rattle.report.specs.Lines.{a_model, fault_line, fault_status}
-use Rattle.report.specs.declared.status.Status.{Status, TheVariants.Malformed}
-use Rattle.report.specs.declared.status.Status.TheVariants.{OutOfMemory as NoMemory, Verified}
+use Rattle.report.specs.declared.status.Status.TheVariants.{Malformed, OutOfMemory as NoMemory}
+use Rattle.report.specs.declared.status.Status.TheVariants.{Verified}
 use Rattle.sat_check.proofs.FormulaLemmas.{FaultAfter, Gave, NonePassed, Reads, Reads-clause}
 use Rattle.sat_check.proofs.FormulaLemmas.{Reads-done, Reads-fault, Reads-start, claim_consistent}
-use Rattle.sat_check.proofs.FormulaLemmas.{fault_left, later_left, seen_map, seen_nothing, seen_within}
-use Rattle.sat_check.proofs.{FormulaLemmas.unread_fault, OutcomeLemmas.both_told}
-use Rattle.sat_check.proofs.{OutcomeLemmas.written_model}
-use Rattle.std.proofs.lemmas.List.{length_push}
-use Rattle.sat_check.specs.{Code.FormulaReach.LeavesFault, FormulaReach.ReadsNoFurtherThanFault}
-use Rattle.sat_check.specs.Code.Judging.{LeavesUnmet, Judges, ReadsToUnmet, judged_report, unmet_in}
-use Rattle.sat_check.specs.declared.judgement.Judgement.TheVariants.{Met, Unmet}
+use Rattle.sat_check.proofs.FormulaLemmas.{fault_left, later_left, seen_map, seen_nothing}
+use Rattle.sat_check.proofs.OutcomeLemmas.{both_told, written_model}
+use Rattle.sat_check.specs.Code.Judging.{Judges, LeavesUnmet, ReadsToUnmet, judged_report, unmet_in}
 use Rattle.sat_check.specs.ModelReport.{ChecksModel, ModelConsequences, ReadsFormulaNoFurther}
 use Rattle.sat_check.specs.ModelReport.{Satisfies, TellsModelFault, TellsUnmet, claim_report}
 use Rattle.sat_check.specs.ModelReport.{first_unmet, meets, model_report}
-use Rattle.sat_check.specs.{Reach.TellsFault, Report.Outcome, Report.Report, Report.concluded}
-use Rattle.sat_check.specs.declared.{checked.Checked.Checked, judgement.Judgement.Judgement}
+use Rattle.sat_check.specs.Report.{Outcome, Report, concluded}
+use Rattle.sat_check.specs.declared.judgement.Judgement.TheVariants.{Met, Unmet}
+use Rattle.sat_check.specs.declared.judgement.Judgement.{Judgement}
+use Rattle.sat_check.specs.{declared.checked.Checked.Checked, FormulaReach.ReadsNoFurtherThanFault}
+use Rattle.sat_check.{proofs.FormulaLemmas.seen_within, specs.Code.FormulaReach.LeavesFault}
+use Rattle.std.proofs.Common.{Err, List, None, Ok, Option, Result, Some, [], arith, codes, false}
+use Rattle.std.proofs.Common.{length, refl, rules, slice_get, suc, true, ℕ, ◌%◌, ◌*◌, ◌++◌, ◌+◌}
+use Rattle.std.proofs.Common.{◌-◌, ◌/◌, ◌<◌, ◌∷◌, ◌≡◌, ◌≤◌}
+use Rattle.std.proofs.lemmas.Option.{none-some, slice_get-get_or}
+use Rattle.std.specs.Prelude.{IfOk, IsTrue, ◌==◌}
 use Rattle.theory.specs.Models.{Assignment, HasModel, holds}
-use Rattle.writers.specs.Lines.{Sink}
+use Rattle.{dimacs.proofs.OffsetLemmas.ends_of-length, report.specs.declared.status.Status.Status}
+use Rattle.{sat_check.specs.Reach.TellsFault, std.proofs.lemmas.List.length_push}
+use Rattle.{std.proofs.lemmas.Bool.Decides.nat_tests, cnf_base.specs.declared.fault.Fault.Fault}
+use Rattle.{writers.specs.Lines.Sink, dimacs.specs.Reading.unopened}
+use Rattle.sat_check.specs.declared.input_fault.InputFault.TheVariants as of
 
 -- ---- A formula is judged by listed literals, clause by clause
 
@@ -52,10 +53,8 @@ unmet_bound k listed (c ∷ cs) m h = search (rules, arith, (unmet_bound (k + 1)
 not_passed : (listed : List Literal) (read : List Clause) (old : FormulaReading) (i k : Suffix) → first_unmet 1 listed read ≡ None → NonePassed old read i k
     → LeavesUnmet listed (clauses_to_come old i).clauses (ends_to_come old i) k
 not_passed listed read old i k met passed m offset unmet at = let later = passed.0.clauses in
-    let among : first_unmet (1 + length read) listed later ≡ Some m =
-    grind (arith, first_unmet-append) in
-    let least = unmet_bound (1 + length read) listed later m among in
-    later_left read old i k (m - 1) offset passed (omega (arith, least)) at
+    let least = unmet_bound (1 + length read) listed later m (grind (arith, first_unmet-append)) in
+    later_left read old i k _ offset passed (omega (arith, least)) at
 
 -- from one moment to another so many clauses were read, and are met
 pub record Judging (listed : List Literal) (old now : FormulaReading) (met : ℕ) : Type 0 where
@@ -64,18 +63,15 @@ pub record Judging (listed : List Literal) (old now : FormulaReading) (met : ℕ
   pub all : first_unmet 1 listed clauses ≡ None
   pub count : met ≡ length clauses
 
-pub Judging-start : (listed : List Literal) (r : FormulaReading) → r.complete ≡ 0 → Judging listed r r 0
-Judging-start listed r none = grind (arith, Reads-start)
+pub judging_start : (listed : List Literal) (r : FormulaReading) → r.complete ≡ 0 → Judging listed r r 0
+judging_start listed r none = grind (arith, Reads-start)
 
 module _ (listed : List Literal) (old now new : FormulaReading) (met : ℕ) (so_far : Judging listed old now met) (c : Clause) where
   pub Judging-clause : Gave now new (Ok true) c → meets listed c ≡ true
       → new.complete ≡ now.complete + 1 → new.header ≡ now.header → Judging listed old new (met + 1)
-  Judging-clause gives is count header = record {
-    clauses = so_far.clauses ++ c ∷ [];
-    reads = Reads-clause old now new so_far.clauses so_far.reads c gives count header;
-    all = grind (arith, first_unmet-append);
-    count = grind (arith, length_push);
-  }
+  Judging-clause gives is count header =
+      let reads = Reads-clause old now new so_far.clauses so_far.reads c gives count header in
+      search (rules, arith, reads, first_unmet-append, length_push, so_far.all, so_far.count)
 
   -- what is found of the clauses, and that no more was read than the first that isn't met, nor than the token at fault
   abbrev Judged : Result Judgement Fault → Type 0
@@ -85,8 +81,8 @@ module _ (listed : List Literal) (old now new : FormulaReading) (met : ℕ) (so_
   pub Judging-unmet : Gave now new (Ok true) c → meets listed c ≡ false → Judged (Ok (Unmet (met + 1)))
   Judging-unmet gives is = Along-then _ _ _ _ _ _ so_far.reads.run gives (λ i j k m p q. (
     search (rules, arith, first_unmet-append),
-    not_passed listed so_far.clauses old i k so_far.all (clauses_to_come now j, ends_to_come now j, p, q.1.1),
-    fault_left so_far.clauses old i k (clauses_to_come now j, ends_to_come now j, p, q.1.1),
+    not_passed listed so_far.clauses old i k so_far.all (_, _, p, q.1.1),
+    fault_left so_far.clauses old i k (_, _, p, q.1.1),
   ))
 
   pub Judging-done : Gave now new (Ok false) c → Judged (Ok (Met met))
@@ -127,11 +123,7 @@ module _ (listed : List Literal) (left : Reader) (borrows : List ℕ) (source : 
   all_judges : (result : Result Judgement Fault)
       → Along source last (λ i j. Leaves result (formula_at source.place i) (ends_at source.place i) j) → AllJudges listed left new result
   all_judges result run = seen_map left new _ _
-      (seen_within (λ p i j. Leaves result (formula_at p i) (ends_at p i) j) _ _ _ _ _ is kept run) (λ i x. (
-        x.1.0,
-        λ k offset unmet at. grind arith,
-        λ offset at. grind arith,
-      ))
+      (seen_within (λ p i j. Leaves result (formula_at p i) (ends_at p i) j) _ _ _ _ _ is kept run) (search (rules, arith))
 
   -- the header has a fault
   pub judges_fault : (f : Fault) → Along source last (λ i j. (formula_at source.place i ≡ unopened f) × PassesNoEnd (ends_at source.place i) j) → AllJudges listed left new (Err f)
@@ -225,21 +217,13 @@ listed_holds listed consistent l h = search (rules, odd_half)
 
 -- so a clause with a listed literal is satisfied, and the formula has a model
 satisfied_model : (claim : Result (List Literal) Fault) (clauses : List Clause) → Satisfies claim clauses → HasModel (slice_get clauses)
-satisfied_model claim clauses s = (
-  assigned s.listed,
-  λ k c at. let w = any_some (has s.listed) c (s.met k c at) in
-      grind (arith, any_from, listed_holds),
-)
+satisfied_model claim clauses s =
+    (assigned s.listed, λ k c at. grind (arith, (any_some _ c (s.met k c at)), any_from, listed_holds))
 
 -- what follows from the report of a model
 model_consequences : (i j : Input) (old new : Option (List ℕ)) (status : Status) → Outcome status old new (model_report i j) → ModelConsequences i j old new status
-model_consequences i j old new status o = record {
-  whole = λ is. (said (grind arith)).1;
-  satisfied = λ is. (said (grind arith)).0;
-  complete = search (rules, none_unmet);
-  has_model = λ is. satisfied_model (claim_of j) (formula_of i).clauses (said (grind arith)).0;
-  written = λ w. satisfied_model _ (formula_of i).clauses (said (grind (arith, written_model))).0;
-}
+model_consequences i j old new status o =
+    search (rules, said, none_unmet, satisfied_model, written_model)
   where
     said : (model_report i j).status ≡ Verified → Satisfies (claim_of j) (formula_of i).clauses × ((formula_of i).fault ≡ None)
     said is = verified_satisfied (claim_of j) (formula_of i) is (claim_consistent j)
@@ -281,34 +265,25 @@ module _ (f : Formula) (checked : Checked) (none : checked.unmet ≡ None) (only
 
 -- ---- How far the formula was read
 
--- a number of a list
-some_at : (xs : List ℕ) (n : ℕ) → n < length xs → (x : ℕ) × (slice_get xs n ≡ Some x)
-some_at xs n h = (get_or xs n 0, slice_get-get_or xs n 0 h)
-
--- and it ends with a `0`
-unmet_offset : (listed : List Literal) (i : Input) (k : ℕ) → first_unmet 1 listed (formula_of i).clauses ≡ Some k
-    → (offset : ℕ) × (slice_get (ends_of i) (k - 1) ≡ Some offset)
-unmet_offset listed i k unmet = search (rules, unmet_bound, ends_of-length, some_at)
-
 -- how far a formula was read of which the claim's literals are judged
 reads_no_further : (listed : List Literal) (i : Input) (old new : Reader) → ReadsToUnmet listed i old new → (k : ℕ) → first_unmet 1 listed (formula_of i).clauses ≡ Some k
     → (offset : ℕ) × (slice_get (ends_of i) (k - 1) ≡ Some offset) × (bytes_read old new ≤ offset + 65536)
-reads_no_further listed i old new reads k unmet = search (rules, unmet_offset)
+reads_no_further listed i old new reads k unmet =
+    let at = slice_get-get_or (ends_of i) (k - 1) 0 (search (rules, unmet_bound, ends_of-length)) in
+    (_, at, reads k _ unmet at)
 
 -- the formula is left where it isn't looked at
 pub formula_left : (claim : Result (List ℕ) Fault) (i : Input) (reader : Reader) → ReadsFormulaNoFurther claim i reader reader
-formula_left claim i reader = record {
-  unread = λ f is. refl;
-  past = λ listed k is unmet. reads_no_further listed i reader reader (unread_unmet listed i reader reader refl) k unmet;
-  fault = unread_fault i reader reader refl;
-}
+formula_left claim i r =
+    let reads = λ (ls : List Literal). reads_no_further ls i r r (unread_unmet ls i r r refl) in
+    search (rules, reads)
 
 -- a model that was claimed is no fault, and its literals are the claim's
 pub formula_needed : (model : List ℕ) (claim : Result (List ℕ) Fault) (i : Input) (old new : Reader) → IsClaim (Ok model) claim → ReadsToUnmet model i old new
     → ReadsNoFurtherThanFault i old new → ReadsFormulaNoFurther claim i old new
 formula_needed model claim i old new same reads fault = record {
-  unread = λ f is. absurd (rw is at same);
-  past = λ listed k is unmet. reads_no_further listed i old new (λ m offset e at. reads m offset
-      (first_unmet_same 1 model listed (rw is at same) (formula_of i).clauses ∙ e) at) k unmet;
+  unread = search rules;
+  past = λ listed k is unmet. let same = rw is at same in
+      reads_no_further listed i old new (search (rules, first_unmet_same)) k unmet;
   fault = fault;
 }

@@ -1,30 +1,27 @@
 -- What a run wrote, and how it ended.
-use Rattle.cnf_base.{proofs.TextLemmas.append_nil, specs.Literals.Clause}
-use Rattle.cnf_base.specs.{Literals.Literal, Printing.line_of, Seen.OfBothSeen, Stream.Input}
-use Rattle.cnf_base.specs.{Stream.Reader, Text.lines_of, declared.fault.Fault.Fault}
-use Rattle.dimacs.specs.Formula.{Formula, formula_of}
-use Rattle.{dimacs.specs.declared.header.Header.Header, proofs.specs.Reading.Proof}
-use Rattle.report.specs.Lines.{Certificate, a_model, a_proof, fault_line, fault_status}
-use Rattle.report.specs.Lines.{formula_line, refusal_line, sentence, shown, steps_line, with_cause}
+use Rattle.cnf_base.proofs.TextLemmas.{append_nil}
+use Rattle.cnf_base.specs.{Literals.Clause, Literals.Literal, Printing.line_of, Seen.OfBothSeen}
+use Rattle.cnf_base.specs.{Stream.Input, Stream.Reader, Text.lines_of, declared.fault.Fault.Fault}
+use Rattle.dimacs.specs.{Formula.Formula, Formula.formula_of, declared.header.Header.Header}
+use Rattle.proofs.specs.Reading.{Proof}
+use Rattle.report.specs.Lines.{Certificate, a_model, a_proof, sentence, shown}
 use Rattle.report.specs.declared.status.Status.{Status, TheVariants.Malformed}
 use Rattle.report.specs.declared.status.Status.TheVariants.{OutOfMemory, Verified, WriteFailed}
-use Rattle.sat_check.specs.Code.Reach.{IsVerdict}
-use Rattle.sat_check.specs.ModelReport.{claim_report, clauses_report, first_unmet, met_report}
+use Rattle.sat_check.specs.{Code.Reach.IsVerdict, ModelReport.claim_report}
 use Rattle.sat_check.specs.Report.{HasWritten, Outcome, Report, ReportsFormula, concluded}
 use Rattle.sat_check.specs.Report.{proof_report, text_of, trace_lines, verdict_report, with_lines}
-use Rattle.std.proofs.Common.{Bool, List, None, Option, Some, [], ap, append_assoc, arith, codes}
-use Rattle.std.proofs.Common.{false, min, not, refl, rules, subst, suc, sym, true, zero, ℕ}
-use Rattle.std.proofs.Common.{◌%◌, ◌&&◌, ◌++◌, ◌+◌, ◌-◌, ◌/◌, ◌==◌, ◌^◌, ◌||◌, ◌∙◌, ◌∷◌, ◌≡◌}
+use Rattle.std.proofs.Common.{Bool, List, None, Option, Some, [], append_assoc}
+use Rattle.std.proofs.Common.{arith, codes, false, min, not, refl, rules, suc, sym, true, zero}
+use Rattle.std.proofs.Common.{ℕ, ◌%◌, ◌&&◌, ◌++◌, ◌+◌, ◌-◌, ◌/◌, ◌==◌, ◌^◌, ◌||◌, ◌∙◌, ◌∷◌, ◌≡◌}
 use Rattle.std.proofs.lemmas.Bool.{Decides.nat_tests, and_parts}
 use Rattle.std.proofs.lemmas.Grind.{common_steps, flat_map-append}
 use Rattle.std.proofs.lemmas.List.{Folds.list_all-append, Folds.list_any-append, append_cancel_left}
-use Rattle.std.specs.Fmt.{digit_glyph, digits, digits_onto}
-use Rattle.std.specs.{Io.KnownBytes.Appends, List.list_all, List.list_any, Prelude.Err}
-use Rattle.std.specs.{Prelude.Ok, Prelude.OnOk, Prelude.Result, Prelude.decimal, Str.bytes_eq}
-use Rattle.theory.specs.{Rules.Rule, Verdicts.Ending, Verdicts.no_empty_clause, Verdicts.refused}
-use Rattle.theory.specs.{Verdicts.system_of, Verdicts.verified, declared.accepted.Accepted.Accepted}
-use Rattle.{theory.specs.declared.refusal.Refusal.Refusal, writers.proofs.LineLemmas.Appends-then}
-use Rattle.writers.{proofs.LineLemmas.Writes-nothing, specs.Lines.Sink, specs.Lines.Writes}
+use Rattle.std.specs.{Fmt.digit_glyph, Fmt.digits, Fmt.digits_onto, Io.KnownBytes.Appends}
+use Rattle.std.specs.{List.list_all, List.list_any, Prelude.OnOk, Prelude.Result, Prelude.decimal}
+use Rattle.{std.specs.Str.bytes_eq, theory.specs.Rules.Rule}
+use Rattle.theory.specs.{Verdicts.Ending, Verdicts.system_of, declared.accepted.Accepted.Accepted}
+use Rattle.writers.proofs.LineLemmas.{Appends-then, Writes-nothing}
+use Rattle.writers.specs.Lines.{Sink, Writes}
 
 pub text_of-append : (front back : List (List ℕ)) → text_of (front ++ back) ≡ text_of front ++ text_of back
 text_of-append front back = flat_map-append line_of front back
@@ -45,25 +42,12 @@ no_verdict status old new lines o v = search rules
 -- lines, and then the rest of a report
 pub Outcome-after : (status : Status) (old now new : Option (List ℕ)) (front : List (List ℕ)) (r : Report)
     → Appends old now (text_of front) → Outcome status now new r → Outcome status old new (with_lines front r)
-Outcome-after status old now new front r a o = by status o
-  where
-    all : Appends now new (text_of r.lines) → Appends old new (text_of (front ++ r.lines))
-    all h = grind (arith, common_steps, nat_tests, text_of-append)
-
-    by : (status : Status) → Outcome status now new r → Outcome status old new (with_lines front r)
-    by OutOfMemory o = (
-      front ++ o.0,
-      o.1,
-      search (rules, append_assoc, o.2),
-      rw (text_of-append front o.0) (Appends-then old now new _ _ a o.3),
-    )
-    by WriteFailed o = (
-      text_of front ++ o.0,
-      o.1,
-      search (rules, text_of-append, append_assoc, o.2),
-      Appends-then old now new _ _ a o.3,
-    )
-    by status o = (o.0, all o.1)
+Outcome-after OutOfMemory old now new f r a o =
+    (f ++ o.0, o.1, search (rules, append_assoc, o.2), grind (arith, text_of-append, Appends-then))
+Outcome-after WriteFailed old now new front r a o =
+    (_, o.1, search (rules, text_of-append, append_assoc, o.2), Appends-then _ _ _ _ _ a o.3)
+Outcome-after status old now new front r a o =
+    (o.0, rw (text_of-append front r.lines) (Appends-then old now new _ _ a o.1))
 
 -- a line of which only a beginning was written
 pub Outcome-broken : (old new : Sink) (text : List ℕ) (r : Report) → Writes old new (line_of text) → Outcome WriteFailed old.held new.held (with_lines (text ∷ []) r)
@@ -82,7 +66,7 @@ Outcome-refused old new r w = ([], r.lines, refl, Writes-nothing old new w)
 pub Outcome-line : (status : Status) (old now : Sink) (new : Option (List ℕ)) (text : List ℕ) (r : Report)
     → Writes old now (line_of text) → now.is_broken ≡ false → Outcome status now.held new r → Outcome status old.held new (with_lines (text ∷ []) r)
 Outcome-line status old now new text r w sound o =
-    search (rules, Outcome-after, append_nil, Writes-all)
+    search (rules, Outcome-after, Writes-all)
 
 -- the bytes of a line, by the text that they are
 written : (old new : Sink) (bytes text : List ℕ) → bytes ≡ text → Writes old new (line_of bytes) → Writes old new (line_of text)
@@ -113,10 +97,6 @@ module _ (certificate : Certificate) (status : Status) (old first second last : 
 pub line-broken : (old new : Sink) (bytes text : List ℕ) (r : Report) → bytes ≡ text → Writes old new (line_of bytes) → Outcome WriteFailed old.held new.held (with_lines (text ∷ []) r)
 line-broken old new bytes text r e w = search (rules, arith, Outcome-broken, written)
 
--- nothing was written of no line
-pub Writes-still : (s : Sink) → Writes s s []
-Writes-still s = search rules
-
 -- one line
 pub Writes-line : (old new : Sink) (text : List ℕ) → Writes old new (line_of text) → Writes old new (text_of (text ∷ []))
 Writes-line old new text w = search rules
@@ -128,11 +108,8 @@ on_ok r P Q h h2 = search rules
 -- a fact of all that was seen, and of what the writer holds by another name
 pub both_told : (one one_new two two_new : Reader) (P : Option (List ℕ) → Option (List ℕ) → Input → Input → Type 0) (Q : Input → Input → Type 0) (old new first last : Option (List ℕ)) → old ≡ first → new ≡ last
     → ((i j : Input) → P first last i j → Q i j) → OfBothSeen one one_new two two_new (P old new) → OfBothSeen one one_new two two_new Q
-both_told one one_new two two_new P Q old new first last before after next both = record {
-  first = both.first;
-  second = both.second;
-  fact = search rules;
-}
+both_told one one_new two two_new P Q old new first last before after next both =
+    record { first = both.first; second = both.second; fact = search rules }
 
 -- ---- Texts without a line feed
 
@@ -203,9 +180,7 @@ among_lines b bs (line ∷ lines) part rest all whole written =
   where
     by_line : (line : List ℕ) (lines text : List (List ℕ)) → (bytes_eq (b ∷ bs) line || list_any (bytes_eq (b ∷ bs)) text) ≡ true
         → (list_any (bytes_eq (b ∷ bs)) text ≡ true → list_any (begins (b ∷ bs)) lines ≡ true) → (begins (b ∷ bs) line || list_any (begins (b ∷ bs)) lines) ≡ true
-    by_line line lines text e next =
-        let begun : bytes_eq (b ∷ bs) line ≡ true → begins (b ∷ bs) line ≡ true =
-        λ h. rw append_nil at (begins_same (b ∷ bs) line [] h) in search rules
+    by_line line lines text e next = search (rules, append_nil, (begins_same (b ∷ bs) line []))
 
 -- ---- The lines of a report
 
@@ -218,35 +193,12 @@ record Tells (certificate : Certificate) (r : Report) : Type 0 where
   plain : list_all has_no_feed r.lines ≡ true
   told : list_any (begins (positive certificate)) r.lines ≡ true → r.status ≡ Verified
 
-concluded_tells : (certificate : Certificate) (line : List ℕ) (s : Status) → IsPlain line → begins (positive certificate) line ≡ false → Tells certificate (concluded certificate line s)
-concluded_tells certificate line s e other = search rules
-
-fault_plain : (name : List ℕ) (f : Fault) → IsPlain name → IsPlain (fault_line name f)
-fault_plain name f e = search (rules, arith, list_all-append, number_plain)
-
-fault_tells : (certificate : Certificate) (name : List ℕ) (f : Fault) → IsPlain name → Tells certificate (concluded certificate (fault_line name f) (fault_status f))
-fault_tells certificate name f e = search (rules, fault_plain)
-
-cause_plain : (front : List ℕ) (r : Refusal) → IsPlain front → IsPlain (with_cause front r)
-cause_plain front r e = search (rules, arith, list_all-append, number_plain)
-
-refusal_other : (n : ℕ) (r : Refusal) → begins (positive a_proof) (refusal_line n r) ≡ false
-refusal_other n r = search rules
-
 shown_plain : (n : ℕ) → IsPlain (shown n)
 shown_plain n = number_plain (min n (2 ^ 64 - 1))
 
-refusal_plain : (n : ℕ) (r : Refusal) → IsPlain (refusal_line n r)
-refusal_plain n r = search (rules, list_all-append, shown_plain, cause_plain)
-
-steps_plain : (n peak : ℕ) → IsPlain (steps_line n peak)
-steps_plain n peak = search (rules, list_all-append, shown_plain)
-
 verdict_tells : (n peak : ℕ) (ending : Ending) (fault : Option Fault) → Tells a_proof (verdict_report n peak ending fault)
-verdict_tells n peak verified fault = search (rules, steps_plain)
-verdict_tells n peak (refused r) f = grind (arith, concluded_tells, refusal_plain, refusal_other)
-verdict_tells n peak no_empty_clause None = search rules
-verdict_tells n peak no_empty_clause (Some f) = fault_tells a_proof (codes "proof") f refl
+verdict_tells n peak ending fault =
+    search (rules, arith, list_all-append, number_plain)
 
 -- lines in front of a report
 front_tells : (lines : List (List ℕ)) (r : Report) → list_all has_no_feed lines ≡ true → list_any (begins (positive a_proof)) lines ≡ false → Tells a_proof r → Tells a_proof (with_lines lines r)
@@ -265,29 +217,17 @@ proof_tells true n peak words ending fault =
     search (rules, front_tells, trace_plain, trace_other, verdict_tells)
 proof_tells false n peak words ending fault = search (rules, verdict_tells)
 
-formula_plain : (h : Header) → IsPlain (formula_line h)
-formula_plain h = search (rules, list_all-append, number_plain)
-
 report_tells : (rule : Rule) (trace : Bool) (i : Input) (p : Proof) (r : Report) → ReportsFormula (system_of rule) trace (formula_of i).header (formula_of i).clauses (formula_of i).fault p r → Tells a_proof r
 report_tells rule trace i p r reports = by (formula_of i).header (formula_of i).clauses (formula_of i).fault reports
   where
     by : (header : Option Header) (clauses : List Clause) (fault : Option Fault) → ReportsFormula (system_of rule) trace header clauses fault p r → Tells a_proof r
-    by header clauses (Some f) e = subst (Tells a_proof) (sym e) (fault_tells a_proof (codes "formula") f refl)
+    by header clauses (Some f) e = rw e (search (rules, arith, list_all-append, number_plain))
     by (Some h) clauses None c =
-        subst (Tells a_proof) (sym c.report) (front_tells (formula_line h ∷ []) _ (ap (λ v. v && true) (formula_plain h)) refl (proof_tells trace 0 _ c.words c.ending p.fault))
+        rw c.report (search (rules, front_tells, list_all-append, number_plain, proof_tells))
     by None clauses None c = absurd c
 
--- the lines of a model's report
-met_tells : (n : ℕ) (fault : Option Fault) → Tells a_model (met_report n fault)
-met_tells n None = search (rules, shown_plain, list_all-append)
-met_tells n (Some f) = fault_tells a_model (codes "formula") f refl
-
-unmet_tells : (unmet : Option ℕ) (f : Formula) → Tells a_model (clauses_report unmet f)
-unmet_tells unmet f = search (rules, shown_plain, list_all-append, met_tells)
-
 claim_tells : (claim : Result (List Literal) Fault) (f : Formula) → Tells a_model (claim_report claim f)
-claim_tells (Ok listed) f = unmet_tells (first_unmet 1 listed f.clauses) f
-claim_tells (Err e) f = fault_tells a_model (codes "output") e refl
+claim_tells claim f = search (rules, arith, list_all-append, number_plain)
 
 -- ---- What a run wrote
 
@@ -296,22 +236,16 @@ abbrev Begins : Option (List ℕ) → Option (List ℕ) → Report → Type 0
 Begins old new r = (part : List ℕ) × (rest : List ℕ) × (text_of r.lines ≡ part ++ rest) × Appends old new part
 
 outcome_begins : (status : Status) (old new : Option (List ℕ)) (r : Report) → Outcome status old new r → Begins old new r
-outcome_begins status old new r o = by status o
+outcome_begins status old new r o = search (rules, whole, text_of-append)
   where
     whole : Appends old new (text_of r.lines) → Begins old new r
     whole a = (text_of r.lines, [], sym (append_nil (text_of r.lines)), a)
-
-    by : (status : Status) → Outcome status old new r → Begins old new r
-    by status h = search (rules, whole, text_of-append)
-
-appended : (old new : Option (List ℕ)) (held bytes part : List ℕ) → old ≡ Some held → new ≡ Some (held ++ bytes) → Appends old new part → bytes ≡ part
-appended old new held bytes part before after a = search (rules, append_cancel_left)
 
 -- where that sentence was written, the report has status 0
 sentence_written : (b : ℕ) (bs : List ℕ) (r : Report) (status : Status) (old new : Option (List ℕ)) → list_all has_no_feed r.lines ≡ true
     → (list_any (begins (b ∷ bs)) r.lines ≡ true → r.status ≡ Verified) → Outcome status old new r → HasWritten (b ∷ bs) old new → r.status ≡ Verified
 sentence_written b bs r status old new plain told o w =
-    search (rules, outcome_begins, appended, among_lines)
+    search (rules, outcome_begins, append_cancel_left, among_lines)
 
 pub written_verified : (rule : Rule) (trace : Bool) (i : Input) (p : Proof) (r : Report) (status : Status) (old new : Option (List ℕ))
     → ReportsFormula (system_of rule) trace (formula_of i).header (formula_of i).clauses (formula_of i).fault p r → Outcome status old new r → HasWritten (codes "s VERIFIED") old new → r.status ≡ Verified

@@ -1,36 +1,35 @@
 -- A report: the rest of it, step by step, and what status 0 and a written `s VERIFIED` mean.
-use Rattle.cnf_base.specs.{Literals.Clause, Printing.line_of, Seen.OfBothSeen}
+use Rattle.cnf_base.specs.declared.fault.Fault.TheVariants.{OutOfMemory}
 use Rattle.cnf_base.specs.{Stream.Input, Stream.Reader, Text.Listing, Text.listing_of}
-use Rattle.cnf_base.specs.declared.fault.Fault.{Fault, TheVariants.OutOfMemory}
 use Rattle.dimacs.specs.Formula.{Formula, formula_of, formula_with, header_of}
-use Rattle.{dimacs.specs.declared.header.Header.Header, proofs.specs.Reading.Proof}
-use Rattle.proofs.specs.{Reading.with_step, Steps.Step, declared.step_end.StepEnd.StepEnd}
+use Rattle.proofs.specs.{Reading.Proof, Reading.with_step, declared.step_end.StepEnd.StepEnd}
 use Rattle.report.specs.Lines.{a_proof, fault_line, fault_status, formula_line, refusal_line, shown}
-use Rattle.report.specs.{Lines.steps_line, declared.status.Status.Status}
 use Rattle.report.specs.declared.status.Status.TheVariants.{Malformed, NotVerified, Verified}
-use Rattle.sat_check.proofs.OutcomeLemmas.{Outcome-after, Outcome-line, Writes-all}
-use Rattle.sat_check.proofs.OutcomeLemmas.{both_told, no_verdict, written_verified}
-use Rattle.sat_check.specs.Code.Checking.{AllReports, IsLoaded, IsRefused, Loads, Rest, RunsInto}
-use Rattle.sat_check.specs.Code.Checking.{Stops, counted, end_report, is_memory, peak_of, traced}
-use Rattle.sat_check.specs.{Code.Reach.IsVerdict, FormulaReach.ReadsNoFurtherThanFault}
-use Rattle.sat_check.specs.Reach.{ReadsNoFurther, TellsWhy}
-use Rattle.sat_check.specs.Report.{Checks, ChecksProof, Outcome, ProofConsequences, Report}
-use Rattle.sat_check.specs.Report.{Reports, ReportsAreUnique, ReportsFormula, Verifies}
-use Rattle.sat_check.specs.Report.{bare_steps, concluded, proof_report, text_of, with_lines}
-use Rattle.sat_check.specs.{Runs.RunsPlaced, declared.checked.Checked.Checked}
-use Rattle.std.proofs.Common.{Bool, Err, List, None, Ok, Option, Some, [], ap, arith, codes, false}
-use Rattle.std.proofs.Common.{length, max, refl, rules, slice_get, true, ℕ, ◌+◌, ◌∙◌, ◌∷◌, ◌≡◌, ◌≤◌}
-use Rattle.{std.specs.Prelude.Result, steps.specs.ProofSession.View}
+use Rattle.report.specs.declared.status.Status.{Status}
+use Rattle.sat_check.proofs.OutcomeLemmas.{Outcome-after, Outcome-line, no_verdict}
+use Rattle.sat_check.specs.Code.Checking.{IsLoaded, IsOpen, IsRefused, Loads, Rest, RunsInto, Stops}
+use Rattle.sat_check.specs.Code.Checking.{counted, is_memory, peak_of, traced}
+use Rattle.sat_check.specs.Report.{Checks, ChecksProof, Outcome, ProofConsequences, Report, Reports}
+use Rattle.sat_check.specs.Report.{ReportsAreUnique, ReportsFormula, Verifies, bare_steps}
+use Rattle.sat_check.specs.Report.{concluded, proof_report, text_of, with_lines}
+use Rattle.sat_check.{proofs.OutcomeLemmas.written_verified, specs.declared.checked.Checked.Checked}
+use Rattle.std.proofs.Common.{Bool, Err, List, None, Ok, Option, Some, [], arith, codes, false, max}
+use Rattle.std.proofs.Common.{refl, rules, slice_get, true, ℕ, ◌+◌, ◌∷◌, ◌≡◌, ◌≤◌}
 use Rattle.theory.proofs.LawLemmas.Existence.{after_finite, same_finite, start_finite}
 use Rattle.theory.proofs.LawLemmas.Rules.{after_same, sum_same}
-use Rattle.theory.proofs.LawLemmas.Verdicts.{ends_same, some_ending, some_verdict}
-use Rattle.theory.proofs.LawLemmas.Verdicts.{verdict_sound, verdict_unique}
-use Rattle.theory.specs.{Answers.UnlessOutOfMemory, Losses.LostBySteps, Models.HasModel}
+use Rattle.theory.proofs.LawLemmas.Verdicts.{ends_same, some_ending, some_verdict, verdict_sound}
 use Rattle.theory.specs.Rules.{Answers, IsFinite, Rule, Same, State, after, start, sum_of}
 use Rattle.theory.specs.Verdicts.{is_last, refused, system_of, verified}
 use Rattle.theory.specs.declared.accepted.Accepted.{Accepted, TheVariants.Empty}
-use Rattle.theory.specs.declared.refusal.Refusal.{Refusal, TheVariants.OutOfMemory as RefusedMemory}
-use Rattle.writers.specs.Lines.{Sink, Writes}
+use Rattle.theory.specs.declared.refusal.Refusal.TheVariants.{OutOfMemory as RefusedMemory}
+use Rattle.theory.{specs.declared.refusal.Refusal.Refusal, proofs.LawLemmas.Verdicts.verdict_unique}
+use Rattle.{cnf_base.specs.Printing.line_of, sat_check.specs.Runs.RunsPlaced}
+use Rattle.{cnf_base.specs.declared.fault.Fault.Fault, dimacs.specs.declared.header.Header.Header}
+use Rattle.{proofs.specs.Steps.Step, std.specs.Prelude.Result}
+use Rattle.{sat_check.specs.Code.Reach.IsVerdict, theory.specs.Answers.UnlessOutOfMemory}
+use Rattle.{steps.specs.ProofSession.View, cnf_base.specs.Literals.Clause}
+use Rattle.{theory.specs.Losses.LostBySteps, writers.specs.Lines.Sink, writers.specs.Lines.Writes}
+use Rattle.{theory.specs.Models.HasModel, report.specs.Lines.steps_line}
 
 -- ---- What a report says
 
@@ -68,58 +67,42 @@ proof_consequences rule trace i p old new status x = record {
 pub checks_proof : (rule : Rule) (trace : Bool) (i : Input) (p : Proof) (old new : Option (List ℕ)) (status : Status) → Reports (system_of rule) trace i p old new status → ChecksProof (system_of rule) trace i p old new status
 checks_proof rule trace i p old new status x = search (rules, proof_consequences)
 
--- and by all that was seen of the formula and of the proof
-abbrev AllChecks : Rule → Bool → (Input → Proof) → Reader → Reader → Reader → Reader → Checked → Option (List ℕ) → Option (List ℕ) → Type 0
-AllChecks rule trace steps formula formula_new proof proof_new checked old new =
-    OfBothSeen formula formula_new proof proof_new (λ i j. ChecksProof (system_of rule) trace i (steps j) old new checked.status
-    × ReadsNoFurther (system_of rule) (formula_of i) (steps j) proof proof_new × TellsWhy (system_of rule) (LostBySteps rule) (formula_of i).fault (formula_of i).clauses (steps j) checked
-    × ReadsNoFurtherThanFault i formula formula_new)
-
-both_check_proof : (rule : Rule) (trace : Bool) (steps : Input → Proof) (formula formula_new proof proof_new : Reader) (checked : Checked) (old new first last : Option (List ℕ)) → old ≡ first → new ≡ last
-    → AllReports rule trace steps formula formula_new proof proof_new checked old new → AllChecks rule trace steps formula formula_new proof proof_new checked first last
-both_check_proof rule trace steps formula formula_new proof proof_new checked old new first last before after =
-    both_told formula formula_new proof proof_new (λ x y i j. Reports (system_of rule) trace i (steps j) x y checked.status
-    × ReadsNoFurther (system_of rule) (formula_of i) (steps j) proof proof_new × TellsWhy (system_of rule) (LostBySteps rule) (formula_of i).fault (formula_of i).clauses (steps j) checked
-    × ReadsNoFurtherThanFault i formula formula_new)
-    _ old new first last before after (λ i j x. (checks_proof _ _ _ _ _ _ _ x.0, x.1, x.2, x.3))
-
 -- a run into lines over a writer, said of the writer
 pub runs_placed : (rule : Rule) (trace : Bool) (steps : Input → Proof) (formula formula_new proof proof_new : Reader) (checked : Checked) (was now : Sink) (old new : Option (List ℕ)) (had_failed has_failed is_flushed : Bool)
     → was.held ≡ old → now.held ≡ new → was.has_failed ≡ had_failed → now.has_failed ≡ has_failed → now.is_flushed ≡ is_flushed
     → RunsInto rule trace steps formula formula_new proof proof_new was now checked
     → RunsPlaced (system_of rule) (LostBySteps rule) trace steps formula formula_new proof proof_new old new had_failed has_failed is_flushed checked
 runs_placed rule trace steps formula formula_new proof proof_new checked was now old new had_failed has_failed is_flushed before after had has flushed runs =
-    search (rules, (both_check_proof _ _ _ _ _ _ _ _ _ _ _ _ before after runs.report))
+    let both = runs.report in rw (← before, ← after) (record {
+      checks = record { first = both.first; second = both.second; fact = λ i j s t. let x = both.fact i j s t in (checks_proof _ _ _ _ _ _ _ x.0, x.1, x.2, x.3) };
+      read_failed = search rules;
+      write_failed = search rules;
+      no_failure = search rules;
+      flushed = search rules;
+      gave_up = search rules;
+    })
 
 -- ---- A formula and a proof have at most one report
 
-checks_unique : (rule : Rule) (trace : Bool) (h : Header) (clauses : List Clause) (p : Proof) (first second : Report)
-    → Checks (system_of rule) trace h clauses p first → Checks (system_of rule) trace h clauses p second → first ≡ second
-checks_unique rule trace h clauses p first second c d = search (rules, verdict_unique)
-
 pub reports_unique : ReportsAreUnique
-reports_unique rule trace f p first second a b = search (rules, checks_unique)
+reports_unique rule trace f p first second a b = search (rules, verdict_unique)
 
 -- ---- The rest of it
 
-shown_same : (m n : ℕ) → m ≡ counted n → shown m ≡ shown n
-shown_same m n e = search (rules, arith)
-
 pub traced_same : (trace : Bool) (m n : ℕ) (word : Accepted) → m ≡ counted n → traced trace m word ≡ traced trace n word
-traced_same trace m n word e = search (rules, (shown_same m n e))
+traced_same trace m n word e = search (rules, arith)
 
 pub refusal_same : (m n : ℕ) (r : Refusal) → m ≡ counted n → refusal_line m r ≡ refusal_line n r
-refusal_same m n r e = grind (arith, shown_same)
+refusal_same m n r e = grind arith
 
 pub steps_same : (m n p q : ℕ) → m ≡ counted n → p ≡ q → steps_line m p ≡ steps_line n q
-steps_same m n p q e f = cc (shown_same m n e)
+steps_same m n p q e f = grind arith
 
 -- ---- The rest of a report, step by step
 
 pub peak_same : (steps : List Step) (words : List Accepted) (first second : State) → Same first second → peak_of first steps words ≡ peak_of second steps words
-peak_same (step ∷ steps) (word ∷ words) first second same =
-    ap (λ n. max n (peak_of (after first step word) steps words)) (sum_same first second same)
-    ∙ ap (λ n. max (sum_of second) n) (peak_same steps words (after first step word) (after second step word) (after_same first second step word same))
+peak_same (step ∷ steps) (word ∷ words) s t same =
+    cc (sum_same s t same, peak_same steps words _ _ (after_same s t step word same))
 peak_same steps words first second h = search (rules, sum_same)
 
 pub peak_least : (steps : List Step) (words : List Accepted) (state : State) → sum_of state ≤ peak_of state steps words
@@ -131,9 +114,6 @@ peak_none [] state = refl
 peak_none (step ∷ steps) state = refl
 
 module _ (trace : Bool) (s : State) (n peak : ℕ) where
-  pub Rest-fault : (f : Fault) (end : Option ℕ) → Rest trace s n peak (record { steps = []; fault = Some f; fault_end = end }) (end_report (Some f))
-  Rest-fault f end = search rules
-
   pub Rest-some : IsFinite s → (p : Proof) → (r : Report) × Rest trace s n peak p r
   Rest-some b p = let v = some_ending (bare_steps p) s b in
       (proof_report trace n (max peak (peak_of s (bare_steps p) v.0)) v.0 v.1 p.fault, grind arith)
@@ -159,19 +139,10 @@ module _ (trace : Bool) (s : State) (n peak : ℕ) where
       words = word ∷ rest.words;
       ending = rest.ending;
       verdict = search (rules, ends_same);
-      report = search (rules, rest.report, peaks, count);
+      report = grind (arith, peak_same, peak_least);
     }
-      where
-        peaks : max (max peak (sum_of t)) (peak_of t (bare_steps p) rest.words) ≡ max peak (peak_of s (st ∷ bare_steps p) (word ∷ rest.words))
-        peaks = grind (arith, peak_same, peak_least)
-
-        count : n + 1 + length rest.words ≡ n + length (word ∷ rest.words)
-        count = omega arith
 
 -- ---- What a step that ends a check leaves of the report
-
-pub last_word : (w : Accepted) → is_last w ≡ true → w ≡ Empty
-last_word w h = search rules
 
 module _ (trace : Bool) (number : ℕ) (old : View) (step : Step) (was now : Sink) where
   -- refused, with or without memory
@@ -179,8 +150,7 @@ module _ (trace : Bool) (number : ℕ) (old : View) (step : Step) (was now : Sin
       → (is_memory r ≡ false → Outcome status was.held now.held (concluded a_proof (refusal_line number r) NotVerified))
       → UnlessOutOfMemory (Err r) (Answers old.state step (Err r)) → Stops trace number old step was now status
   Stops-refused status RefusedMemory memory shown answers n offset end p is least finite =
-      let some = Rest-some trace old.state n old.peak finite (with_step step end offset p) in
-      (some.0, some.1, memory refl some.0)
+      let some = Rest-some _ _ _ _ finite _ in (some.0, some.1, memory refl some.0)
   Stops-refused status r memory shown answers n offset end p is least finite =
       (_, Rest-refused _ _ _ _ _ _ _ _ _ answers, rw (← refusal_same number (n + 1) r is) (shown refl))
 
@@ -201,34 +171,26 @@ module _ (trace : Bool) (number : ℕ) (old : View) (step : Step) (was now : Sin
     pub Stops-traced : (status : Status) → ((x : Report) → Outcome status was.held now.held (with_lines (traced trace number word) x)) → Stops trace number old step was now status
     Stops-traced status o n offset end p is least finite = by (is_last word) refl
       where
-        shown : (x : Report) → Outcome status was.held now.held (with_lines (traced trace (n + 1) word) x)
-        shown x = search rules
-
         by : (v : Bool) → is_last word ≡ v → (x : Report) × Rest trace old.state n old.peak (with_step step end offset p) x × Outcome status was.held now.held x
-        by true e = (_, verified_rest n offset end p (last_word word e) least, shown _)
+        by true e = (_, verified_rest n offset end p (search rules) least, rw (← traced_same trace number (n + 1) word is) (o _))
         by false e =
             let some = Rest-some _ _ _ _ (same_finite new.state (after old.state step word) same
             (after_finite old.state step word finite)) _ in
-            (_, Rest-step _ _ _ _ _ _ _ _ _ _ some.0 answers e same least some.1, shown some.0)
+            (_, Rest-step _ _ _ _ _ _ _ _ _ _ some.0 answers e same least some.1, rw (← traced_same trace number (n + 1) word is) (o some.0))
 
     -- the accepted empty clause
     pub Stops-verified : (status : Status) (mid : Sink) (m : ℕ) → is_last word ≡ true → m ≡ new.peak
         → Writes was mid (text_of (traced trace number word)) → mid.is_broken ≡ false
         → Outcome status mid.held now.held (concluded a_proof (steps_line number m) Verified) → Stops trace number old step was now status
-    Stops-verified status mid m e shown wrote whole o n offset end p is least finite = (
-      _,
-      verified_rest n offset end p (last_word word e) least,
-      search (rules, traced_same, Outcome-after, Writes-all, steps_same),
-    )
+    Stops-verified status mid m e shown wrote whole o n offset end p is least finite =
+        let rest = verified_rest n offset end p (search rules) least in
+        (_, rest, search (rules, traced_same, Outcome-after, steps_same))
 
 -- ---- A whole report
 
 module _ (rule : Rule) (s : View) (clauses : List Clause) (l : IsLoaded rule s clauses) where
-  pub loaded_finite : IsFinite s.state
-  loaded_finite = same_finite s.state (start rule clauses) l.state (start_finite rule clauses)
-
-  pub loaded_least : sum_of s.state ≤ s.peak
-  loaded_least = let e = sum_same s.state (start rule clauses) l.state in omega (arith, e, l.peak)
+  pub loaded_open : s.is_verified ≡ false → IsOpen s
+  loaded_open unverified = grind (arith, same_finite, start_finite, sum_same, l.state)
 
   -- no clause is empty, and the steps were checked
   pub checks_rest : (trace : Bool) (h : Header) (p : Proof) (r : Report) → s.is_verified ≡ false → Rest trace s.state 0 s.peak p r

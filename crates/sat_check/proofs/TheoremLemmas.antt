@@ -1,7 +1,7 @@
 -- The theorem, by the report and the grammars, and a run by DRAT's own proof system.
 use Rattle.cnf_base.proofs.SeenLemmas.{seen_is_some}
 use Rattle.cnf_base.proofs.SetLemmas.{all_each, any_from, any_some, each_all}
-use Rattle.cnf_base.specs.Literals.{Clause, Literal, has, size}
+use Rattle.cnf_base.specs.Literals.{Clause, Literal, has}
 use Rattle.cnf_base.specs.{Printing.input_of, Seen.IsSeen, Seen.OfBothSeen, Seen.Seen, Stream.Input}
 use Rattle.cnf_base.specs.{Stream.Reader, Stream.tells_failure, declared.fault.Fault.Fault}
 use Rattle.cnf_base.specs.declared.input.Ending.TheVariants.{End, Failed}
@@ -11,29 +11,31 @@ use Rattle.proofs.proofs.BinaryGrammar.{binary_both_ways}
 use Rattle.proofs.proofs.{DratGrammar.drat_both_ways, LratGrammar.lrat_both_ways}
 use Rattle.proofs.specs.{Grammar.IsLratText, Lrat.lrat_steps, Reading.Proof, Steps.Step}
 use Rattle.report.specs.declared.status.Status.{Status}
-use Rattle.sat_check.proofs.FormulaLemmas.{claim_consistent, claim_ends, claim_text}
-use Rattle.sat_check.proofs.FormulaLemmas.{formula_ends, formula_header, has_reverse}
-use Rattle.sat_check.proofs.ModelLemmas.{Made, assigned, listed_holds, verified_satisfied}
-use Rattle.sat_check.proofs.OutcomeLemmas.{written_model, written_verified}
 use Rattle.sat_check.proofs.ReportLemmas.{report_verified, verifies_sound}
-use Rattle.sat_check.specs.{Code.Checking.peak_of, ModelReport.Satisfies, ModelReport.meets}
-use Rattle.sat_check.specs.{ModelReport.model_report, Reach.ReadsNoFurther, Reach.TellsWhy}
+use Rattle.sat_check.proofs.FormulaLemmas.{claim_consistent, claim_ends, claim_text}
+use Rattle.sat_check.proofs.ModelLemmas.{Made, assigned}
+use Rattle.sat_check.proofs.FormulaLemmas.{formula_ends, formula_header, has_reverse}
+use Rattle.sat_check.proofs.ModelLemmas.{listed_holds}
+use Rattle.sat_check.proofs.{ModelLemmas.verified_satisfied, OutcomeLemmas.written_model}
+use Rattle.sat_check.{proofs.OutcomeLemmas.written_verified, specs.Code.Checking.peak_of}
+use Rattle.sat_check.specs.ModelReport.{Satisfies, meets, model_report}
+use Rattle.sat_check.specs.Reach.{ReadsNoFurther, TellsWhy}
 use Rattle.sat_check.specs.Report.{ChecksProof, Outcome, Report, Reports, ReportsFormula, Verifies}
 use Rattle.sat_check.specs.{Report.bare_steps, Report.drat_proof, Report.peak_by, Runs.IsDratProof}
 use Rattle.sat_check.specs.{Runs.IsVerifiedBy, Runs.Runs, Runs.RunsPlaced, Theorem.IsAnswered}
 use Rattle.sat_check.specs.Theorem.{IsFormulaText, IsSatisfied, ShowsSatisfied, ShowsUnsatisfiable}
 use Rattle.sat_check.specs.{Theorem.StepsVerify, declared.checked.Checked.Checked}
-use Rattle.std.proofs.Common.{Bool, List, None, Option, Some, [], ap, append-nil, arith, codes}
-use Rattle.std.proofs.Common.{false, max, min, refl, reverse, rules, slice_get, true, ℕ, ◌-◌, ◌^◌}
-use Rattle.std.proofs.{Common.◌∷◌, Common.◌≡◌, Common.◌⊎◌, lemmas.Bool.false_from_ne_true}
+use Rattle.std.proofs.Common.{Bool, List, None, Option, Some, ap, append-nil, arith}
+use Rattle.std.proofs.Common.{codes, false, refl, reverse, rules, slice_get, true, ℕ, ◌∷◌, ◌≡◌}
+use Rattle.std.proofs.lemmas.Bool.{false_from_ne_true}
 use Rattle.std.proofs.lemmas.List.Sums.{AllPass-from_list_all, list_all-from_AllPass}
 use Rattle.std.proofs.lemmas.Option.{get_or_from_slice_get, slice_get-get_or, slice_get_within}
-use Rattle.std.specs.{List.list_all, Prelude.IsFalse, Prelude.MatchBool, Prelude.sum_by}
-use Rattle.{std.specs.Prelude.◌↔◌, theory.specs.Drat.after_drat, theory.specs.Drat.drat_step}
-use Rattle.theory.specs.{Losses.HasLost, Losses.LostBySteps, Losses.LostInDrat, Models.Assignment}
-use Rattle.theory.specs.{Models.HasModel, Models.holds, Models.satisfies, Rules.Rule, Rules.after}
-use Rattle.theory.specs.{Rules.by_copies, Rules.drat, Systems.ProofSystem, Systems.drat_system}
-use Rattle.theory.specs.Verdicts.{Ending, Ends, EndsBy, VerdictBy, is_last, system_of, verified}
+use Rattle.std.specs.{List.list_all, Prelude.IsFalse, Prelude.◌↔◌}
+use Rattle.theory.specs.{Drat.after_drat, Drat.drat_step, Losses.HasLost, Losses.LostBySteps}
+use Rattle.theory.specs.{Losses.LostInDrat, Models.Assignment, Models.HasModel, Models.holds}
+use Rattle.theory.specs.{Models.satisfies, Rules.Rule, Rules.after, Rules.by_copies, Rules.drat}
+use Rattle.theory.specs.Systems.{ProofSystem, drat_system}
+use Rattle.theory.specs.Verdicts.{Ending, Ends, EndsBy, VerdictBy, system_of}
 use Rattle.theory.specs.declared.{accepted.Accepted.Accepted, drat_rules.DratRules.DratRules}
 
 -- ---- What was seen of a reader that has these bytes
@@ -49,18 +51,13 @@ module _ (old new : Reader) (seen : Seen old new) (bytes : List ℕ)
   seen_whole ends = seen_unless (λ is. let e : Failed ≡ End =
       ends (record { bytes = seen.handed; ending = Failed }) (rw is (refl, refl)) in cc)
 
-  -- and where the reader tells of no failure
-  seen_unfailed : tells_failure new ≡ false → IsSeen seen (input_of bytes)
-  seen_unfailed quiet = search rules
-
 -- ---- Formulas
 
 -- a formula without a fault is the text of its header and its clauses
 formula_text : (bytes : List ℕ) → (formula_of (input_of bytes)).fault ≡ None
     → (h : Header) × IsFormulaText bytes h (formula_of (input_of bytes)).clauses
 formula_text bytes whole = let read = formula_header (input_of bytes) whole in
-    let written = formula_grammar.read_is_written bytes read.0 _ read.1 in
-    grind arith
+    grind (arith, (formula_grammar.read_is_written bytes read.0 _ read.1))
 
 -- and a text is read as those
 text_read : (bytes : List ℕ) (h : Header) (clauses : List Clause) →
@@ -74,10 +71,6 @@ all_at : (p : Clause → Bool) (cs : List Clause) → list_all p cs ≡ true →
     slice_get cs k ≡ Some c → p c ≡ true
 all_at p cs all k c at = rw (get_or_from_slice_get cs k c c at) at
     (AllPass-from_list_all p cs all k c (slice_get_within cs k c at))
-
-at_all : (p : Clause → Bool) (cs : List Clause) →
-    ((k : ℕ) (c : Clause) → slice_get cs k ≡ Some c → p c ≡ true) → list_all p cs ≡ true
-at_all p cs each = list_all-from_AllPass p cs (λ k d h. each k _ (slice_get-get_or cs k d h))
 
 -- no assignment satisfies clauses that have no model
 no_model_refuted : (clauses : List Clause) → ¬ HasModel (slice_get clauses) → (v : Assignment) →
@@ -111,8 +104,7 @@ module _ (rule : Rule) (trace : Bool) (steps : Input → Proof)
         header = text.0;
         clauses = (formula_of (input_of bytes)).clauses;
         text = text.1;
-        refuted =
-            no_model_refuted _ (verifies_sound rule (formula_of (input_of bytes)) (steps j.0) v);
+        refuted = no_model_refuted _ (verifies_sound rule _ _ v);
       }
 
   pub shows_steps : (IsText : List ℕ → List Step → Type 0) →
@@ -122,8 +114,7 @@ module _ (rule : Rule) (trace : Bool) (steps : Input → Proof)
       status old new
   shows_steps IsText is_read bytes proof_bytes h clauses ss holds also_holds quiet text steps_text
       answer = let v = verifies answer (input_of bytes) (input_of proof_bytes)
-      (whole_formula answer bytes holds)
-      (seen_unfailed proof proof_new both.second proof_bytes also_holds quiet) in (
+      (whole_formula answer bytes holds) (search rules) in (
         v.words,
         rw (← is_read proof_bytes ss steps_text) (rw (← text_read bytes h clauses text) v.verdict),
       )
@@ -158,11 +149,8 @@ satisfied_by bytes output_bytes s whole = let text = formula_text bytes whole in
       literals = reverse s.listed;
       within = claim.0.literals;
       listed = claim.1;
-      some = (
-        assigned (reverse s.listed),
-        grind (arith, each_all, reverse, listed_holds),
-      );
-      each = search (rules, at_all, met_true);
+      some = (assigned (reverse s.listed), grind (arith, each_all, reverse, listed_holds));
+      each = grind (arith, list_all-from_AllPass, slice_get-get_or, met_true);
     }
 
 module _ (formula formula_new output output_new : Reader) (old new : Option (List ℕ))
@@ -180,8 +168,7 @@ module _ (formula formula_new output output_new : Reader) (old new : Option (Lis
   shows_satisfied bytes output_bytes holds also_holds answer =
       let some_i = seen_is_some formula formula_new both.first in
       let some_j = seen_is_some output output_new both.second in
-      let seen = seen_whole formula formula_new both.first bytes holds
-      (λ i seen. formula_ends i (confirms answer i some_j.0 seen some_j.1).1) in
+      let seen = seen_whole _ _ both.first bytes holds (search (rules, formula_ends, confirms)) in
       let also = seen_whole output output_new both.second output_bytes also_holds (λ j also. let s =
       (confirms answer some_i.0 j some_i.1 also).0 in claim_ends j s.listed s.claimed) in
       let said = confirms answer (input_of bytes) (input_of output_bytes) seen also in
@@ -194,9 +181,7 @@ pub lines_satisfied : (formula formula_new output output_new : Reader)
     (Made formula formula_new Told status old new) →
     ShowsSatisfied formula.left output.left status first last
 lines_satisfied formula formula_new output output_new Told status old new first last before after
-    both =
-    rw (← after) (rw (← before) (shows_satisfied formula formula_new output output_new old new
-    status _ both (λ i j x. x.0)))
+    both = rw (← after, ← before) (shows_satisfied _ _ _ _ old new status _ both (λ i j x. x.0))
 
 -- ---- Runs of which less is said
 
@@ -208,11 +193,9 @@ pub weakened : (status : Status) (P Q : Input → Input → Type 0)
     → Runs formula formula_new second second_new had_failed has_failed is_flushed status Q
 weakened status P Q formula formula_new second second_new had_failed has_failed is_flushed run
     implies =
-    let checks : OfBothSeen formula formula_new second second_new Q = record {
-      first = run.checks.first;
-      second = run.checks.second;
-      fact = λ i j seen also. implies i j (run.checks.fact i j seen also);
-    } in search rules
+    let checks : OfBothSeen formula formula_new second second_new Q =
+    record { first = run.checks.first; second = run.checks.second; fact = search rules } in
+    search rules
 
 -- ---- A run by DRAT's own proof system is one by the rule, and the other way round
 
@@ -244,58 +227,46 @@ module _ {S T : Type 0} (one : ProofSystem S) (other : ProofSystem T) (alike : A
   pub reach_by : (f : Formula) (p : Proof) (old new : Reader) → ReadsNoFurther one f p old new → ReadsNoFurther other f p old new
   reach_by f p old new x = search rules
 
-  -- the same losses, said in two ways
-  abbrev LoseAlike : (One Other : List Clause → List Step → List Accepted → Type 0) → Type 0
-  LoseAlike One Other = (formula : List Clause) (steps : List Step) (words : List Accepted) → One formula steps words ↔ Other formula steps words
-
-  pub why_by : (One Other : List Clause → List Step → List Accepted → Type 0) → LoseAlike One Other → (fault : Option Fault) (clauses : List Clause) (p : Proof) (checked : Checked)
-      → TellsWhy one One fault clauses p checked → TellsWhy other Other fault clauses p checked
+  -- where the same losses are said in two ways
+  pub why_by : (One Other : List Clause → List Step → List Accepted → Type 0) → ((formula : List Clause) (steps : List Step) (words : List Accepted) → One formula steps words ↔ Other formula steps words)
+      → (fault : Option Fault) (clauses : List Clause) (p : Proof) (checked : Checked) → TellsWhy one One fault clauses p checked → TellsWhy other Other fault clauses p checked
   why_by One Other losses fault clauses p checked x = search rules
 
 -- ---- DRAT, as a rule and by itself
-
-or_later : {A B C : Type 0} → (B → C) → A ⊎ B → A ⊎ C
-or_later h h2 = search rules
 
 module _ (rules : DratRules) where
   abbrev EndsHere : List Clause → List Step → List Accepted → Ending → Type 0
   EndsHere live steps words ending = EndsBy (drat_system rules).MayAnswer (drat_system rules).next live steps words ending
 
-  last_or : (A : Type 0) {B C : Type 0} (b : Bool) → (B → C) → MatchBool b A B → MatchBool b A C
-  last_or x0 x1 x2 x3 = grind arith
-
   ends_to : (live : List Clause) (steps : List Step) (words : List Accepted) (ending : Ending) → Ends (by_copies rules live) steps words ending → EndsHere live steps words ending
-  ends_to live (s ∷ ss) (w ∷ ws) ending e = (e.0, last_or ((ws ≡ []) × (ending ≡ verified)) (is_last w) (ends_to (after_drat live (drat_step rules s) w) ss ws ending) e.1)
+  ends_to live (s ∷ ss) (w ∷ ws) ending e =
+      grind (arith, (ends_to (after_drat live (drat_step rules s) w) ss ws ending))
   ends_to live steps words ending e = e
 
   ends_back : (live : List Clause) (steps : List Step) (words : List Accepted) (ending : Ending) → EndsHere live steps words ending → Ends (by_copies rules live) steps words ending
-  ends_back live (s ∷ ss) (w ∷ ws) ending e = (e.0, last_or ((ws ≡ []) × (ending ≡ verified)) (is_last w) (ends_back (after_drat live (drat_step rules s) w) ss ws ending) e.1)
+  ends_back live (s ∷ ss) (w ∷ ws) ending e =
+      grind (arith, (ends_back (after_drat live (drat_step rules s) w) ss ws ending))
   ends_back live steps words ending e = e
 
   peaks : (live : List Clause) (steps : List Step) (words : List Accepted)
       → peak_of (by_copies rules live) steps words ≡ peak_by (drat_system rules).sum (drat_system rules).next live steps words
-  peaks live (s ∷ ss) (w ∷ ws) = ap (max (min (sum_by size live) (2 ^ 64 - 1))) (peaks (after_drat live (drat_step rules s) w) ss ws)
+  peaks live (s ∷ ss) (w ∷ ws) = cc (peaks (after_drat live (drat_step rules s) w) ss ws)
   peaks live steps words = refl
 
   pub losses : (live : List Clause) (steps : List Step) (words : List Accepted) → HasLost (by_copies rules live) steps words ↔ LostInDrat rules live steps words
-  losses live (s ∷ ss) (w ∷ ws) = let later = losses (after_drat live (drat_step rules s) w) ss ws in (or_later later.0, or_later later.1)
+  losses live (s ∷ ss) (w ∷ ws) =
+      grind (arith, (losses (after_drat live (drat_step rules s) w) ss ws))
   losses live steps words = (λ x. x, λ x. x)
 
   pub drat_alike : Alike (system_of (drat rules)) (drat_system rules)
-  drat_alike = search (last_or, ends_to, ends_back, peaks)
+  drat_alike = grind (arith, ends_to, ends_back, peaks)
 
 -- what was promised of a run by the rule is promised by DRAT's own system
 pub drat_placed : (rules : DratRules) (trace : Bool) (steps : Input → Proof) (formula formula_new proof proof_new : Reader) (old new : Option (List ℕ)) (had_failed has_failed is_flushed : Bool) (checked : Checked)
     → RunsPlaced (system_of (drat rules)) (LostBySteps (drat rules)) trace steps formula formula_new proof proof_new old new had_failed has_failed is_flushed checked
     → RunsPlaced (drat_system rules) (LostInDrat rules) trace steps formula formula_new proof proof_new old new had_failed has_failed is_flushed checked
 drat_placed rules trace steps formula formula_new proof proof_new old new had_failed has_failed is_flushed checked runs =
-    weakened checked.status _ _ formula formula_new proof proof_new had_failed has_failed is_flushed runs
-    (λ i j x. (
-      proof_by (system_of (drat rules)) (drat_system rules) (drat_alike rules) trace i (steps j) old new checked.status x.0,
-      reach_by (system_of (drat rules)) (drat_system rules) (drat_alike rules) (formula_of i) (steps j) proof proof_new x.1,
-      why_by (system_of (drat rules)) (drat_system rules) (drat_alike rules) (LostBySteps (drat rules)) (LostInDrat rules) (losses rules) (formula_of i).fault (formula_of i).clauses (steps j) checked x.2,
-      x.3,
-    ))
+    weakened _ _ _ _ _ _ _ _ _ _ runs (λ i j x. search (proof_by, reach_by, why_by, drat_alike, losses))
 
 -- and so is its report by the rule
 pub drat_reported : (rules : DratRules) (trace : Bool) (i : Input) (p : Proof) (old new : Option (List ℕ)) (status : Status) → Reports (drat_system rules) trace i p old new status → Reports (system_of (drat rules)) trace i p old new status

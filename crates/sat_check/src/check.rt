@@ -59,6 +59,7 @@ pub fn check<F: In, S: ProofSession, R: StepReader, O: Out>(
 }
 
 // The report of a formula without a fault, whose clauses were input.
+#[tactic(auto, using(crate::proofs::ReportLemmas::loaded_open))]
 fn check_loaded<S: ProofSession, R: StepReader, O: Out>(
     alloc: Global,
     trace: bool,

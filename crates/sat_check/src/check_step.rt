@@ -24,6 +24,7 @@ use writers::{LineOut, Out};
 
 /// Checks the step of this number, and writes its line where a trace is asked for. Where the check
 /// ends with it, the verdict is written, and the status answered.
+#[tactic(auto, using(crate::proofs::OutcomeLemmas::no_verdict))]
 pub fn check_step<S: ProofSession, O: Out>(
     alloc: Global,
     trace: bool,

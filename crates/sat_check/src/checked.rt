@@ -1,6 +1,7 @@
 //! How a check ended.
 
 ghost use Rattle.std.specs.Prelude.{◌≡◌, ◌≢◌, Some, None, false};
+ghost use Rattle.sat_check.specs.Code.Checked.{ended};
 
 use crate::{InputFault, Status};
 use proofs::StepEnd;
@@ -23,13 +24,7 @@ pub struct Checked {
 impl Checked {
     /// No step was refused, and no input is malformed.
     pub(crate) fn without_step(status: Status) -> Checked
-        ensures { result ≡ record {
-          status = status;
-          refused = None;
-          literal_lost = false;
-          fault = None;
-          unmet = None;
-        } }
+        ensures { result ≡ ended status None }
     {
         Checked {
             status,
@@ -42,13 +37,7 @@ impl Checked {
 
     /// The model satisfies all clauses, or not the one of this number.
     pub(crate) fn by_clause(status: Status, unmet: Option<u64>) -> Checked
-        ensures { result ≡ record {
-          status = status;
-          refused = None;
-          literal_lost = false;
-          fault = None;
-          unmet = unmet;
-        } }
+        ensures { result ≡ ended status unmet }
     {
         Checked {
             unmet,
@@ -67,11 +56,9 @@ impl Checked {
     {
         match status {
             Status::NotVerified => Checked {
-                status,
                 refused: end,
                 literal_lost,
-                fault: None,
-                unmet: None,
+                ..Checked::without_step(status)
             },
             _ => Checked::without_step(status),
         }
@@ -88,11 +75,8 @@ impl Checked {
     {
         match status {
             Status::Malformed => Checked {
-                status,
-                refused: None,
-                literal_lost: false,
                 fault: Some(fault),
-                unmet: None,
+                ..Checked::without_step(status)
             },
             _ => Checked::without_step(status),
         }

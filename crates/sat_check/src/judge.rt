@@ -42,6 +42,7 @@ pub fn judge<F: In>(alloc: Global, formula: &mut F, model: &Model) -> Result<Jud
 }
 
 // Judges the clauses of the formula in turn.
+#[tactic(auto, using(crate::proofs::ModelLemmas::judging_start))]
 fn judge_clauses<F: In>(
     alloc: Global,
     reader: &mut FormulaReader<F>,

@@ -47,6 +47,7 @@ pub fn load<F: In, S: ProofSession>(
 }
 
 // Inputs all clauses of the formula.
+#[tactic(auto, using(crate::proofs::FormulaLemmas::loading_start))]
 fn load_clauses<F: In, S: ProofSession>(
     alloc: Global,
     reader: &mut FormulaReader<F>,

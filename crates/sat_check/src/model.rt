@@ -99,6 +99,7 @@ fn check_model<F: In, M: In, O: Out>(
 }
 
 // The model that the output claims.
+#[tactic(auto, using(crate::proofs::FormulaLemmas::seen_nothing))]
 fn claimed<M: In>(alloc: Global, output: &mut M) -> Result<Model, Fault>
     ensures claims { OfSeen (M.shown output.old) (M.shown output.new)
         (λ j. IsClaim result (claim_of j)) }

@@ -9,15 +9,13 @@ use Rattle.sat_check.proofs.check.check.Goals as goal
 
 pub check_loaded-requires-clause-loaded : goal.check_loaded-requires-clause-loaded
 check_loaded-requires-clause-loaded g c = let loads = c.in-Ok.ensures.loads in
-    let some = seen_is_some _ _ loads.seen in
-    grind arith
+    let some = seen_is_some _ _ loads.seen in grind arith
 
 pub returns-in-Ok-clause-report : goal.returns-in-Ok-clause-report
-returns-in-Ok-clause-report g c =
-    let rule = rule_of (g.S.ProofSession.shown c.args.session.now).state in (
-      c.in-Ok.ensures.loads.seen,
-      Along-map _ _ _ _ c.check_loaded.ensures.report (grind (arith, reports_checked, c.in-Ok.ensures.loads.fact)),
-    )
+returns-in-Ok-clause-report g c = (
+  c.in-Ok.ensures.loads.seen,
+  Along-map _ _ _ _ c.check_loaded.ensures.report (grind (arith, reports_checked, c.in-Ok.ensures.loads.fact)),
+)
 
 pub returns-in-Err-clause-report : goal.returns-in-Err-clause-report
 returns-in-Err-clause-report g c =

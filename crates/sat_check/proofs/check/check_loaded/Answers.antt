@@ -1,24 +1,20 @@
 -- The formula's line broke off, a clause is empty, or the proof is checked.
-use Rattle.std.proofs.Common.{arith, None, ap, rules, sym, ◌∙◌, ◌≡◌}
 use Rattle.cnf_base.proofs.StreamLemmas.{Along-map, Along-none}
 use Rattle.report.specs.Lines.{formula_line, steps_line}
 use Rattle.report.specs.declared.status.Status.TheVariants.{Malformed, Verified}
 use Rattle.sat_check.proofs.CheckLemmas.{LeavesProof-checked, LeavesProof-empty, TellsFault-none}
 use Rattle.sat_check.proofs.CheckLemmas.{concluded_not, cut_short_not}
-use Rattle.sat_check.proofs.OutcomeLemmas.{Outcome-line, no_verdict}
-use Rattle.sat_check.proofs.ReportLemmas.{checks_rest, checks_some, loaded_finite, loaded_least}
-use Rattle.sat_check.{proofs.ReportLemmas.verified_report, specs.declared.checked.Checked.Checked}
+use Rattle.sat_check.proofs.ReportLemmas.{checks_rest, checks_some}
+use Rattle.sat_check.proofs.{ReportLemmas.verified_report, OutcomeLemmas.Outcome-line}
+use Rattle.sat_check.{proofs.OutcomeLemmas.no_verdict, specs.declared.checked.Checked.Checked}
+use Rattle.std.proofs.Common.{None, ap, arith, rules, sym, ◌∙◌, ◌≡◌}
 use Rattle.sat_check.proofs.check.check_loaded.Goals as goal
 
 pub returns-in-Err-clause-report : goal.returns-in-Err-clause-report
 returns-in-Err-clause-report g c = Along-map _ _ _ _ (Along-none _) (λ j k m same rule clauses l.
     let some = checks_some rule (g.S.ProofSession.shown c.args.session.now) clauses l c.args.trace c.args.header _ in
-    let stopped = c.in-Err.ensures.stopped (formula_line c.args.header) in (
-      _,
-      some.1,
-      grind arith,
-      grind (arith, cut_short_not, no_verdict),
-    ))
+    let stopped = c.in-Err.ensures.stopped (formula_line c.args.header) in
+    (_, some.1, grind arith, grind (arith, cut_short_not, no_verdict)))
 
 pub returns-then-verified-clause-report : goal.returns-then-verified-clause-report
 returns-then-verified-clause-report g c =
@@ -34,9 +30,6 @@ returns-then-verified-clause-report g c =
           (λ m. concluded_not Verified _ _ c.conclude-status.ensures.status (λ e. let bad : Verified ≡ Malformed = e in cc) (sym (ap (λ (x : Checked). x.status) c.without_step-then-verified.ensures) ∙ m)))
           (sym l.verified ∙ search rules),
     ))
-
-pub check_proof-requires-clause-open : goal.check_proof-requires-clause-open
-check_proof-requires-clause-open g c = search (rules, loaded_finite, loaded_least)
 
 pub returns-clause-report : goal.returns-clause-report
 returns-clause-report g c =

@@ -1,6 +1,5 @@
 -- The step was refused, its line broke off, it is the last one, or the check goes on.
-use Rattle.sat_check.proofs.{OutcomeLemmas.no_verdict, ReportLemmas.Stops-refused}
-use Rattle.sat_check.proofs.ReportLemmas.{Stops-traced, Stops-verified, was_refused}
+use Rattle.sat_check.proofs.ReportLemmas.{Stops-refused, Stops-traced, Stops-verified, was_refused}
 use Rattle.std.proofs.Common.{arith, inl, inr, rules}
 use Rattle.sat_check.proofs.check_step.check_step.Goals as goal
 
@@ -9,16 +8,9 @@ returns-in-Err-clause-stops g c =
     Stops-refused c.args.trace c.args.number (g.S.ProofSession.shown c.args.session.now) c.args.step.now c.args.lines.now c.refuse.new.lines c.refuse.result c.in-Err.refusal c.refuse.ensures.memory c.refuse.ensures.refused (c.in-Err.ensures.answers c.requires.sound)
 
 pub returns-in-Err-write_trace-clause-stops : goal.returns-in-Err-write_trace-clause-stops
-returns-in-Err-write_trace-clause-stops g c =
-    search (
-      rules,
-      arith,
-      Stops-traced,
-      c.in-Ok.ensures.answers,
-      c.in-Ok.ensures.state,
-      c.in-Ok.ensures.peak,
-      c.in-Err-write_trace.ensures.stopped,
-    )
+returns-in-Err-write_trace-clause-stops g c = let ok = c.in-Ok.ensures in
+    let stopped = c.in-Err-write_trace.ensures.stopped in
+    search (rules, arith, Stops-traced, ok.answers, ok.state, ok.peak, stopped)
 
 pub returns-then-is_last-clause-stops : goal.returns-then-is_last-clause-stops
 returns-then-is_last-clause-stops g c =
@@ -33,9 +25,3 @@ returns-in-Err-clause-decided g c =
 pub returns-in-Err-clause-refused : goal.returns-in-Err-clause-refused
 returns-in-Err-clause-refused g c =
     λ is. was_refused c.args.trace c.args.number (g.S.ProofSession.shown c.args.session.now) c.args.step.now c.args.lines.now c.refuse.new.lines c.refuse.result c.in-Err.refusal c.refuse.ensures.memory (c.in-Err.ensures.answers c.requires.sound) (inr is)
-
-pub returns-in-Err-write_trace-clause-decided : goal.returns-in-Err-write_trace-clause-decided
-returns-in-Err-write_trace-clause-decided g c = search (rules, no_verdict)
-
-pub returns-in-Err-write_trace-clause-refused : goal.returns-in-Err-write_trace-clause-refused
-returns-in-Err-write_trace-clause-refused g c = search (rules, no_verdict)

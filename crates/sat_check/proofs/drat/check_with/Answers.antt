@@ -1,19 +1,19 @@
 -- Want of memory, or the check in the form that was asked for.
-use Rattle.std.proofs.Common.{ap, rules, sym, arith}
 use Rattle.proofs.specs.Code.{Binary.binary_to_come, Drat.drat_to_come}
 use Rattle.sat_check.proofs.CheckLemmas.{reports_run, runs_nothing}
-use Rattle.sat_check.{proofs.FormulaLemmas.unused, specs.Report.drat_proof, specs.Report.rules_of}
-use Rattle.{steps.specs.Session.view_of, theory.specs.Rules.drat, theory.specs.Rules.rule_of}
+use Rattle.sat_check.{proofs.FormulaLemmas.unused, specs.Report.drat_proof}
+use Rattle.std.proofs.Common.{ap, arith, rules, sym}
+use Rattle.{steps.specs.Session.view_of, theory.specs.Rules.rule_of}
 use Rattle.sat_check.proofs.drat.check_with.Goals as goal
 
 pub returns-in_default : goal.returns-in_default
 returns-in_default g c = grind (arith, runs_nothing)
 
 pub check-checked-requires-clause-unused : goal.check-checked-requires-clause-unused
-check-checked-requires-clause-unused g c = unused (drat (rules_of c.args.options)) c.args.session.now c.requires.fresh
+check-checked-requires-clause-unused g c = unused _ c.args.session.now c.requires.fresh
 
 pub check-checked-requires-else-options-clause-unused : goal.check-checked-requires-else-options-clause-unused
-check-checked-requires-else-options-clause-unused g c = unused (drat (rules_of c.args.options)) c.args.session.now c.requires.fresh
+check-checked-requires-else-options-clause-unused g c = unused _ c.args.session.now c.requires.fresh
 
 pub returns-then-options : goal.returns-then-options
 returns-then-options g c = record {

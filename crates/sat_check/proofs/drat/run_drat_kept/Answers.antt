@@ -8,8 +8,7 @@ use Rattle.sat_check.proofs.drat.run_drat_kept.Goals as goal
 
 pub returns : goal.returns
 returns g c = let rule = drat (rules_of c.args.options.now) in
-    let trace = c.args.options.now.trace in
-    let steps = drat_proof c.args.options.now.binary in
+    let trace = c.args.options.now.trace in let steps = drat_proof c.args.options.now.binary in
     drat_placed (rules_of c.args.options.now) trace steps _ _ _ _ _ _ _ _ _ _ (
     runs_placed rule trace steps _ _ _ _ c.match-session.checked c.new-lines.result c.match-session.lines _ _ _ _ _
     (search rules) (search rules) (search rules) (search rules) (search rules)

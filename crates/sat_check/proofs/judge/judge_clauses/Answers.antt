@@ -1,12 +1,9 @@
 -- A clause is met, it is the first that isn't, none is left, or there is a fault.
 use Rattle.sat_check.proofs.{FormulaLemmas.clause_told, ModelLemmas.Judging-clause}
-use Rattle.sat_check.proofs.ModelLemmas.{Judging-done, Judging-fault, Judging-start, Judging-unmet}
+use Rattle.sat_check.proofs.ModelLemmas.{Judging-done, Judging-fault, Judging-unmet}
 use Rattle.{sat_check.specs.ModelReport.meets, std.proofs.Common.arith, std.proofs.Common.false}
 use Rattle.std.{proofs.Common.rules, proofs.Common.true, proofs.Common.◌≡◌, specs.Prelude.Ok}
 use Rattle.sat_check.proofs.judge.judge_clauses.Goals as goal
-
-pub loop-clause-init : goal.loop-clause-init
-loop-clause-init g c = Judging-start c.args.model.now c.args.reader.now c.requires
 
 pub returns-then-not-meets-clause-judges : goal.returns-then-not-meets-clause-judges
 returns-then-not-meets-clause-judges g c =

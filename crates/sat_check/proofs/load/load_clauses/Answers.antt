@@ -1,11 +1,8 @@
 -- A clause is input, until the last one or a fault.
 use Rattle.sat_check.proofs.FormulaLemmas.{Loading-clause, Loading-done, Loading-fault}
-use Rattle.sat_check.proofs.FormulaLemmas.{Loading-refused, Loading-start, clause_told, loaded_more}
+use Rattle.sat_check.proofs.FormulaLemmas.{Loading-refused, clause_told, loaded_more}
 use Rattle.std.{proofs.Common.arith, proofs.Common.false, proofs.Common.rules, specs.Prelude.Ok}
 use Rattle.sat_check.proofs.load.load_clauses.Goals as goal
-
-pub loop-clause-init : goal.loop-clause-init
-loop-clause-init g c = search (rules, Loading-start)
 
 pub returns-then-is_err-clause-loads : goal.returns-then-is_err-clause-loads
 returns-then-is_err-clause-loads g c =

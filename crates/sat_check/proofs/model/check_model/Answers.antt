@@ -15,8 +15,8 @@ returns-in-Ok-clause-report g c = let checked = c.check_formula.ensures.report i
       fact = λ i j s t. (
         grind (arith, claimed_report),
         grind (arith, claimed_consistent),
-        formula_needed c.in-Ok.model (claim_of j) i _ _ (claims.fact j t) (checked.fact i s).1 (checked.fact i s).4,
-        claimed_tells c.in-Ok.model (claim_of j) (formula_of i) c.check_formula.result (claims.fact j t) (checked.fact i s).2 (checked.fact i s).3,
+        formula_needed c.in-Ok.model _ i _ _ (claims.fact j t) (checked.fact i s).1 (checked.fact i s).4,
+        claimed_tells c.in-Ok.model _ _ _ (claims.fact j t) (checked.fact i s).2 (checked.fact i s).3,
       );
     }
 

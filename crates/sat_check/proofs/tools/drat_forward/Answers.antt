@@ -13,8 +13,7 @@ returns-clause-unsatisfiable g c = let options = c.of-options.result in
     _ _ _ _ _ _ _ _ c.run_drat_kept-session.ensures.checks (grind (arith, drat_reported))
 
 pub returns-clause-steps_verify : goal.returns-clause-steps_verify
-returns-clause-steps_verify g c = let options = c.of-options.result in
-    rw c.of-options.ensures at
+returns-clause-steps_verify g c = let options = c.of-options.result in rw c.of-options.ensures at
     (shows_steps (drat (rules_of options)) options.trace (drat_proof options.binary)
     _ _ _ _ _ _ _ _ c.run_drat_kept-session.ensures.checks (λ i j x.
     drat_reported _ _ _ _ _ _ _ x.0.reports)
