@@ -1,6 +1,6 @@
 -- A text's words, as it is read, and that a number and a fixed word are spelled in one way.
-use Rattle.std.proofs.Common.{◌≡◌, ℕ, ◌≤◌, ◌==◌, ◌&&◌, ◌⊎◌, not, Bool, true, false, List, [], ◌∷◌}
-use Rattle.std.proofs.Common.{◌++◌, drop, map, filter, Option, None, Some, refl, sym, ap}
+use Rattle.std.proofs.Common.{◌≡◌, ℕ, ◌≤◌, ◌==◌, ◌⊎◌, not, Bool, true, false, List, [], ◌∷◌}
+use Rattle.std.proofs.Common.{◌++◌, map, filter, Option, None, Some, refl, ap}
 use Rattle.std.proofs.Common.{append_assoc, arith, rules, codes, flat_map, filter_map, append-nil}
 use Rattle.std.specs.List.{list_all, cons_option, slice_split}
 use Rattle.std.proofs.lemmas.Fmt.{decimal_digit, decimal-digits_value}
@@ -11,10 +11,10 @@ use Rattle.cnf_base.specs.Grammar.{is_word, words_in, word_lines, text_words}
 use Rattle.cnf_base.specs.Text.{is_separator, Spot, spot, one_on, next_line, along, Listed}
 use Rattle.cnf_base.specs.Text.{words_of, is_comment, line_tokens, with_front, Listing}
 use Rattle.cnf_base.specs.Text.{lines_listing, listing_of}
-use Rattle.cnf_base.specs.Words.{is_digit, is_counting, has_minus, size_of, number, fixed_word}
-use Rattle.cnf_base.proofs.PrintLemmas.{both, AreAllDigits, numerals}
+use Rattle.cnf_base.specs.Words.{is_counting, size_of, number, fixed_word}
+use Rattle.cnf_base.proofs.PrintLemmas.{numerals}
 use Rattle.cnf_base.proofs.TextLemmas.{first_part, is_comment-lines_of}
-use Rattle.cnf_base.specs.{Code.Digits.decimal_value, declared.input.Ending.TheVariants.End}
+use Rattle.cnf_base.specs.{declared.input.Ending.TheVariants.End}
 use Rattle.cnf_base.specs.{Printing.input_of, Words.word_of, declared.word.Word.Word}
 use Rattle.cnf_base.specs.declared.word.Word.TheVariants as words
 use Rattle.cnf_base.specs.declared.token.Token as tokens
@@ -94,8 +94,8 @@ lines_say false s line (next ∷ rest) e =
 pub listing_says : (bytes : List ℕ) → Says (listing_of (input_of bytes)) (text_said bytes)
 listing_says bytes =
     let f = first_part (λ b. b == 10) bytes in
-    let same : is_comment f.0 ≡ is_comment bytes = sym (is_comment-lines_of bytes f.0 f.1 f.2) in
-    grind (arith, lines_say (is_comment bytes) (spot (record { line = 1; col = 1 }) 0) f.0 f.1 same)
+    let says = lines_say (is_comment bytes) (spot (record { line = 1; col = 1 }) 0) f.0 f.1 in
+    grind (arith, is_comment-lines_of bytes f.0 f.1 f.2)
 
 -- the words of a text, line ends aside
 pub listing_words : (bytes : List ℕ)
@@ -150,15 +150,7 @@ counting_text : (ds : List ℕ) → is_counting ds ≡ true → size_of ds ≤ 9
     → (ds ≡ decimal (size_of ds)) × (1 ≤ size_of ds)
 counting_text [] h small = absurd (cc)
 counting_text (d ∷ ds) h small =
-    let first = both (is_digit d && not (d == 48)) (list_all is_digit ds) h in
-    let parts = both (is_digit d) (not (d == 48)) first.0 in
-    let digits : AreAllDigits (d ∷ ds) = cc in
-    let value : size_of (d ∷ ds) ≡ decimal_value (d ∷ ds) = omega arith in
-    let other : d ≡ 48 → ⊥ = grind (arith, nat_tests) in
-    let text : decimal (decimal_value (d ∷ ds)) ≡ d ∷ ds =
-    decimal-digits_value numerals (d ∷ ds) digits (omega arith) (λ e. absurd (other e))
-    (omega arith) in
-    let zero_text = decimal_digit 0 (omega arith) in grind arith
+    grind (arith, nat_tests, decimal-digits_value numerals (d ∷ ds), decimal_digit)
 
 -- the fixed words
 fixed_spelled : (run : List ℕ) → IsSpelled (fixed_word run) run
@@ -166,17 +158,7 @@ fixed_spelled run = search rules
 
 -- each word
 pub word_spelled : (run : List ℕ) → IsSpelled (word_of run) run
-word_spelled run =
-    let nought = (bytes_eq-Decides run (codes "0")).0 in let fixed = fixed_spelled run in
-    let zero_text = decimal_digit 0 (omega arith) in let counts = counting_text run in
-    let minus = minus_text run in grind arith
-  where
-    minus_text : (bs : List ℕ) → (has_minus bs && is_counting (drop 1 bs)) ≡ true
-        → size_of (drop 1 bs) ≤ 9223372036854775807 → (bs ≡ 45 ∷ decimal (size_of (drop 1 bs)))
-        × (1 ≤ size_of (drop 1 bs))
-    minus_text [] h small = absurd (cc)
-    minus_text (b ∷ bs) h small =
-        let k = both (b == 45) (is_counting bs) h in grind (arith, counting_text bs k.1 small)
+word_spelled run = grind (arith, bytes_eq-Decides, fixed_spelled, counting_text, decimal_digit)
 
 -- a number within the limit has one spelling
 pub number_spelled : (run : List ℕ) (is_negative : Bool) (n : ℕ) → n ≤ 9223372036854775807

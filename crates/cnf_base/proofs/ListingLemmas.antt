@@ -25,8 +25,7 @@ words_of-from : (n : ℕ) (s : Spot) (parts : List (List ℕ)) → n ≤ s.offse
 words_of-from n s [] h = tt
 words_of-from n s ([] ∷ parts) h = words_of-from n (one_on s) parts (omega (arith, h))
 words_of-from n s ((b ∷ bs) ∷ parts) h =
-    let past = along-later s (b ∷ bs) in
-    let later = words_of-from n (one_on (along s (b ∷ bs))) parts in grind arith
+    grind (arith, along-later, words_of-from n (one_on (along s (b ∷ bs))) parts)
 
 line_tokens-from : (n : ℕ) (skips : Bool) (s : Spot) (line : List ℕ) → n ≤ s.offset
     → EndFrom n (line_tokens skips s line)

@@ -87,23 +87,26 @@ module _ {X : Type 0} (w : X → ℕ) where
   weight_put : (k : ℕ) (c : X) (es : List (ℕ × X)) → find nat_cmp k es ≡ None
       → weight (put nat_cmp k c es) ≡ w c + weight es
   weight_put k c [] none = weight-cons (k, c) []
-  weight_put k c (e ∷ es) none =
-      let later = weight_put k c es in let first = weight-cons (k, c) (e ∷ es) in
-      let kept = weight-cons e (put nat_cmp k c es) in let old = weight-cons e es in grind arith
+  weight_put k c (e ∷ es) none = grind (
+    arith,
+    weight_put k c es,
+    weight-cons (k, c) (e ∷ es),
+    weight-cons e (put nat_cmp k c es),
+    weight-cons e es,
+  )
 
   -- what comes to a new key adds its weight
   pub sum_insert : (m : FinMap nat_cmp X) (k : ℕ) (c : X) → maps.get m k ≡ None
       → sum_over w (maps.insert m k c) ≡ w c + sum_over w m
   sum_insert m k c none =
-      let put_is = weight_put k c (maps.entries m) (sym (maps.get-entries m k) ∙ none) in
-      cc (maps.entries-insert nat_cmp_total m k c)
+      grind (arith, weight_put, maps.get-entries, maps.entries-insert nat_cmp_total m k c)
 
   -- what is taken out takes its weight with it
   pub sum_remove : (m : FinMap nat_cmp X) (k : ℕ) (c : X) → maps.get m k ≡ Some c
       → w c + sum_over w (maps.remove m k) ≡ sum_over w m
   sum_remove m k c here =
-      let back = inserted_is (maps.remove m k) m k c here (λ s ne. sym (remove_other m k s ne)) in
-      cc (sum_insert (maps.remove m k) k c (remove_here m k k refl))
+      let back = inserted_is (maps.remove m k) m k c here in
+      grind (arith, remove_other, sum_insert (maps.remove m k) k c, remove_here)
 
   pub sum_replace : (m : FinMap nat_cmp X) (k : ℕ) (c d : X) → maps.get m k ≡ Some c → w d ≡ w c
       → sum_over w (maps.insert m k d) ≡ sum_over w m
@@ -146,10 +149,15 @@ module _ {X Y : Type 0} (w : X → ℕ) (v : Y → ℕ) where
         | ◌∷◌ e es ↦ λ is.
             let here : maps.get m e.0 ≡ Some e.1 =
             cc (maps.get-entries m e.0, unsigned_tied e.0 e.0, eq-eqb e.0 e.0 refl) in
-            let one_less = len_without m e.0 e.1 here in
-            let fewer = sum_lighter_of n (maps.remove m e.0) (maps.remove k e.0) (omega arith)
-            (lighter_rest m k e.0 each) in
-            omega (arith, each e.0 e.1 here, sum_remove w m e.0 e.1 here, sum_without k e.0)
+            grind (
+              arith,
+              len_without m e.0 e.1 here,
+              lighter_rest m k e.0 each,
+              each e.0 e.1 here,
+              sum_lighter_of n (maps.remove m e.0) (maps.remove k e.0),
+              sum_remove w m e.0 e.1 here,
+              sum_without k e.0,
+            )
       ] refl
 
   pub sum_lighter : (m : FinMap nat_cmp X) (k : FinMap nat_cmp Y) → IsLighter m k

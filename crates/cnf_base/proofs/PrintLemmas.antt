@@ -3,7 +3,7 @@ use Rattle.std.proofs.Common.{◌≡◌, ℕ, zero, suc, ◌+◌, ◌-◌, ◌*�
 use Rattle.std.proofs.Common.{nat_le, cond, not, Bool, true, false, List, [], ◌∷◌, ◌++◌, length}
 use Rattle.std.proofs.Common.{fold, Option, Some, refl, ap, ◌∙◌, append_assoc, append-nil}
 use Rattle.std.proofs.Common.{length-append, arith, codes, decimal}
-use Rattle.std.specs.List.{list_all, join_with_byte}
+use Rattle.std.specs.List.{list_all}
 use Rattle.std.proofs.lemmas.Fmt.{decimal_digit, decimal_nonempty, first_decimal, digits_decimal}
 use Rattle.std.proofs.lemmas.Str.Parse.{IsDigitsTest, IsNumeralModel, numerals_by_fold}
 use Rattle.std.proofs.{lemmas.Bool.Decides.nat_tests, lemmas.Fmt.digits_value-decimal}
@@ -12,7 +12,7 @@ use Rattle.cnf_base.specs.Printing.{words_line, is_literal, literal_text}
 use Rattle.cnf_base.specs.Text.{is_separator, is_comment, with_front, Listing, listing_at}
 use Rattle.cnf_base.specs.Code.Text.{col_after, line_after, listed, col_along}
 use Rattle.cnf_base.specs.Words.{is_digit, is_counting, size_of, number, number_literal, word_of}
-use Rattle.cnf_base.proofs.TextLemmas.{Each, none, more, IsRun, listing_at-separator}
+use Rattle.cnf_base.proofs.TextLemmas.{Each, Each-all, none, more, IsRun, listing_at-separator}
 use Rattle.cnf_base.proofs.TextLemmas.{listing_at-feed, listing_at-run}
 use Rattle.cnf_base.specs.{declared.input.Ending.TheVariants.End, declared.word.Number.Number}
 use Rattle.cnf_base.specs.{Stream.suffix, Code.Digits.decimal_value, declared.place.Place.Place}
@@ -35,9 +35,7 @@ line_from p n ws rest = listing_at p (suffix n (after_word ws rest) End)
 pub words_line-cons : (w : List ℕ) (ws : List (List ℕ)) (rest : List ℕ)
     → words_line (w ∷ ws) ++ rest ≡ w ++ after_word ws rest
 words_line-cons w [] rest = append_assoc w (10 ∷ []) rest
-words_line-cons w (v ∷ vs) rest =
-    let inner = append_assoc w (32 ∷ join_with_byte 32 (v ∷ vs)) (10 ∷ []) in
-    cc (append_assoc w (32 ∷ words_line (v ∷ vs)) rest, words_line-cons v vs rest)
+words_line-cons w (v ∷ vs) rest = grind (arith, append_assoc, words_line-cons v vs rest)
 
 -- the offset of the byte after a line of which these words are left
 abbrev pub end_of_line : ℕ → List (List ℕ) → ℕ
@@ -111,15 +109,10 @@ first_word p n w ws rest no_comment plain = grind (arith, words_line-cons, run_f
 
 -- ---- Words
 
--- each byte passes the test
-each_from : (p : ℕ → Bool) (bs : List ℕ) → list_all (λ b. not (p b)) bs ≡ true → Each p bs
-each_from p [] h = none
-each_from p (b ∷ bs) h = let later = each_from p bs in grind (arith, more)
-
 -- a fixed word
 pub fixed_plain : (b : ℕ) (bs : List ℕ) → list_all (λ b. not (is_separator b)) (b ∷ bs) ≡ true
     → IsPlain (b ∷ bs)
-fixed_plain b bs h = grind (arith, each_from)
+fixed_plain b bs h = grind (arith, Each-all)
 
 -- both of two tests
 pub both : (a b : Bool) → (a && b) ≡ true → (a ≡ true) × (b ≡ true)
@@ -192,18 +185,15 @@ literal_range greatest l h = grind (arith, nat_tests)
 -- is taken for
 module _ (greatest l : ℕ) (within : greatest ≤ 268435455) (is : is_literal greatest l ≡ true) where
   pub literal_word : word_of (literal_text l) ≡ words.Number (literal_number l)
-  literal_word =
-      let range = literal_range greatest l is in grind (arith, decimal_word, minus_word)
+  literal_word = grind (arith, decimal_word, minus_word, literal_range)
 
   pub literal_plain : IsPlain (literal_text l)
   literal_plain =
-      let range = literal_range greatest l is in let small : variable l < 2 ^ 64 = omega arith in
-      elim (l % 2 == 0) as
-      (λ b. IsPlain (cond b (decimal (variable l)) (45 ∷ decimal (variable l))))
-      [ true ↦ decimal_plain _ small | false ↦ minus_plain _ small ]
+      let range = literal_range greatest l is in
+      grind (arith, decimal_plain (variable l), minus_plain (variable l))
 
   pub literal_no_comment : is_comment (literal_text l) ≡ false
-  literal_no_comment = let range = literal_range greatest l is in grind (arith, decimal_no_comment)
+  literal_no_comment = grind (arith, decimal_no_comment, literal_range)
 
   pub literal_taken : {X : Type 0} (take : Option Literal → X) (other : X)
       → cond (nat_le (variable l) 268435455) (take (number_literal (literal_number l))) other

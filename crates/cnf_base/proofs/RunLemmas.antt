@@ -1,23 +1,23 @@
 -- What a scanner has seen of a text, byte by byte.
-use Rattle.std.proofs.Common.{◌≡◌, ℕ, ◌+◌, ◌<◌, ◌≤◌, ◌==◌, true, false, List, [], ◌∷◌, ◌++◌, length}
+use Rattle.std.proofs.Common.{◌≡◌, ℕ, ◌+◌, ◌<◌, ◌≤◌, ◌==◌, true, false, List, [], ◌∷◌, length}
 use Rattle.std.proofs.Common.{take, drop, length-drop, refl, sym, ◌∙◌, arith, Some, rules}
-use Rattle.std.proofs.Common.{slice_index, slice_range, ◌-◌, Result, Ok, Err, IsErr, take_all}
-use Rattle.std.proofs.{lemmas.Bool.Decides.nat_tests, lemmas.Grind.common_steps}
-use Rattle.cnf_base.specs.Stream.{Suffix, suffix, Stream, Along, IsLook, bumped, most_to_come}
+use Rattle.std.proofs.Common.{slice_index, slice_range, ◌-◌, take_all}
+use Rattle.std.proofs.{lemmas.Grind.common_steps}
+use Rattle.cnf_base.specs.Stream.{Stream, Along, IsLook, bumped, most_to_come}
 use Rattle.cnf_base.specs.Text.{is_separator, with_front, skips_at, listing_at}
-use Rattle.cnf_base.specs.Code.Text.{listed, col_along, comment_at, FailsAt}
-use Rattle.cnf_base.proofs.StreamLemmas.{Splits, Splits-then, Along-look, Along-still, Along-map}
+use Rattle.cnf_base.specs.Code.Text.{listed, col_along, comment_at}
+use Rattle.cnf_base.proofs.StreamLemmas.{Splits, Along-look, Along-still, Along-map}
 use Rattle.cnf_base.proofs.StreamLemmas.{Along-then, Along-bumped, Along-skipped, shown_byte}
-use Rattle.cnf_base.proofs.TextLemmas.{none, more, Each-append, Each-all, skips_at-front}
-use Rattle.cnf_base.proofs.TextLemmas.{col_along-length, IsRun, col_along-append}
-use Rattle.cnf_base.proofs.TextLemmas.{listing_at-separator, listing_at-feed, listing_at-run}
-use Rattle.cnf_base.specs.{declared.input.Ending.Ending, declared.input.Ending.TheVariants.Failed}
-use Rattle.cnf_base.specs.{declared.word.Number.Number, declared.input.Ending.TheVariants.End}
-use Rattle.cnf_base.specs.{declared.input.ReadFailed.ReadFailed, declared.place.Place.Place}
+use Rattle.cnf_base.proofs.TextLemmas.{none, more, Each-all, skips_at-front}
+use Rattle.cnf_base.proofs.TextLemmas.{col_along-length, IsRun}
+use Rattle.cnf_base.proofs.TextLemmas.{listing_at-separator, listing_at-run}
+use Rattle.cnf_base.specs.{declared.input.Ending.TheVariants.Failed}
+use Rattle.cnf_base.specs.{declared.word.Number.Number}
+use Rattle.cnf_base.specs.{declared.place.Place.Place}
 use Rattle.cnf_base.specs.{Stream.tells_failure, Ahead.IsWholeNumber, declared.word.Word.Word}
 use Rattle.cnf_base.specs.{Stream.skipped, Words.word_of, Ahead.IsNumberAhead}
 use Rattle.cnf_base.proofs.{StreamLemmas.most_to_come-bumped, StreamLemmas.most_to_come-look}
-use Rattle.cnf_base.proofs.{TextLemmas.listing_at-last_run, TextLemmas.listing_at-cut_run}
+use Rattle.cnf_base.proofs.{TextLemmas.listing_at-cut_run}
 use Rattle.cnf_base.specs.declared.word.Word.TheVariants as words
 use Rattle.cnf_base.specs.declared.token.Token as tokens
 use Rattle.cnf_base.specs.declared.token.Token.TheVariants as token
@@ -61,18 +61,6 @@ InRun-looked old now new run r l mark = record {
   text = Along-then old now new _ _ _ r.text (Along-look now new l) (grind arith);
   fewer = grind (arith, most_to_come-look);
   mark = mark ∙ r.mark;
-}
-
-pub InRun-bumped : (old now : Stream) (run : List ℕ) (b : ℕ) → InRun old now run
-    → 0 < length now.ahead → b ≡ slice_index now.ahead 0 → is_separator b ≡ false
-    → InRun old (bumped now) (run ++ b ∷ [])
-InRun-bumped old now run b r some first inner = record {
-  is_run = grind (arith, Each-append);
-  place = grind (arith, col_along-append);
-  text = Along-then old now (bumped now) _ _ _ r.text (Along-bumped now b some first)
-      (λ i j k m p q. Splits-then i run j (b ∷ []) k p q);
-  fewer = grind arith;
-  mark = r.mark;
 }
 
 pub InRun-first : (old : Stream) (first : ℕ) → 0 < length old.ahead
@@ -124,32 +112,12 @@ one_byte-read old first word shown says inner skips long separator =
     (InRun-first old first (omega (arith, long)) shown inner skips) (grind (arith, length-drop))
     refl (grind (arith, common_steps))
 
--- the run is at the end
-pub InRun-end : (old now : Stream) (word : Word) (run : List ℕ) → word ≡ word_of run
-    → InRun old now run → now.ahead ≡ [] → now.met ≡ Some End
-    → GivesFirst (token.Word old.place word) old now
-InRun-end old now word run says r nothing met = grind (arith, Along-map, listing_at-last_run)
-
 -- a failed read cuts the run
 pub InRun-failed : (old now new : Stream) (run : List ℕ) → InRun old now run → IsLook now new
     → new.ahead ≡ [] → new.met ≡ Some Failed → IsCut old new
 InRun-failed old now new run r look nothing met =
     Along-then old now new _ _ _ r.text (Along-look now new look)
     (grind (arith, listing_at-cut_run))
-
--- a byte of a comment was taken
-pub comment-bumped : (old now : Stream) (b : ℕ) → InComment old now → 0 < length now.ahead
-    → b ≡ slice_index now.ahead 0 → (b == 10) ≡ false → InComment old (bumped now)
-comment-bumped old now b text some first line =
-    Along-then old now (bumped now) _ _ _ text (Along-bumped now b some first) (grind arith)
-
--- a comment's line feed was taken
-pub comment-done : (old now : Stream) (b : ℕ) → InComment old now → 0 < length now.ahead
-    → b ≡ slice_index now.ahead 0 → (b == 10) ≡ true
-    → Along old (bumped now)
-    (λ i j. (comment_at old.place i ≡ listing_at (bumped now).place j) × Unit {0})
-comment-done old now b text some first feed =
-    Along-then old now (bumped now) _ _ _ text (Along-bumped now b some first) (grind arith)
 
 pub Stands-looked : (old now new : Stream) → Stands old now → IsLook now new
     → tells_failure new.reader ≡ tells_failure now.reader → Stands old new
@@ -170,60 +138,14 @@ Stands-separator old now b s from_one some first h line = record {
   mark = s.mark;
 }
 
--- a line feed was taken
-pub Stands-feed : (old now : Stream) (b : ℕ) → Stands old now → 0 < length now.ahead
-    → b ≡ slice_index now.ahead 0 → (b == 10) ≡ true
-    → GivesFirst (token.LineEnd now.place) old (bumped now)
-Stands-feed old now b s some first feed =
-    let is_feed : b ≡ 10 = grind (arith, nat_tests) in
-    Along-then old now (bumped now) _ _ _ s.text (Along-bumped now b some first)
-    (grind (arith, listing_at-feed))
-
 -- a comment's first byte was taken
 module _ (old now : Stream) (b : ℕ) (s : Stands old now) (some : 0 < length now.ahead)
     (first : b ≡ slice_index now.ahead 0) (is_c : (b == 99) ≡ true)
-    (start : (now.place.col == 1) ≡ true) (new : Stream) where
-  Stands-c : Along old (bumped now)
+    (start : (now.place.col == 1) ≡ true) where
+  pub Stands-c : Along old (bumped now)
       (λ i j. listing_at old.place i ≡ comment_at (bumped now).place j)
   Stands-c =
       Along-then old now (bumped now) _ _ _ s.text (Along-bumped now b some first) (grind arith)
-
-  -- and then the others
-  pub Stands-comment : (Q : Suffix → Type 0) → Along (bumped now) new
-      (λ i j. (comment_at (bumped now).place i ≡ listing_at new.place j) × Q j)
-      → Along old new (λ i j. listing_at old.place i ≡ listing_at new.place j)
-  Stands-comment Q comment =
-      Along-then old (bumped now) new _ _ _ Stands-c comment (λ i j k m p q. p ∙ q.0)
-
-  -- up to a failed read
-  pub Stands-cut : (result : Result (Unit {0}) ReadFailed) → Along (bumped now) new
-      (λ i j. (comment_at (bumped now).place i ≡ listing_at new.place j) × FailsAt result j)
-      → IsErr result → IsCut old new
-  Stands-cut (Ok x) comment err = absurd (cc)
-  Stands-cut (Err x) comment err =
-      Along-then old (bumped now) new _ _ _ Stands-c comment (grind arith)
-
--- the end
-pub Stands-end : (old now new : Stream) (p : Place) → Stands old now → IsLook now new
-    → new.ahead ≡ [] → new.met ≡ Some End → p ≡ new.place
-    → Along old new (λ i j. (listing_at old.place i ≡ listing_at new.place j)
-    × (listing_at old.place i ≡ record { tokens = []; end = p; ending = End }))
-Stands-end old now new p s look nothing met is =
-    Along-then old now new _ _ _ s.text (Along-look now new look) (grind arith)
-
--- a failed read
-pub Stands-failed : (old now new : Stream) → Stands old now → IsLook now new → new.ahead ≡ []
-    → new.met ≡ Some Failed → IsCut old new
-Stands-failed old now new s look nothing met =
-    Along-then old now new _ _ _ s.text (Along-look now new look) (grind arith)
-
--- the end of the input, or a failed read, ends a comment
-pub comment-end : (old now new : Stream) (e : Ending) → InComment old now → IsLook now new
-    → new.ahead ≡ [] → new.met ≡ Some e
-    → Along old new (λ i j. (comment_at old.place i ≡ listing_at new.place j)
-    × (j ≡ suffix j.offset [] e))
-comment-end old now new e text look nothing met =
-    Along-then old now new _ _ _ text (Along-look now new look) (grind arith)
 
 pub comment-looked : (old now new : Stream) → InComment old now → IsLook now new → InComment old new
 comment-looked old now new text look =
@@ -263,7 +185,4 @@ pub at_once-read : (old : Stream) (p : Place) (count : ℕ) (number : Number)
     → (slice_index old.ahead 0 == 32) ≡ false → IsNumberAhead old count number → p ≡ old.place
     → GivesFirst (token.Word p (words.Number number)) old (skipped count old)
 at_once-read old p count number other w here =
-    let enough = w.enough in let whole : IsWholeNumber old.ahead count number = grind arith in
-    Stands-word old old (skipped count old) p (words.Number number) (Stands-start old) here
-    (whole_number-read old (slice_index old.ahead 0) count number (omega arith) refl (search rules)
-    whole)
+    search (rules, Stands-word, Stands-start, whole_number-read)

@@ -1,11 +1,10 @@
 -- What a run saw of its reader.
-use Rattle.std.proofs.Common.{◌≡◌, ℕ, ◌+◌, ◌||◌, List, [], ◌++◌, length, Option, None, Some, refl}
+use Rattle.std.proofs.Common.{◌≡◌, ℕ, List, [], ◌++◌, Option, None, Some, refl}
 use Rattle.std.proofs.Common.{append_assoc, append-nil, arith}
-use Rattle.std.{proofs.KnownBytes.Consumes-nil, specs.Io.KnownBytes.IsAtEnd}
-use Rattle.cnf_base.specs.Stream.{Input, Suffix, from_offset, from_start, preceded, Reader, Stream}
-use Rattle.cnf_base.specs.Stream.{MayFollow, MayCome, Meets, Along, is_failure, tells_failure}
+use Rattle.std.{proofs.KnownBytes.Consumes-nil}
+use Rattle.cnf_base.specs.Stream.{Input, Suffix, from_start, preceded, Reader, Stream}
+use Rattle.cnf_base.specs.Stream.{MayFollow, MayCome, Along}
 use Rattle.cnf_base.specs.Seen.{Seen, IsSeen, SeenMayBeGiven, SeenIsSome}
-use Rattle.cnf_base.specs.declared.input.Ending.TheVariants.{End, Failed}
 use Rattle.cnf_base.proofs.StreamLemmas.{IsSilent-nothing, MayGive-read, some_input}
 use Rattle.cnf_base.specs.{Stream.unread_stream, declared.input.Ending.Ending}
 
@@ -22,54 +21,41 @@ Seen-nothing reader = record {
   silent = IsSilent-nothing reader;
 }
 
+-- what follows what was taken, of an input that begins with what was handed out
+rest_of : (met : Option Ending) (left : Option (List ℕ)) (ahead taken bytes : List ℕ) (i : Input)
+    → bytes ≡ taken ++ ahead → MayFollow met left bytes i.bytes i.ending
+    → (j : Input) × MayFollow met left ahead j.bytes j.ending × (i ≡ preceded taken j)
+rest_of (Some e) left ahead taken bytes i is f =
+    (record { bytes = ahead; ending = e }, (refl, refl), grind arith)
+rest_of None left ahead taken bytes i is f = (
+  record { bytes = ahead ++ f.0; ending = i.ending },
+  (f.0, refl, f.2),
+  grind (arith, append_assoc),
+)
+
 module _ (reader : Reader) (borrows : List ℕ) (last : Stream) (P : Suffix → Suffix → Type 0)
     (run : Along (unread_stream reader borrows) last P) where
-  -- what was met is what the reader gave last
-  IsGiven : Option Ending → Type 0
-  IsGiven met = (met ≡ Some End → IsAtEnd last.reader.left)
-      × (tells_failure last.reader ≡ (is_failure met || tells_failure reader))
-      × ((e : Ending) → met ≡ Some e → last.reader.over ≡ Some e)
-
-  given : (met : Option Ending) → Meets None met run.bytes reader last.reader → IsGiven met
-  unfolding IsGiven
-  given None m = grind arith
-  given (Some End) m = grind arith
-  given (Some Failed) m = grind arith
-
   -- the bytes that were read were handed out
   pub Seen-run : Seen reader last.reader
-  unfolding IsGiven
-  Seen-run =
-      let g = given last.met run.moves.met in record {
-        handed = run.bytes;
-        met = last.met;
-        lost = run.moves.lost;
-        count = run.moves.count;
-        ended = g.0;
-        told = g.1;
-        last = g.2;
-        silent = run.moves.silent;
-      }
-
-  -- what follows what was taken, of an input that begins with what was handed out
-  rest_of : (i : Input) → MayFollow last.met last.reader.left run.bytes i.bytes i.ending
-      → (j : Input) × MayCome last (from_offset (0 + length run.taken) j)
-      × (i ≡ preceded run.taken j)
-  rest_of i f =
-      elim last.met as (λ met. MayFollow met last.reader.left run.bytes i.bytes i.ending
-      → (j : Input) × MayFollow met last.reader.left last.ahead j.bytes j.ending
-      × (i ≡ preceded run.taken j)) [
-        | Some e ↦ λ f. (record { bytes = last.ahead; ending = e }, (refl, refl), grind arith)
-        | None ↦ λ f.
-            let j : Input = record { bytes = last.ahead ++ f.0; ending = i.ending } in
-            (j, (f.0, refl, f.2), grind (arith, append_assoc))
-      ] f
+  Seen-run = record {
+    handed = run.bytes;
+    met = last.met;
+    lost = run.moves.lost;
+    count = run.moves.count;
+    ended = grind arith;
+    told = grind arith;
+    last = grind arith;
+    silent = run.moves.silent;
+  }
 
   -- and of each such input the run's fact holds
   pub Seen-fact : (i : Input) → IsSeen Seen-run i → (j : Suffix) × MayCome last j
       × P (from_start i) j
   unfolding Seen-run
-  Seen-fact i f = let r = rest_of i f in grind (arith, run.fact 0 r.0 r.1)
+  Seen-fact i f =
+      let r = rest_of last.met last.reader.left last.ahead run.taken run.bytes i run.moves.whole
+      f in
+      grind (arith, run.fact 0 r.0 r.1)
 
 -- ---- Laws
 

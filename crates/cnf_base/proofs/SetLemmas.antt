@@ -1,7 +1,7 @@
 -- Lists as the sets of their literals.
 use Rattle.std.proofs.Common.{◌≡◌, ◌≢◌, ◌==◌, Bool, true, false, eqb, List, [], ◌∷◌, ◌++◌, filter}
-use Rattle.std.proofs.Common.{refl, inl, inr, ◌⊎◌, eq-eqb, arith}
-use Rattle.std.proofs.lemmas.Bool.{false≢true, or_cases, or_left, or_right, and_from}
+use Rattle.std.proofs.Common.{refl, ◌⊎◌, eq-eqb, arith}
+use Rattle.std.proofs.lemmas.Bool.{or_left, or_right}
 use Rattle.std.{proofs.lemmas.List.Folds.list_any-append, specs.List.list_any, specs.List.list_all}
 use Rattle.cnf_base.specs.Literals.{Literal, complement, Clause, has, complements, without}
 use Rattle.cnf_base.{specs.Literals.same_clause, proofs.LiteralLemmas.complement-complement}
@@ -30,12 +30,8 @@ module _ (p : Literal → Bool) where
 
   pub any_some : (ls : List Literal) → list_any p ls ≡ true → (l : Literal) × (has ls l ≡ true)
       × (p l ≡ true)
-  any_some [] h = absurd (false≢true h)
-  any_some (k ∷ ls) h =
-      elim (or_cases (p k) (list_any p ls) h) [
-        | inl q ↦ (k, has_head k ls, q)
-        | inr g ↦ let w = any_some ls g in (w.0, has_tail k ls w.0 w.1, w.2)
-      ]
+  any_some [] h = absurd (cc)
+  any_some (k ∷ ls) h = grind (arith, any_some ls, has_head, has_tail)
 
   pub any_none : (ls : List Literal) (l : Literal) → list_any p ls ≡ false → has ls l ≡ true
       → p l ≡ false
@@ -49,8 +45,7 @@ module _ (p : Literal → Bool) where
   pub each_all : (ls : List Literal) → ((l : Literal) → has ls l ≡ true → p l ≡ true)
       → list_all p ls ≡ true
   each_all [] each = refl
-  each_all (k ∷ ls) each =
-      and_from _ _ (each k (has_head k ls)) (each_all ls (λ l h. each l (has_tail k ls l h)))
+  each_all (k ∷ ls) each = grind (arith, each_all ls, has_head, has_tail)
 
   pub has-filter : (ls : List Literal) (l : Literal) → has ls l ≡ true → p l ≡ true
       → has (filter p ls) l ≡ true

@@ -22,15 +22,19 @@ module _ (f : Literal → ℕ) where
       → sum_distinct f d ≡ f l + sum_distinct f (without d l)
   sum_without [] l h = absurd (cc)
   sum_without (k ∷ d) l h =
-      let later = sum_without d l in let absent = without_absent d l in
-      let kept = without_has d l k in let stays = has-without d l k in grind arith
+      grind (arith, sum_without d l, without_absent d l, without_has, has-without)
 
   pub sum_covered : (c d : Clause) → IsWithin c d → sum_distinct f c ≤ sum_distinct f d
   sum_covered [] d there = omega arith
-  sum_covered (l ∷ c) d there =
-      let all = sum_covered c d (λ k h. there k (has_tail l c k h)) in
-      let others = sum_covered c (without d l) in let kept = has-without d l in
-      let less = sum_without d l (there l (has_head l c)) in grind arith
+  sum_covered (l ∷ c) d there = grind (
+    arith,
+    sum_covered c,
+    has_tail,
+    without_has,
+    has-without,
+    sum_without d l,
+    has_head l c,
+  )
 
   pub sum_same : (c d : Clause) → IsWithin c d → IsWithin d c → sum_distinct f c ≡ sum_distinct f d
   sum_same c d there back = grind (arith, sum_covered)
@@ -85,5 +89,4 @@ pub distinct_before : (c : Clause) (i : ℕ) (x : Literal) → size c ≡ length
 distinct_before [] i x d low e = absurd (omega arith)
 distinct_before (l ∷ c) zero x d low e = refl
 distinct_before (l ∷ c) (suc i) x d low e =
-    let parts = distinct_parts l c d in
-    let rest = distinct_before c i x parts.1 (omega arith) e in grind (arith, has_at)
+    grind (arith, distinct_parts l c d, has_at, distinct_before c i x)

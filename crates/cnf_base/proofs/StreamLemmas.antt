@@ -1,6 +1,6 @@
 -- What may still come of an input, from one moment to the next.
 use Rattle.std.proofs.Common.{◌≡◌, ℕ, ◌+◌, ◌-◌, ◌<◌, ◌≤◌, suc, List, [], ◌∷◌, ◌++◌, length, take}
-use Rattle.std.proofs.Common.{drop, Option, None, Some, refl, sym, ap, ◌∙◌, append_assoc}
+use Rattle.std.proofs.Common.{drop, Option, None, Some, refl, ap, append_assoc}
 use Rattle.std.proofs.Common.{append-nil, length-append, length-drop, arith, rules, slice_range}
 use Rattle.std.proofs.Common.{slice_index, drop-drop, take-append-drop}
 use Rattle.std.specs.Io.KnownBytes.{Consumes, Keeps}
@@ -25,15 +25,12 @@ slice_range-skipped at end n piece most =
 -- a piece of which nothing is ahead is used up
 pub used_up : (at end : ℕ) (piece : List ℕ) → at ≤ end → end ≤ length piece
     → slice_range piece at end ≡ [] → at ≡ end
-used_up at end piece ordered within nothing =
-    let len : length (slice_range piece at end) ≡ end - at = grind (arith, common_steps) in
-    omega (arith, sym len ∙ ap length nothing)
+used_up at end piece ordered within nothing = grind (arith, common_steps)
 
 -- of a source that is used up nothing is ahead, whatever its piece
 pub still_nothing : (at end : ℕ) (piece other : List ℕ) → at ≤ end → end ≤ length piece
     → slice_range piece at end ≡ [] → slice_range other at end ≡ []
-still_nothing at end piece other ordered within nothing =
-    let same = used_up at end piece ordered within nothing in grind (arith, common_steps)
+still_nothing at end piece other ordered within nothing = grind (arith, common_steps, used_up)
 
 -- ---- What was read and taken
 
@@ -45,6 +42,8 @@ Moves-nothing s = grind (arith, append-nil)
 
 pub IsLook-still : (s : Stream) → IsLook s s
 IsLook-still s = grind (arith, Moves-nothing)
+
+pub ruleset looked = (IsLook-still)
 
 pub Moves-then : (a b c : Stream) (first second taken others : List ℕ) → Moves a b first taken
     → Moves b c second others → Moves a c (first ++ second) (taken ++ others)
@@ -71,10 +70,6 @@ pub record Splits (first : Suffix) (taken : List ℕ) (second : Suffix) : Type 0
   pub bytes : first.bytes ≡ taken ++ second.bytes
   pub ending : first.ending ≡ second.ending
   pub offset : second.offset ≡ first.offset + length taken
-
-Splits-run : (n : ℕ) (taken : List ℕ) (j : Input)
-    → Splits (from_offset n (preceded taken j)) taken (from_offset (n + length taken) j)
-Splits-run n taken j = record { bytes = refl; ending = refl; offset = refl }
 
 -- the first part, and the second one, told by the other
 pub Splits-first : (i : Suffix) (taken : List ℕ) (j : Suffix) → Splits i taken j
@@ -137,9 +132,7 @@ Along-within old new P few run =
 
 -- a run of no call at all
 pub Along-none : (s : Stream) → Along s s (λ i j. i ≡ j)
-Along-none s =
-    let nothing = Moves-nothing s in
-    record { bytes = []; taken = []; moves = nothing; fact = grind arith }
+Along-none s = record { bytes = []; taken = []; moves = Moves-nothing s; fact = grind arith }
 
 -- what is made of an input stays where nothing is taken
 pub Along-still : {A : Type 0} (s : Stream) (f : Suffix → A) → Along s s (λ i j. f i ≡ f j)
@@ -191,7 +184,7 @@ Along-skipped s k = record {
   bytes = [];
   taken = take k s.ahead;
   moves = grind (arith, append-nil, take-append-drop, length-drop);
-  fact = λ n j m. Splits-run n (take k s.ahead) j;
+  fact = grind arith;
 }
 
 pub most_to_come-bumped : (s : Stream) → 0 < length s.ahead

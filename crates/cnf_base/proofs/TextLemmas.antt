@@ -1,11 +1,11 @@
 -- A text's listing, byte by byte and run by run.
-use Rattle.std.proofs.Common.{◌≡◌, ℕ, ◌+◌, ◌<◌, ◌==◌, ◌&&◌, cond, Bool, true, false, List, [], ◌∷◌}
+use Rattle.std.proofs.Common.{◌≡◌, ℕ, ◌+◌, ◌<◌, ◌==◌, cond, Bool, true, false, List, [], ◌∷◌}
 use Rattle.std.proofs.Common.{◌++◌, length, take, zero, suc, not, refl, ap, append-nil, arith}
 use Rattle.std.specs.List.{slice_split, onto_first, list_all}
 use Rattle.std.proofs.{Common.slice_index, lemmas.Bool.Decides.nat_tests}
 use Rattle.cnf_base.specs.Stream.{more_count, suffix}
-use Rattle.cnf_base.specs.Text.{is_separator, Spot, spot, one_on, next_line, along, Listed}
-use Rattle.cnf_base.specs.Text.{words_of, but_last, is_comment, line_tokens, last_tokens}
+use Rattle.cnf_base.specs.Text.{is_separator, Spot, spot, one_on, along, Listed}
+use Rattle.cnf_base.specs.Text.{words_of, is_comment}
 use Rattle.cnf_base.specs.Text.{with_front, lines_listing, lines_of, skips_at, listing_at}
 use Rattle.cnf_base.specs.Code.Text.{col_after, line_after, listed, col_along}
 use Rattle.cnf_base.specs.declared.input.Ending.TheVariants.{End, Failed}
@@ -47,9 +47,6 @@ pub split-append : (p : ℕ → Bool) (xs ys first : List ℕ) (rest : List (Lis
 split-append p [] ys first rest e h = h
 split-append p (x ∷ xs) ys first rest (more _ _ k e) h = cc (split-append p xs ys first rest e h)
 
-pub and_false : (b : Bool) → (b && false) ≡ false
-and_false b = grind arith
-
 pub no_feed : (b : ℕ) → is_separator b ≡ false → (b == 10) ≡ false
 no_feed b h = grind (arith, nat_tests)
 
@@ -69,8 +66,7 @@ lines_of-cons b bs first rest h e = cc
 -- the first line begins as the text does
 pub is_comment-lines_of : (bs : List ℕ) (first : List ℕ) (rest : List (List ℕ))
     → lines_of bs ≡ first ∷ rest → is_comment bs ≡ is_comment first
-is_comment-lines_of [] first rest e = grind arith
-is_comment-lines_of (b ∷ bs) first rest e = grind arith
+is_comment-lines_of bs first rest e = grind arith
 
 -- a separator that is no line feed
 pub listing_at-separator : (p : Place) (n b : ℕ) (bs : List ℕ) (ending : Ending) → 0 < p.col
@@ -79,26 +75,12 @@ pub listing_at-separator : (p : Place) (n b : ℕ) (bs : List ℕ) (ending : End
 listing_at-separator p n b bs ending from_one h line =
     grind (arith, separator_skips p b bs h, inner_skips p bs from_one)
 
--- the lines after a line feed
-lines_listing-feed : (skips : Bool) (s : Spot) (p : Place) (n : ℕ) (line : List ℕ) (bs : List ℕ)
-    (ending : Ending) → next_line (along s line) ≡ spot p n → (p.col == 1) ≡ true
-    → lines_listing skips s (line ∷ lines_of bs) ending
-    ≡ with_front (line_tokens skips s line) (listing_at p (suffix n bs ending))
-lines_listing-feed skips s p n line bs ending next start = grind arith
-
 -- a line feed
 pub listing_at-feed : (p : Place) (n : ℕ) (bs : List ℕ) (ending : Ending)
     → listing_at p (suffix n (10 ∷ bs) ending)
     ≡ with_front (listed (token.LineEnd p) (suc n) ∷ [])
     (listing_at (line_after p) (suffix (suc n) bs ending))
-listing_at-feed p n bs ending =
-    let feed = lines_listing-feed false (spot p n) (line_after p) (suc n) [] bs ending refl refl in
-    cc (and_false (p.col == 1))
-
--- the end
-pub listing_at-end : (p : Place) (n : ℕ) (ending : Ending)
-    → listing_at p (suffix n [] ending) ≡ record { tokens = []; end = p; ending = ending }
-listing_at-end p n ending = grind arith
+listing_at-feed p n bs ending = grind arith
 
 -- the column goes on by the bytes
 pub col_along-length : (p : Place) (run : List ℕ) → 0 < length run
@@ -123,7 +105,7 @@ along-spot : (p : Place) (n : ℕ) (xs : List ℕ)
 along-spot p n [] = ap (λ m. spot p m) (omega arith)
 along-spot p n (x ∷ xs) = grind (arith, along-spot (col_after p) (suc n) xs)
 
-Each-feed : (run : List ℕ) → Each is_separator run → Each (λ b. b == 10) run
+pub Each-feed : (run : List ℕ) → Each is_separator run → Each (λ b. b == 10) run
 Each-feed [] e = none
 Each-feed (b ∷ bs) (more _ _ h e) = more b bs (no_feed b h) (Each-feed bs e)
 
@@ -159,21 +141,16 @@ lines_listing-run : (s : Spot) (p : Place) (run line : List ℕ) (parts : List (
     → slice_split is_separator line ≡ [] ∷ parts → ((rest ≡ []) × (parts ≡ []) → ending ≡ End)
     → lines_listing false s ((run ++ line) ∷ rest) ending
     ≡ with_front (token_of s run ∷ []) (lines_listing false (along s run) (line ∷ rest) ending)
-lines_listing-run s p run line parts [] ending r cut counts =
-    cc (along-append s run line, last ending parts cut (λ h. counts (refl, h)))
-  where
-    last : (ending : Ending) (parts : List (List ℕ)) → slice_split is_separator line ≡ [] ∷ parts
-        → (parts ≡ [] → ending ≡ End) → last_tokens false s (run ++ line) ending
-        ≡ token_of s run ∷ last_tokens false (along s run) line ending
-    last End parts cut counts =
-        cc (split-append is_separator run line [] parts r.each cut, words_of-run s run parts r.some)
-    last Failed [] cut counts = grind arith
-    last Failed (part ∷ parts) cut counts =
-        let split = split-append is_separator run line [] (part ∷ parts) r.each cut in
-        cc (words_of-run s run (but_last (part ∷ parts)) r.some)
+lines_listing-run s p run line parts [] End r cut counts =
+    let split = split-append is_separator run line [] parts r.each cut in
+    grind (arith, along-append, words_of-run)
+lines_listing-run s p run line [] [] Failed r cut counts = grind arith
+lines_listing-run s p run line (part ∷ parts) [] Failed r cut counts =
+    let split = split-append is_separator run line [] (part ∷ parts) r.each cut in
+    grind (arith, along-append, words_of-run)
 lines_listing-run s p run line parts (next ∷ rest) ending r cut counts =
     let split = split-append is_separator run line [] parts r.each cut in
-    cc (words_of-run s run parts r.some, along-append s run line)
+    grind (arith, along-append, words_of-run)
 
 -- a run that a separator follows
 pub listing_at-run : (p : Place) (n : ℕ) (run : List ℕ) (b : ℕ) (bs : List ℕ) (ending : Ending)
@@ -208,17 +185,15 @@ pub listing_at-last_run : (p : Place) (n : ℕ) (run : List ℕ) → IsRun p run
     ≡ with_front (listed (token.Word p (word_of run)) (n + length run) ∷ [])
     (listing_at (col_along p run) (suffix (n + length run) [] End))
 listing_at-last_run p n run r =
-    let skips = skips_at-append p run [] r.some in let past = along-spot p n run in
     let lines = split-append (λ x. x == 10) run [] [] [] (Each-feed run r.each) refl in
     let first = lines_listing-run (spot p n) p run [] [] [] End r refl (λ _. refl) in
-    cc (listing_at-end (col_along p run) (n + length run) End)
+    grind (arith, skips_at-append, along-spot)
 
 -- a run that touches a failed read
 pub listing_at-cut_run : (p : Place) (n : ℕ) (run : List ℕ) → IsRun p run
     → listing_at p (suffix n (run ++ []) Failed)
     ≡ listing_at (col_along p run) (suffix (n + length run) [] Failed)
 listing_at-cut_run p n run r =
-    let skips = skips_at-append p run [] r.some in let past = along-spot p n run in
     let lines = split-append (λ x. x == 10) run [] [] [] (Each-feed run r.each) refl in
     let words = split-append is_separator run [] [] [] r.each refl in
-    cc (along-append (spot p n) run [], listing_at-end (col_along p run) (n + length run) Failed)
+    grind (arith, skips_at-append, along-spot, along-append)

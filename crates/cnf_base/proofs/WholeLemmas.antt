@@ -1,6 +1,6 @@
 -- Numbers that stand whole among bytes.
 use Rattle.std.proofs.Common.{◌≡◌, ℕ, zero, suc, ◌+◌, ◌^◌, ◌<◌, ◌≤◌, ◌==◌, Bool, true, false, List}
-use Rattle.std.proofs.Common.{[], ◌∷◌, length, take, drop, refl, sym, ap, arith, add-one}
+use Rattle.std.proofs.Common.{[], ◌∷◌, length, take, drop, refl, sym, arith, add-one}
 use Rattle.std.proofs.Common.{slice_index, slice_range, take-add, eqb-true, get_or-drop}
 use Rattle.std.proofs.Common.{length-drop, ◌-◌, ◌*◌, ◌&&◌, min, ◌++◌, length-append, rules}
 use Rattle.std.proofs.{lemmas.Bool.Decides.nat_tests, lemmas.List.Folds.list_all-append}
@@ -9,18 +9,18 @@ use Rattle.std.specs.{Int.from_bool, List.list_all}
 use Rattle.cnf_base.specs.Code.Digits.{decimal_after, digits_word, AreDigits, with_byte}
 use Rattle.cnf_base.specs.Code.Digits.{begins_number, first_digits, Spells, negative, positive}
 use Rattle.cnf_base.specs.Ahead.{is_inner, IsEnded, IsWholeNumber}
-use Rattle.cnf_base.specs.declared.scanner.digits.Digits.TheVariants.{Counting, Nothing, Zero}
-use Rattle.cnf_base.specs.Words.{is_digit, number, is_counting, size_of, fixed_word, word_of}
-use Rattle.cnf_base.specs.{declared.scanner.digits.Digits.TheVariants.NoNumber, Code.Eight.unsigned}
+use Rattle.cnf_base.specs.declared.scanner.digits.Digits.TheVariants.{Counting}
+use Rattle.cnf_base.specs.Words.{is_digit, number, is_counting, size_of, word_of}
+use Rattle.cnf_base.specs.{Code.Eight.unsigned}
 use Rattle.cnf_base.specs.{declared.scanner.digits.Digits.Digits, declared.word.Number.Number}
-use Rattle.cnf_base.specs.{Code.Digits.IsName, Code.Whole.GoOn, declared.word.Word.Word}
+use Rattle.cnf_base.specs.{Code.Whole.GoOn}
 use Rattle.cnf_base.specs.declared.word.Word.TheVariants as words
 
 -- ---- What a run says, byte by byte
 
 all-last : (ds : List ℕ) (b : ℕ)
     → list_all is_digit (ds ++ b ∷ []) ≡ (list_all is_digit ds && is_digit b)
-all-last ds b = grind (arith, list_all-append is_digit ds (b ∷ []))
+all-last ds b = search (rules, list_all-append)
 
 counting-last : (d : ℕ) (ds : List ℕ) (b : ℕ)
     → is_counting ((d ∷ ds) ++ b ∷ []) ≡ (is_counting (d ∷ ds) && is_digit b)
@@ -32,11 +32,7 @@ size-last ds b = grind (arith, fold-append)
 
 pub digits-more : (s : Digits) (ds : List ℕ) (b : ℕ) → AreDigits s ds
     → AreDigits (with_byte s b) (ds ++ b ∷ [])
-digits-more (Counting n) [] b h = absurd (cc)
-digits-more (Counting n) (d ∷ ds) b h = grind (arith, counting-last d ds b, size-last (d ∷ ds) b)
-digits-more NoNumber (d ∷ ds) b h =
-    let longer = length-append (d ∷ ds) (b ∷ []) in grind (arith, counting-last)
-digits-more s ds b h = grind arith
+digits-more s ds b h = grind (arith, counting-last, size-last, length-append)
 
 -- the word of digits after a `-`
 pub negative_word : (s : Digits) (ds : List ℕ) → AreDigits s ds
@@ -53,26 +49,18 @@ Spells-first b h = grind (arith, nat_tests, negative, positive, digits-more)
 
 pub Spells-more : (is_negative : Bool) (s : Digits) (run : List ℕ) (b : ℕ)
     → Spells is_negative s run → Spells is_negative (with_byte s b) (run ++ b ∷ [])
-Spells-more is_negative s run b (negative _ ds h) =
-    negative (with_byte s b) (ds ++ b ∷ []) (digits-more s ds b h)
-Spells-more is_negative s run b (positive _ d ds digit h) =
-    positive (with_byte s b) d (ds ++ b ∷ []) digit (digits-more s (d ∷ ds) b h)
+Spells-more is_negative s run b h = grind (arith, negative, positive, digits-more)
 
 pub Spells-word : (is_negative : Bool) (s : Digits) (run : List ℕ) → Spells is_negative s run
     → digits_word is_negative s ≡ word_of run
 Spells-word is_negative s run (negative _ ds h) = sym (negative_word s ds h)
 Spells-word is_negative s run (positive _ b bs digit h) = sym (positive_word s b bs digit h)
 
-pub IsName-more : (run : List ℕ) (b : ℕ) → IsName run → IsName (run ++ b ∷ [])
-IsName-more run b n = grind arith
-
-pub IsName-word : (run : List ℕ) (word : Word) → IsName run → word ≡ fixed_word run
-    → word ≡ word_of run
-IsName-word run word n is = search rules
+pub ruleset spelled = (Spells-first, Spells-more, Spells-word)
 
 -- one byte more in front
 take-front : (n b : ℕ) (bs : List ℕ) → take (n + 1) (b ∷ bs) ≡ b ∷ take n bs
-take-front n b bs = ap (λ k. take k (b ∷ bs)) (add-one n)
+take-front n b bs = grind arith
 
 IsEnded-front : (n b : ℕ) (bs : List ℕ) → IsEnded bs n → IsEnded (b ∷ bs) (n + 1)
 IsEnded-front n b bs w = grind arith
@@ -99,9 +87,7 @@ GoOn-more bytes count size more whole each says m =
 -- digits of which the first is no 0
 counting : (bytes : List ℕ) (count size : ℕ) → GoOn 0 bytes count size → 0 < count → size < 2 ^ 64
     → (slice_index bytes 0 == 48) ≡ false → AreWholeDigits bytes count (Counting size)
-counting bytes zero size m some low other = absurd (omega (arith, some))
-counting [] (suc n) size m some low other = grind arith
-counting (b ∷ bs) (suc n) size m some low other = grind arith
+counting bytes count size m some low other = grind arith
 
 digits-inner : (ds : List ℕ) → list_all is_digit ds ≡ true → list_all is_inner ds ≡ true
 digits-inner [] h = refl
@@ -129,9 +115,7 @@ GoOn-rest bs n size lead m = grind arith
 pub unsigned-behind : (is_negative : Bool) (bytes : List ℕ) (count : ℕ) → 0 < count
     → count ≤ length bytes → slice_range bytes count (length bytes)
     ≡ slice_range (unsigned is_negative bytes) count (length (unsigned is_negative bytes))
-unsigned-behind true bytes zero some inside = absurd (omega (arith, some))
-unsigned-behind true [] (suc n) some inside = absurd (omega (arith, inside))
-unsigned-behind is_negative bytes count some inside = refl
+unsigned-behind is_negative bytes count some inside = grind arith
 
 -- digits after an optional `-`
 pub IsWholeNumber-signed : (bytes : List ℕ) (is_negative : Bool) (minus count size : ℕ)

@@ -78,6 +78,7 @@ impl<R: In> Source<R> {
 
     /// The next byte, if there is one. It reads only where the piece is used up.
     #[inline(always)]
+    #[tactic(auto, using(crate::proofs::StreamLemmas::looked))]
     pub fn peek(&mut self) -> Result<Option<u8>, ReadFailed>
         ensures look { IsLook self.old self.new }
         ensures count { most_to_come self.new ≡ most_to_come self.old }

@@ -1,26 +1,25 @@
 -- The steps of a binary DRAT proof, both ways.
-use Rattle.std.proofs.Common.{◌≡◌, ℕ, suc, ◌+◌, ◌*◌, ◌%◌, ◌<◌, ◌≤◌, ◌==◌, ◌&&◌, nat_le, Bool}
-use Rattle.std.proofs.Common.{true, false, List, [], ◌∷◌, ◌++◌, length, map, Option, None, Some}
-use Rattle.std.proofs.Common.{refl, sym, ap, ◌∙◌, append_assoc, arith, rules, append-nil}
-use Rattle.std.proofs.Common.{option_map, All, flat_map, zero, ◌-◌, ◌/◌, fold, length-append}
-use Rattle.std.proofs.lemmas.{Bool.Decides.nat_tests, Int.Digits.digits_of_step}
-use Rattle.std.proofs.lemmas.{Grind.flat_map-append, List.Elements.All-cons, List.reverse-append}
-use Rattle.std.specs.List.{list_all}
-use Rattle.cnf_base.specs.Printing.{input_of, is_literal}
+use Rattle.std.proofs.Common.{◌≡◌, ℕ, suc, ◌+◌, ◌*◌, ◌%◌, ◌<◌, ◌≤◌, ◌&&◌, nat_le, Bool, true}
+use Rattle.std.proofs.Common.{false, List, [], ◌∷◌, ◌++◌, length, map, Option, None, Some, refl, ap}
+use Rattle.std.proofs.Common.{sym, ◌∙◌, append_assoc, arith, rules, append-nil, option_map, All}
+use Rattle.std.proofs.Common.{flat_map, zero, ◌-◌, ◌/◌, fold, length-append}
+use Rattle.std.{proofs.lemmas.Bool.Decides.nat_tests, specs.List.list_all}
+use Rattle.std.proofs.lemmas.{Int.Digits.digits_of_step, Grind.flat_map-append, List.reverse-append}
+use Rattle.std.proofs.lemmas.List.Elements.{All-cons}
+use Rattle.cnf_base.specs.{Printing.input_of, Printing.is_literal, Stream.next_count}
 use Rattle.cnf_base.proofs.PrintLemmas.{both, literal_range}
-use Rattle.cnf_base.specs.{declared.input.Ending.TheVariants.End, Stream.next_count}
-use Rattle.proofs.specs.Steps.{Step, named, with_literal}
+use Rattle.cnf_base.specs.declared.input.Ending.TheVariants.{End}
+use Rattle.proofs.specs.{Steps.Step, Steps.named, Steps.with_literal, Grammar.BinaryIsGrammar}
 use Rattle.proofs.specs.Binary.{groups_value, BinarySpot, at_tag, in_step, in_number, BinaryMove}
 use Rattle.proofs.specs.Binary.{goes, completes, faults, tag_move, group_move, binary_number_move}
 use Rattle.proofs.specs.Binary.{binary_move_of, on_binary_move, binary_steps_among, binary_steps}
 use Rattle.proofs.specs.Printing.{ReadStep, read_of, printed_steps, seven_bit_groups, group_bytes}
 use Rattle.proofs.specs.Printing.{number_bytes, tag_bytes, binary_step, IsDratStep, ReadProof}
+use Rattle.proofs.{proofs.GrammarText.drat_step_is, specs.Printing.proof_of}
 use Rattle.proofs.proofs.GrammarText.{none_some, bare, bare-ReadsAs, bare-with_step, all_more}
 use Rattle.proofs.proofs.GrammarText.{with_read, printed_from, with_literals, drat_step}
-use Rattle.proofs.specs.declared.step_buf.StepKind.TheVariants.{Add, Delete}
-use Rattle.proofs.specs.{declared.step_end.StepEnd.TheVariants.Byte, Grammar.BinaryIsGrammar}
-use Rattle.proofs.specs.{Printing.proof_of, Reading.PlacedStep, declared.step_buf.StepKind.StepKind}
-use Rattle.proofs.proofs.GrammarText.{drat_step_is}
+use Rattle.proofs.specs.declared.step_buf.StepKind.{TheVariants.Add, TheVariants.Delete, StepKind}
+use Rattle.proofs.specs.{declared.step_end.StepEnd.TheVariants.Byte, Reading.PlacedStep}
 
 -- ---- A DRAT proof that was printed in binary, as it is read
 
@@ -76,12 +75,8 @@ groups_read : (n : ℕ) (gs : List ℕ) → IsGroups n gs
 groups_read _ _ (last n some small) whole before rest first offset end s result ends value low high
     later at =
     let past : suc offset ≡ end = omega (arith, ends) in
-    let plain : nat_le 128 n ≡ false = grind (arith, nat_tests) in
-    let nonzero : (n == 0) ≡ false = grind (arith, nat_tests) in
-    let large : nat_le whole 1 ≡ false = grind (arith, nat_tests) in
-    let fits : nat_le whole 536870911 ≡ true = grind (arith, nat_tests) in
     let move : group_move s first before n ≡ goes in_step (with_literal s whole) =
-    rw (plain, nonzero, value, large, fits) refl in rw (move, past) (later (next_count at))
+    grind (arith, nat_tests, value) in rw (move, past) (later (next_count at))
 groups_read _ _ (more n g gs small groups) whole before rest first offset end s result ends value low
     high later at =
     let marks : nat_le 128 (128 + g) ≡ true = grind (arith, nat_tests) in
@@ -125,11 +120,10 @@ literals_read [] rest offset end s result ends are later at =
     rw past (ap (with_read s end) (later (next_count at)))
 literals_read (l ∷ ls) rest offset end s result ends are later at =
     let r = both (is_literal 268435455 l) (list_all (is_literal 268435455) ls) are in
-    let all = length-append (number_bytes l) (flat_map number_bytes ls ++ 0 ∷ []) in
-    let same = ap length (append_assoc (number_bytes l) (flat_map number_bytes ls) (0 ∷ [])) in
+    let all = simp (length-append, append_assoc) at ends in
     rw append_assoc (literal_read l (flat_map number_bytes ls ++ 0 ∷ rest) offset s _ r.0
     (literals_read ls rest (offset + length (number_bytes l)) end (with_literal s l) result
-    (omega (arith, all, same, ends)) r.1 later) at)
+    (omega (arith, all, length-append {A = ℕ})) r.1 later) at)
 
 -- a step, and what follows it
 step_read : (kind : StepKind) (ls : List ℕ) (rest : List ℕ) (offset end : ℕ) (result : ReadProof)
@@ -262,7 +256,7 @@ bytes_spelled (b ∷ bs) spot s at offset steps are fits e =
 
     onto : (before : List ℕ) → before ≡ so_far spot s ++ b ∷ []
         → so_far spot s ++ b ∷ bs ≡ before ++ bs
-    onto before e = sym (append_assoc (so_far spot s) (b ∷ []) bs) ∙ ap (λ t. t ++ bs) (sym e)
+    onto before e = grind (arith, append_assoc)
 
     completed : (t : Step) → IsDratStep t → binary_step t ≡ so_far spot s ++ b ∷ [] → IsSo
         → (later : Option (List Step))

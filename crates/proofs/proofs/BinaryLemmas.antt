@@ -1,23 +1,22 @@
 -- A binary proof's bytes, one at a time.
-use Rattle.std.proofs.Common.{◌≡◌, ℕ, ◌<◌, ◌≤◌, [], ◌∷◌, length, Option, None, Some, refl, ap}
-use Rattle.std.proofs.Common.{◌∙◌, arith, rules, Bool, true, Result, Ok, Err, slice_index}
+use Rattle.std.proofs.Common.{◌≡◌, ℕ, ◌<◌, ◌≤◌, [], ◌∷◌, length, Option, None, Some, refl, ap, ◌∙◌}
+use Rattle.std.proofs.Common.{arith, rules, Bool, true, Result, Ok, Err, slice_index}
 use Rattle.cnf_base.specs.Stream.{Suffix, Stream, Along, IsLook, bumped, next_count, most_to_come}
+use Rattle.cnf_base.specs.{declared.fault.BinaryFault.BinaryFault, Stream.tells_failure}
 use Rattle.cnf_base.specs.declared.fault.Fault.{TheVariants.Binary, TheVariants.OutOfMemory, Fault}
 use Rattle.cnf_base.proofs.StreamLemmas.{Splits-first, Splits-byte, Along-then, Along-map}
 use Rattle.cnf_base.proofs.StreamLemmas.{Along-look, Along-bumped, Along-still, shown_end}
 use Rattle.cnf_base.proofs.StreamLemmas.{most_to_come-bumped, most_to_come-look, IsLook-still}
-use Rattle.cnf_base.specs.{Stream.tells_failure, declared.fault.BinaryFault.BinaryFault}
 use Rattle.cnf_base.specs.{declared.input.Ending.TheVariants.End, Readers.Keeps}
-use Rattle.proofs.specs.Reading.{Proof, GivesStep, PassesNoEnd}
+use Rattle.proofs.specs.{Reading.Proof, Reading.GivesStep, Reading.PassesNoEnd, Code.Whole.RunsOn}
 use Rattle.proofs.specs.Binary.{BinarySpot, at_tag, BinaryMove, goes, completes, faults}
 use Rattle.proofs.specs.Binary.{binary_move_of, on_binary_move, binary_at_end}
 use Rattle.proofs.proofs.TextLemmas.{on_binary_move-from, binary_steps_among-from, gives_fault}
-use Rattle.proofs.specs.{declared.drat_binary.part.BinaryPart.BinaryPart, Code.TextMoves.EndsProof}
-use Rattle.proofs.specs.{declared.drat_binary.stopped.Stopped.Stopped, Code.BinaryMoves.MovesBinary}
-use Rattle.proofs.specs.{declared.step_end.StepEnd.TheVariants.Byte, Code.Binary.binary_steps_from}
-use Rattle.proofs.specs.{declared.step_end.StepEnd.StepEnd, Code.Reading.proof_unless_ended}
-use Rattle.proofs.specs.{Code.BinaryMoves.binary_left, Code.Binary.binary_steps_at, Steps.named}
-use Rattle.proofs.specs.{Steps.Step, declared.moved.Moved.Moved, Code.Whole.RunsOn}
+use Rattle.proofs.specs.declared.drat_binary.{part.BinaryPart.BinaryPart, stopped.Stopped.Stopped}
+use Rattle.proofs.specs.Code.{BinaryMoves.MovesBinary, BinaryMoves.binary_left, TextMoves.EndsProof}
+use Rattle.proofs.specs.declared.step_end.StepEnd.{TheVariants.Byte, StepEnd}
+use Rattle.proofs.specs.{Code.Binary.binary_steps_from, Code.Binary.binary_steps_at, Steps.Step}
+use Rattle.proofs.specs.{Code.Reading.proof_unless_ended, declared.moved.Moved.Moved, Steps.named}
 
 -- from one moment to another bytes of one step were read
 pub record Between (old now : Stream) (spot : BinarySpot) (s : Step) : Type 0 where

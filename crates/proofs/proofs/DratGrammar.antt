@@ -1,26 +1,24 @@
 -- The steps of a DRAT text, both ways.
-use Rattle.std.proofs.Common.{◌≡◌, ℕ, true, List, [], ◌∷◌, ◌++◌, map, fold, refl, ap, ◌∙◌}
-use Rattle.std.proofs.Common.{append_assoc, rules, arith, codes, option_map, suc, ◌+◌, ◌-◌, length}
-use Rattle.std.proofs.{Common.flat_map, Common.All, lemmas.List.map-append}
-use Rattle.std.specs.List.{list_all}
+use Rattle.std.proofs.Common.{◌≡◌, ℕ, true, List, [], ◌∷◌, ◌++◌, map, fold, refl, ap, ◌∙◌, rules}
+use Rattle.std.proofs.Common.{append_assoc, arith, codes, option_map, suc, ◌+◌, ◌-◌, length, All}
+use Rattle.std.{proofs.lemmas.List.map-append, proofs.Common.flat_map, specs.List.list_all}
 use Rattle.cnf_base.specs.Printing.{is_literal, literal_text, literal_words, input_of, words_line}
 use Rattle.cnf_base.proofs.PrintLemmas.{both, end_of_line, end_of_line-first, literal_word}
 use Rattle.cnf_base.proofs.PrintLemmas.{literal_plain, literal_no_comment, next_line, literal_taken}
-use Rattle.cnf_base.proofs.{PrintLemmas.fixed_plain, GrammarLemmas.word_spelled}
-use Rattle.cnf_base.proofs.{PrintLemmas.first_word, PrintLemmas.zero_plain, GrammarLemmas.IsSpelled}
-use Rattle.cnf_base.specs.{Literals.Literal, declared.fault.TextFault.TheVariants.LiteralTooLarge}
-use Rattle.cnf_base.specs.{declared.place.Place.Place, declared.word.Word.Word, Code.Text.col_along}
-use Rattle.cnf_base.specs.{Code.Text.line_after, Words.word_of}
+use Rattle.cnf_base.proofs.PrintLemmas.{fixed_plain, first_word, zero_plain}
+use Rattle.cnf_base.proofs.GrammarLemmas.{word_spelled, IsSpelled}
+use Rattle.cnf_base.specs.{Code.Text.col_along, Code.Text.line_after, Literals.Literal}
+use Rattle.cnf_base.specs.declared.{fault.TextFault.TheVariants.LiteralTooLarge, word.Word.Word}
+use Rattle.cnf_base.specs.{declared.place.Place.Place, Words.word_of}
 use Rattle.proofs.specs.Printing.{drat_words, IsDratStep, ReadProof, read_of, proof_of, drat_line}
 use Rattle.proofs.specs.TextSteps.{goes, completes, move_of, faults, literal_or_end}
 use Rattle.proofs.specs.Drat.{DratSpot, at_start, in_literals, drat, drat_steps}
-use Rattle.proofs.proofs.GrammarText.{with_literals, drat_step, drat_step_is, with_read}
-use Rattle.proofs.proofs.GrammarText.{word_completes, list_read, zero_read, lines_read, IsRead}
-use Rattle.proofs.proofs.GrammarText.{word_steps, Spelling, Spells, IsSpelling, text_both_ways}
-use Rattle.proofs.proofs.GrammarText.{all_more, list_words, literal_cases, IsReadOn, first_read}
-use Rattle.proofs.specs.{declared.step_buf.StepKind.TheVariants.Delete, Grammar.DratIsGrammar}
-use Rattle.proofs.specs.{declared.step_buf.StepKind.TheVariants.Add, Steps.with_literal, Steps.Step}
-use Rattle.proofs.specs.{declared.step_buf.StepKind.StepKind, Steps.named}
+use Rattle.proofs.proofs.GrammarText.{with_literals, drat_step, drat_step_is, with_read, list_read}
+use Rattle.proofs.proofs.GrammarText.{word_completes, zero_read, lines_read, IsRead, word_steps}
+use Rattle.proofs.proofs.GrammarText.{Spelling, Spells, IsSpelling, text_both_ways, all_more}
+use Rattle.proofs.proofs.GrammarText.{list_words, literal_cases, IsReadOn, first_read}
+use Rattle.proofs.specs.declared.step_buf.StepKind.{TheVariants.Delete, TheVariants.Add, StepKind}
+use Rattle.proofs.specs.{Steps.with_literal, Steps.Step, Steps.named, Grammar.DratIsGrammar}
 use Rattle.cnf_base.specs.declared.word.Word.TheVariants as words
 
 -- ---- A DRAT proof that was printed as text, as it is read
@@ -102,28 +100,14 @@ spelling = record {
   so_far = so_far;
 }
 
-module _ (part : DratSpot) (s : Step) (run : List ℕ) (fits : Fits part s) where
-  -- one more literal
-  taken : (l : Literal) → is_literal 268435455 l ≡ true → run ≡ literal_text l
-      → Spells spelling part s run (goes in_literals (with_literal s l))
-  taken l is text = search (rules, in_literals, at_start, all_more, map-append, append_assoc)
-
-  -- the `0`
-  ended : run ≡ codes "0" → Spells spelling part s run (completes s)
-  ended text = search rules
-
--- the `d`
-d_spelled : (part : DratSpot) (s : Step) (run : List ℕ) → Fits part s → run ≡ codes "d"
-    → Spells spelling part s run (move_of drat part s words.D)
-d_spelled part s run h h2 = search rules
-
 word_moves : (part : DratSpot) (s : Step) (run : List ℕ) → Fits part s → (w : Word)
     → IsSpelled w run
     → Spells spelling part s run (move_of drat part s w)
 word_moves part s run fits (words.Number n) spelled =
     literal_cases (Spells spelling part s run) in_literals completes s n run spelled tt
-    (taken part s run fits) (ended part s run fits)
-word_moves part s run fits words.D spelled = d_spelled part s run fits spelled
+    (λ l is text. search (rules, in_literals, at_start, all_more, map-append, append_assoc))
+    (λ text. search rules)
+word_moves part s run fits words.D spelled = search rules
 word_moves part s run fits _ spelled = tt
 
 -- ---- The words of a whole step

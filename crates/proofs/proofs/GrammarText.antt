@@ -2,28 +2,26 @@
 use Rattle.std.proofs.Common.{◌≡◌, ℕ, suc, ◌+◌, ◌*◌, ◌≤◌, nat_le, cond, Bool, true, List, [], ◌∷◌}
 use Rattle.std.proofs.Common.{◌++◌, map, fold, Option, None, Some, refl, sym, ap, ◌∙◌, append_assoc}
 use Rattle.std.proofs.Common.{arith, rules, All, codes, option_map, flat_map, filter_map, ◌-◌, ◌<◌}
-use Rattle.std.proofs.{Common.ℤ, lemmas.List.Elements.All-cons, lemmas.List.Folds.list_all-append}
-use Rattle.std.proofs.{Common.false, Common.length, lemmas.Fmt.decimal_digit}
-use Rattle.std.specs.{List.list_all}
+use Rattle.std.{proofs.Common.ℤ, proofs.Common.false, proofs.Common.length, specs.List.list_all}
+use Rattle.std.proofs.lemmas.{List.Folds.list_all-append, List.Elements.All-cons, Fmt.decimal_digit}
 use Rattle.cnf_base.specs.Text.{Listed, listing_of, Listing, is_comment}
 use Rattle.cnf_base.specs.Printing.{input_of, is_literal, literal_text, words_line}
 use Rattle.cnf_base.proofs.GrammarLemmas.{said, number_text, IsSpelled, listing_says, listing_words}
 use Rattle.cnf_base.proofs.PrintLemmas.{both, first_word, along_from_one, past_from_one, Begins}
-use Rattle.cnf_base.proofs.PrintLemmas.{next_word, next_line, IsPlain, zero_plain, line_from}
-use Rattle.cnf_base.specs.{Grammar.text_words, declared.fault.TextFault.TheVariants.LiteralTooLarge}
-use Rattle.cnf_base.specs.{declared.input.Ending.TheVariants.End, declared.word.Number.Number}
-use Rattle.cnf_base.specs.{Literals.Literal, declared.fault.Fault.Fault, declared.place.Place.Place}
-use Rattle.cnf_base.specs.{declared.word.Word.Word, Code.Text.line_after, Code.Text.col_along}
+use Rattle.cnf_base.proofs.PrintLemmas.{next_word, next_line, IsPlain, zero_plain, line_from, past}
+use Rattle.cnf_base.proofs.PrintLemmas.{end_of_line, end_of_line-next}
+use Rattle.cnf_base.specs.{declared.word.Number.Number, Grammar.text_words, Literals.Literal}
+use Rattle.cnf_base.specs.declared.{fault.TextFault.TheVariants.LiteralTooLarge, place.Place.Place}
+use Rattle.cnf_base.specs.declared.{input.Ending.TheVariants.End, word.Word.Word}
+use Rattle.cnf_base.specs.{Code.Text.line_after, Code.Text.col_along, declared.fault.Fault.Fault}
 use Rattle.cnf_base.specs.{Words.word_of, Words.number, Stream.suffix}
-use Rattle.cnf_base.proofs.{PrintLemmas.end_of_line, PrintLemmas.end_of_line-next, PrintLemmas.past}
-use Rattle.proofs.specs.Steps.{with_literal, Step, named, with_hint}
-use Rattle.proofs.specs.TextSteps.{Move, goes, completes, faults, Format, move_of}
-use Rattle.proofs.specs.TextSteps.{literal_or_end, literal_or_fault, steps_among, steps_of}
+use Rattle.proofs.specs.{Steps.with_literal, Reading.with_step, Grammar.IsGrammar, Grammar.IsTextOf}
+use Rattle.proofs.specs.{Grammar.ReadsAs, Steps.with_hint, Reading.Proof, Steps.named, Steps.Step}
+use Rattle.proofs.specs.TextSteps.{Move, goes, completes, faults, Format, move_of, literal_or_end}
+use Rattle.proofs.specs.TextSteps.{literal_or_fault, steps_among, steps_of, steps_from}
 use Rattle.proofs.specs.Printing.{ReadProof, read_of, printed_steps, IsDratStep}
-use Rattle.proofs.specs.{declared.step_end.StepEnd.StepEnd, declared.step_buf.StepKind.StepKind}
-use Rattle.proofs.specs.{TextSteps.steps_from, Code.TextSteps.steps_listed, Code.TextSteps.steps_at}
-use Rattle.proofs.specs.{Reading.PlacedStep, Reading.with_step, Grammar.IsTextOf, Grammar.IsGrammar}
-use Rattle.proofs.specs.{Reading.Proof, Grammar.ReadsAs}
+use Rattle.proofs.specs.declared.{step_buf.StepKind.StepKind, step_end.StepEnd.StepEnd}
+use Rattle.proofs.specs.{Code.TextSteps.steps_listed, Code.TextSteps.steps_at, Reading.PlacedStep}
 use Rattle.cnf_base.specs.declared.word.Word.TheVariants as words
 use Rattle.cnf_base.specs.declared.token.Token.TheVariants as token
 

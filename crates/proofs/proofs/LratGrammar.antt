@@ -1,31 +1,29 @@
 -- The steps of an LRAT text, both ways.
 use Rattle.std.proofs.Common.{◌≡◌, ℕ, ◌≤◌, cond, Bool, true, false, List, [], ◌∷◌, ◌++◌, map, fold}
-use Rattle.std.proofs.Common.{Option, refl, sym, ap, ◌∙◌, append_assoc, arith, rules, append-nil}
-use Rattle.std.proofs.Common.{codes, ℤ, pos, neg_ℤ, option_map, decimal, suc, ◌+◌, ◌-◌, ◌&&◌}
-use Rattle.std.proofs.Common.{nat_le, length, All, negsuc, flat_map}
-use Rattle.std.proofs.{lemmas.List.map-append, lemmas.Bool.Decides.nat_tests}
-use Rattle.std.specs.{List.list_all, Fmt.signed_decimal}
+use Rattle.std.proofs.Common.{Option, refl, sym, ap, ◌∙◌, append_assoc, arith, rules, append-nil, ℤ}
+use Rattle.std.proofs.Common.{codes, pos, neg_ℤ, option_map, decimal, suc, ◌+◌, ◌-◌, ◌&&◌, nat_le}
+use Rattle.std.proofs.Common.{length, All, negsuc, flat_map}
+use Rattle.std.proofs.lemmas.List.{map-append}
+use Rattle.std.{proofs.lemmas.Bool.Decides.nat_tests, specs.Fmt.signed_decimal, specs.List.list_all}
 use Rattle.cnf_base.specs.Printing.{is_literal, literal_text, literal_words, input_of, words_line}
 use Rattle.cnf_base.proofs.PrintLemmas.{both, end_of_line, end_of_line-next, end_of_line-first}
 use Rattle.cnf_base.proofs.PrintLemmas.{IsPlain, fixed_plain, decimal_plain, minus_plain}
 use Rattle.cnf_base.proofs.PrintLemmas.{decimal_no_comment, decimal_word, minus_word, zero_plain}
 use Rattle.cnf_base.proofs.PrintLemmas.{literal_word, literal_plain, literal_taken}
 use Rattle.cnf_base.proofs.GrammarLemmas.{number_text, IsSpelled, word_spelled}
-use Rattle.cnf_base.specs.Words.{word_of, number}
-use Rattle.cnf_base.specs.{Literals.Literal, declared.fault.TextFault.TheVariants.LiteralTooLarge}
-use Rattle.cnf_base.specs.{declared.word.Number.Number, declared.word.Word.Word}
+use Rattle.cnf_base.specs.{Words.word_of, Words.number, declared.word.Word.Word, Literals.Literal}
+use Rattle.cnf_base.specs.declared.{fault.TextFault.TheVariants.LiteralTooLarge, word.Number.Number}
 use Rattle.proofs.specs.Steps.{Step, is_small, is_hint, named, with_literal, with_hint}
 use Rattle.proofs.specs.TextSteps.{Move, goes, completes, faults, move_of, literal_or_end}
 use Rattle.proofs.specs.Lrat.{LratSpot, at_identifier, after_identifier, in_literals, in_hints}
-use Rattle.proofs.specs.Lrat.{in_deletion, lrat, identifier, literal, hint, deleted, lrat_steps}
+use Rattle.proofs.specs.Lrat.{in_deletion, lrat, literal, hint, deleted, lrat_steps}
 use Rattle.proofs.specs.Printing.{hint_words, lrat_words, IsLratStep, ReadProof, read_of, proof_of}
+use Rattle.proofs.specs.{Grammar.LratIsGrammar, Printing.lrat_line}
 use Rattle.proofs.proofs.GrammarText.{with_literals, with_hints, with_read, IsRead, list_read}
 use Rattle.proofs.proofs.GrammarText.{IsReadOn, first_read, word_read, zero_read, lines_read}
 use Rattle.proofs.proofs.GrammarText.{on_word, word_steps, Spelling, Spells, IsSpelling, zero_text}
 use Rattle.proofs.proofs.GrammarText.{text_both_ways, list_words, all_more, literal_cases}
-use Rattle.proofs.specs.declared.step_buf.StepKind.TheVariants.{Delete, Add}
-use Rattle.proofs.specs.{Grammar.LratIsGrammar, declared.step_buf.StepKind.StepKind}
-use Rattle.proofs.specs.Printing.{lrat_line}
+use Rattle.proofs.specs.declared.step_buf.StepKind.{TheVariants.Delete, TheVariants.Add, StepKind}
 use Rattle.cnf_base.specs.declared.word.Word.TheVariants as words
 
 -- ---- An LRAT proof that was printed, as it is read
@@ -42,16 +40,16 @@ pub first_literal_move : (s : Step) (l : Literal) → is_literal 268435455 l ≡
     → move_of lrat after_identifier s (word_of (literal_text l))
     ≡ goes in_literals (with_literal s l)
 first_literal_move s l is =
-    let taken = literal_taken 268435455 l (omega arith)
-    is (literal_or_end in_literals (goes in_hints)
-    s) (faults LiteralTooLarge) in cc (literal_word 268435455 l (omega arith) is)
+    let ends = literal_or_end in_literals (goes in_hints) s in
+    let taken = literal_taken 268435455 l (omega arith) is ends (faults LiteralTooLarge) in
+    cc (literal_word 268435455 l (omega arith) is)
 
 pub literal_move : (s : Step) (l : Literal) → is_literal 268435455 l ≡ true
     → move_of lrat in_literals s (word_of (literal_text l)) ≡ goes in_literals (with_literal s l)
 literal_move s l is =
-    let taken = literal_taken 268435455 l (omega arith)
-    is (literal_or_end in_literals (goes in_hints)
-    s) (faults LiteralTooLarge) in cc (literal_word 268435455 l (omega arith) is)
+    let ends = literal_or_end in_literals (goes in_hints) s in
+    let taken = literal_taken 268435455 l (omega arith) is ends (faults LiteralTooLarge) in
+    cc (literal_word 268435455 l (omega arith) is)
 
 -- an identifier within the limit
 id_range : (k : ℕ) → (nat_le 1 k && is_small k) ≡ true → (1 ≤ k) × (k ≤ 9223372036854775807)
@@ -203,49 +201,24 @@ other e f = cc
 inside : false ≡ true → ⊥
 inside e = cc
 
--- an identifier
-identifier_spelled : (s : Step) (run : List ℕ) (n : Number) → IsSpelled (words.Number n) run
-    → Spells spelling at_identifier s run (identifier n)
-identifier_spelled s run n spelled = search rules
-
 -- what a number does there is spelled by its text
 abbrev IsNumberSpelled : LratSpot → (Step → Number → Move LratSpot) → Type 0
 IsNumberSpelled part does =
     (s : Step) (run : List ℕ) (n : Number) → Fits part s → IsSpelled (words.Number n) run
     → Spells spelling part s run (does s n)
 
--- the text of a literal goes on with it
-abbrev TakesLiteral : LratSpot → Step → List ℕ → Type 0
-TakesLiteral part s run = (l : Literal) → is_literal 268435455 l ≡ true → run ≡ literal_text l
-    → Spells spelling part s run (goes in_literals (with_literal s l))
-
 -- a literal just after the identifier, or the `0` there
 first_spelled : IsNumberSpelled after_identifier literal
 first_spelled s run n fits spelled =
-    literal_cases (Spells spelling after_identifier s run) in_literals (goes in_hints) s
-    n run spelled
-    tt taken ended
-  where
-    none : s.lits ≡ []
-    none = ap (λ t. t.lits) fits.1
-
-    taken : TakesLiteral after_identifier s run
-    taken l is text = grind (arith, named_still, none)
-
-    ended : run ≡ codes "0" → Spells spelling after_identifier s run (goes in_hints s)
-    ended text = grind (arith, none, is_hint)
+    literal_cases (Spells spelling after_identifier s run) in_literals (goes in_hints) s n run
+    spelled tt (λ l is text. grind (arith, named_still)) (λ text. grind (arith, is_hint))
 
 -- a literal after another one, or the `0` there
 literal_spelled : IsNumberSpelled in_literals literal
 literal_spelled s run n fits spelled =
     literal_cases (Spells spelling in_literals s run) in_literals (goes in_hints) s n run spelled
-    tt taken ended
-  where
-    taken : TakesLiteral in_literals s run
-    taken l is text = grind (arith, named_still, all_more, map-append)
-
-    ended : run ≡ codes "0" → Spells spelling in_literals s run (goes in_hints s)
-    ended text = grind (arith, is_hint, append-nil)
+    tt (λ l is text. grind (arith, named_still, all_more, map-append))
+    (λ text. grind (arith, is_hint, append-nil))
 
 -- the hint of a number within the limit
 hint_is : (is_negative : Bool) (size : ℕ) → 1 ≤ size → is_small size ≡ true
@@ -263,15 +236,10 @@ hint_spelled s run n fits spelled =
 deleted_spelled : IsNumberSpelled in_deletion deleted
 deleted_spelled s run n fits spelled = grind (arith, zero_text, all_more, map-append)
 
--- the `d`
-d_spelled : (part : LratSpot) (s : Step) (run : List ℕ) → Fits part s → run ≡ codes "d"
-    → Spells spelling part s run (move_of lrat part s words.D)
-d_spelled part s run h h2 = search rules
-
 number_spelled : (part : LratSpot) (s : Step) (run : List ℕ) → Fits part s → (n : Number)
     → IsSpelled (words.Number n) run
     → Spells spelling part s run (move_of lrat part s (words.Number n))
-number_spelled at_identifier s run fits n spelled = identifier_spelled s run n spelled
+number_spelled at_identifier s run fits n spelled = search rules
 number_spelled part s run h n h2 =
     search (rules, arith, first_spelled, literal_spelled, hint_spelled, deleted_spelled)
 
@@ -279,7 +247,7 @@ word_moves : (part : LratSpot) (s : Step) (run : List ℕ) → Fits part s → (
     → IsSpelled w run
     → Spells spelling part s run (move_of lrat part s w)
 word_moves part s run fits (words.Number n) spelled = number_spelled part s run fits n spelled
-word_moves part s run fits words.D spelled = d_spelled part s run fits spelled
+word_moves part s run fits words.D spelled = search rules
 word_moves part s run fits _ spelled = tt
 
 -- ---- The words of a whole step

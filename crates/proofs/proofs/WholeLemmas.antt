@@ -2,18 +2,17 @@
 use Rattle.std.proofs.Common.{◌≡◌, ◌≢◌, ℕ, suc, ◌+◌, ◌*◌, ◌%◌, ◌<◌, ◌≤◌, true, false, List, [], ◌∷◌}
 use Rattle.std.proofs.Common.{◌++◌, length, take, refl, sym, ap, ◌∙◌, arith, rules, append_assoc}
 use Rattle.std.proofs.Common.{length-drop, length-take-le, nat_le, slice_index, zero, ◌-◌, ◌^◌, min}
-use Rattle.std.proofs.{Common.pow-suc, lemmas.Bool.Decides.nat_tests, lemmas.List.take-append-le}
-use Rattle.std.proofs.{Common.length-append, lemmas.Bool.and_parts, lemmas.Grind.common_steps}
-use Rattle.std.specs.List.{list_all}
+use Rattle.std.proofs.{Common.pow-suc, Common.length-append, lemmas.Grind.common_steps}
+use Rattle.std.{proofs.lemmas.Bool.Decides.nat_tests, specs.List.list_all}
+use Rattle.std.proofs.lemmas.{List.take-append-le, Bool.and_parts}
 use Rattle.cnf_base.specs.Stream.{Stream, next_count, more_count, skipped}
 use Rattle.cnf_base.proofs.StreamLemmas.{Along-still, Along-then, Along-skipped, Splits-first}
-use Rattle.cnf_base.{proofs.StreamLemmas.Splits-second, specs.declared.input.Ending.Ending}
+use Rattle.cnf_base.{specs.declared.input.Ending.Ending, proofs.StreamLemmas.Splits-second}
 use Rattle.proofs.specs.Binary.{groups_value, in_step, in_number, binary_steps_among, group_move}
 use Rattle.proofs.specs.Binary.{goes, BinarySpot, binary_move_of, binary_number_move}
-use Rattle.proofs.specs.Code.Whole.{spelled, IsWhole, RunsOn}
-use Rattle.proofs.specs.{Code.Binary.binary_steps_from, declared.drat_binary.whole.Spelled.Spelled}
-use Rattle.proofs.specs.{Code.BinaryMoves.KeepsGroups, declared.drat_binary.groups.Groups.Groups}
-use Rattle.proofs.specs.Steps.{Step, with_literal}
+use Rattle.proofs.specs.Code.{Whole.spelled, Whole.IsWhole, Whole.RunsOn, BinaryMoves.KeepsGroups}
+use Rattle.proofs.specs.{declared.drat_binary.whole.Spelled.Spelled, Code.Binary.binary_steps_from}
+use Rattle.proofs.specs.{Steps.Step, Steps.with_literal, declared.drat_binary.groups.Groups.Groups}
 
 -- ---- The groups of a number, byte by byte
 

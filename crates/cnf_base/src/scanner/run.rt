@@ -52,15 +52,18 @@ impl Run for Numeral {
 
     ghost is_of = { λ n run. Spells n.is_negative n.digits run };
 
+    #[tactic(auto, using(crate::proofs::WholeLemmas::spelled))]
     fn begin(&mut self, first: u8) {
         self.is_negative = first == b'-';
         self.digits = first_digits(first);
     }
 
+    #[tactic(auto, using(crate::proofs::WholeLemmas::spelled))]
     fn add(&mut self, byte: u8) {
         self.digits = self.digits.with_byte(byte);
     }
 
+    #[tactic(auto, using(crate::proofs::WholeLemmas::spelled))]
     fn says(&self) -> Word {
         self.digits.word(self.is_negative)
     }

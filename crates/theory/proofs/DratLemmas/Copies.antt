@@ -1,27 +1,24 @@
 -- The rule of DRAT depends only on how many copies of each clause are alive.
 use Rattle.std.proofs.Common.{◌≡◌, ℕ, zero, suc, ◌+◌, ◌-◌, ◌<◌, Bool, true, false, cond, Some, Ok}
-use Rattle.std.proofs.Common.{Err, List, [], ◌∷◌, ◌++◌, slice_get, refl, sym, inl, inr, ◌⊎◌, arith}
+use Rattle.std.proofs.Common.{Err, List, [], ◌∷◌, ◌++◌, slice_get, refl, sym, inl, inr, arith}
 use Rattle.std.{proofs.Common.rules, proofs.Common.true≢false, specs.List.list_any}
-use Rattle.std.proofs.lemmas.Bool.{false≢true, or_cases, or_left, or_right}
-use Rattle.std.proofs.lemmas.{Bool.Decides.nat_tests, List.Sums.sum_by-cons}
-use Rattle.std.proofs.lemmas.{Grind.common_steps, Option.none-some}
-use Rattle.cnf_base.specs.Literals.{Literal, complement, Clause, has, complements, without}
+use Rattle.std.proofs.lemmas.Bool.{false≢true, or_cases, or_left, or_right, Decides.nat_tests}
+use Rattle.std.proofs.lemmas.{Option.none-some, Grind.common_steps, List.Sums.sum_by-cons}
+use Rattle.cnf_base.specs.Literals.{Literal, complement, Clause, complements, without, same_clause}
 use Rattle.cnf_base.proofs.SetLemmas.{same_there, same_back, same_itself, same_symm, same_trans}
-use Rattle.cnf_base.proofs.SetLemmas.{both_pass, has_append_left, has_append_right}
-use Rattle.cnf_base.proofs.SetLemmas.{has_append_cases, has-complements, complements_has}
-use Rattle.cnf_base.proofs.SetLemmas.{has-without, without_has, has-filter, filter_has}
-use Rattle.cnf_base.specs.Literals.{same_clause}
-use Rattle.cnf_base.proofs.{SizeLemmas.IsWithin, LiteralLemmas.complement-complement}
-use Rattle.theory.specs.declared.accepted.Accepted.TheVariants.{Rup, Rat, Pr, Empty}
+use Rattle.cnf_base.proofs.SetLemmas.{both_pass, has_append_left, has_append_right, has-complements}
+use Rattle.cnf_base.proofs.SetLemmas.{has_append_cases, complements_has, has-without, without_has}
+use Rattle.cnf_base.proofs.{SetLemmas.has-filter, SetLemmas.filter_has, SizeLemmas.IsWithin}
+use Rattle.cnf_base.proofs.LiteralLemmas.{complement-complement}
+use Rattle.theory.specs.declared.accepted.Accepted.TheVariants.{Rat, Pr, Empty}
 use Rattle.theory.specs.declared.refusal.Refusal.TheVariants.{NotRup, NeitherRupNorRat}
-use Rattle.theory.specs.Drat.{SameLive, DratStep, add, delete, AnswersAdd, AnswersDelete}
-use Rattle.theory.specs.Drat.{AnswersDrat, AnswersWithWitness, IsKeptUnit, take_off, after_drat}
+use Rattle.theory.specs.{declared.refusal.Refusal.TheVariants.NeitherRupNorPr, Answers.StepAnswer}
+use Rattle.theory.specs.Drat.{SameLive, DratStep, add, delete, AnswersAdd, AnswersDelete, take_off}
+use Rattle.theory.specs.Drat.{AnswersDrat, AnswersWithWitness, IsKeptUnit, after_drat, copies_of}
 use Rattle.theory.specs.Propagation.{Live, HasRup, HasRat, HasPr, open_literals}
 use Rattle.theory.proofs.PropagationLemmas.Covers.{Covers, clash_covers, reason_covers}
 use Rattle.theory.proofs.PropagationLemmas.Forced.{forced_assumed, clash_through}
-use Rattle.theory.specs.{declared.refusal.Refusal.TheVariants.NeitherRupNorPr, Answers.StepAnswer}
-use Rattle.theory.specs.{declared.drat_rules.DratRules.DratRules, Drat.copies_of}
-use Rattle.theory.specs.declared.accepted.Accepted.{Accepted}
+use Rattle.theory.specs.declared.{drat_rules.DratRules.DratRules, accepted.Accepted.Accepted}
 
 -- ---- Copies
 
@@ -38,8 +35,7 @@ alive_copies c (d ∷ live) h =
 pub none_alive : (c : Clause) (live : List Clause) → list_any (same_clause c) live ≡ false
     → copies_of c live ≡ 0
 none_alive c [] h = refl
-none_alive c (d ∷ live) h =
-    let later = none_alive c live in let first = copies-cons c d live in grind arith
+none_alive c (d ∷ live) h = grind (arith, copies-cons, (none_alive c live))
 
 pub copies_alive : (c : Clause) (live : List Clause) → 0 < copies_of c live
     → list_any (same_clause c) live ≡ true
@@ -48,12 +44,10 @@ copies_alive c live h = let none = none_alive c live in grind arith
 pub alive_at : (c : Clause) (live : List Clause) → list_any (same_clause c) live ≡ true
     → (j : ℕ) × (d : Clause) × (slice_get live j ≡ Some d) × (same_clause c d ≡ true)
 alive_at c [] h = absurd (false≢true h)
-alive_at c (d ∷ live) h =
-    elim (same_clause c d) as (λ b. same_clause c d ≡ b → (j : ℕ) × (e : Clause)
-    × (slice_get (d ∷ live) j ≡ Some e) × (same_clause c e ≡ true)) [
-      | true ↦ λ e. (zero, d, refl, e)
-      | false ↦ λ e. let w = alive_at c live (cc) in (suc w.0, w.1, w.2, w.3)
-    ] refl
+alive_at c (d ∷ live) h = elim (or_cases (same_clause c d) _ h) [
+  | inl here ↦ (zero, d, refl, here)
+  | inr there ↦ let w = alive_at c live there in (suc w.0, w.1, w.2, w.3)
+]
 
 pub at_alive : (live : List Clause) (k : ℕ) (d : Clause) → slice_get live k ≡ Some d
     → list_any (same_clause d) live ≡ true
@@ -83,7 +77,7 @@ pub after_same : (first second : List Clause) (step : DratStep) (word : Accepted
 after_same first second (add c set) word same = search (rules, copies-cons)
 after_same first second step word same = grind (arith, copies-cons, taken_off_same)
 
-same_live_symm : (first second : List Clause) → SameLive first second → SameLive second first
+pub same_live_symm : (first second : List Clause) → SameLive first second → SameLive second first
 same_live_symm first second same = record { copies = λ e. sym (same.copies e) }
 
 -- ---- What follows from the same clauses
@@ -95,68 +89,58 @@ covers_of first second same k c at =
     alive_at c second (copies_alive c second (omega arith))
 
 -- the complements of clauses that include one another
-complements_more : (live : Live) (c d : Clause) → IsWithin c d → HasRup live c → HasRup live d
-complements_more live c d inside rup =
-    clash_through live (complements c) (complements d) (λ a member.
-    let there = inside (complement a) (complements_has c a member) in
-    forced_assumed live (complements d) a
-    (rw complement-complement at (has-complements d (complement a) there))) rup
+pub complements_within : (c d : Clause) → IsWithin c d → IsWithin (complements c) (complements d)
+complements_within c d inside l h =
+    rw complement-complement at (has-complements d _ (inside _ (complements_has c l h)))
 
-append_more : (c xs ys : Clause) → IsWithin xs ys → IsWithin (c ++ xs) (c ++ ys)
+complements_more : (live : Live) (c d : Clause) → IsWithin c d → HasRup live c → HasRup live d
+complements_more live c d inside rup = clash_through live (complements c) _ (λ a member.
+    forced_assumed live _ a (complements_within c d inside a member)) rup
+
+pub append_more : (c xs ys : Clause) → IsWithin xs ys → IsWithin (c ++ xs) (c ++ ys)
 append_more c xs ys inside l h = grind (arith, has_append_cases, has_append_left, has_append_right)
 
 module _ (first second : Live) (there : Covers first second) (back : Covers second first) where
   pub rat_covers : (c : Clause) (pivot : Literal) → HasRat first c pivot → HasRat second c pivot
-  rat_covers c pivot rat = record { holds_pivot = rat.holds_pivot; candidates = go }
-    where
-      go : (k : ℕ) (d : Clause) → second k ≡ Some d → has d (complement pivot) ≡ true
-          → HasRup second (c ++ without d (complement pivot))
-      go k d at member =
-          let w = back k d at in let e = w.1 in
-          let less : IsWithin (without e (complement pivot)) (without d (complement pivot)) =
-          grind (arith, without_has, has-without, same_back) in
-          let rup = rat.candidates w.0 e w.2 (same_there d e w.3 (complement pivot) member) in
-          complements_more second _ _ (append_more c _ _ less)
-          (clash_covers first second there _ rup)
+  rat_covers c pivot rat = record {
+    holds_pivot = rat.holds_pivot;
+    candidates = λ k d at member.
+        let (j, e, at_e, same) = back k d at in
+        let rup = rat.candidates j e at_e (same_there d e same _ member) in
+        let p = complement pivot in let less : IsWithin (c ++ without e p) (c ++ without d p) =
+        grind (arith, append_more, without_has, has-without, same_back) in
+        complements_more second _ _ less (clash_covers first second there _ rup);
+  }
 
   pub pr_covers : (c set : List Literal) → HasPr first c set → HasPr second c set
-  pr_covers c set pr = record { consistent = pr.consistent; meets = pr.meets; others = go }
-    where
-      go : (k : ℕ) (d : Clause) → second k ≡ Some d
-          → ((l : Literal) × (has d l ≡ true) × (has set l ≡ true))
-          ⊎ HasRup second (c ++ open_literals set d)
-      go k d at =
-          let w = back k d at in let e = w.1 in
-          let less : IsWithin (open_literals set e) (open_literals set d) =
-          grind (arith, filter_has, has-filter, same_back) in
-          elim (pr.others w.0 e w.2) [
-            | inl met ↦ inl (met.0, same_back d e w.3 met.0 met.1, met.2)
-            | inr rup ↦ inr (complements_more second _ _ (append_more c _ _ less)
-                (clash_covers first second there _ rup))
-          ]
+  pr_covers c set pr = record {
+    consistent = pr.consistent;
+    meets = pr.meets;
+    others = λ k d at.
+        let (j, e, at_e, same) = back k d at in
+        elim (pr.others j e at_e) [
+          | inl (l, member, met) ↦ inl (l, same_back d e same l member, met)
+          | inr rup ↦ inr (complements_more second (c ++ open_literals set e) _
+              (grind (arith, append_more, filter_has, has-filter, same_back))
+              (clash_covers first second there _ rup))
+        ];
+  }
 
 -- ---- The answers
 
 module _ (first second : Live) (there : Covers first second) (back : Covers second first) where
   add_same : (c : List Literal) (answer : StepAnswer) → AnswersAdd first c answer
       → AnswersAdd second c answer
-  add_same [] (Ok Empty) a = clash_covers _ _ there [] a
-  add_same [] (Err NotRup) a = λ b. a (clash_covers _ _ back [] b)
-  add_same (l ∷ c) (Ok Rup) a = clash_covers _ _ there _ a
-  add_same (l ∷ c) (Ok Rat) a =
-      (λ b. a.0 (clash_covers _ _ back _ b), rat_covers _ _ there back (l ∷ c) l a.1)
-  add_same (l ∷ c) (Err (NeitherRupNorRat m)) a =
-      let no_rat = rat_covers _ _ back there (l ∷ c) l in
-      (a.0, λ b. a.1 (clash_covers _ _ back _ b), λ r. a.2 (no_rat r))
-  add_same c answer a = absurd a
+  add_same [] (Ok Empty) a = search clash_covers
+  add_same [] (Err NotRup) a = search clash_covers
+  add_same (l ∷ c) (Ok Rat) (none, rat) = search (clash_covers, rat_covers)
+  add_same (l ∷ c) (Err (NeitherRupNorRat m)) (is, none, no_rat) = search (clash_covers, rat_covers)
+  add_same c answer a = search (rules, clash_covers)
 
   witness_same : (c set : List Literal) (answer : StepAnswer)
       → AnswersWithWitness first c set answer → AnswersWithWitness second c set answer
-  witness_same c set (Ok Pr) a =
-      (a.0, λ b. a.1 (clash_covers _ _ back _ b), pr_covers _ _ there back c set a.2)
-  witness_same c set (Err NeitherRupNorPr) a =
-      let no_pr = pr_covers _ _ back there c set in
-      (a.0, λ b. a.1 (clash_covers _ _ back _ b), λ r. a.2 (no_pr r))
+  witness_same c set (Ok Pr) (quiet, none, pr) = search (clash_covers, pr_covers)
+  witness_same c set (Err NeitherRupNorPr) (quiet, none, no_pr) = search (clash_covers, pr_covers)
   witness_same c set answer a = search (rules, clash_covers)
 
 module _ (rules : DratRules) (first second : List Clause) where
@@ -187,3 +171,5 @@ drat_same rules first second (add c []) answer same a = search (add_same, covers
 drat_same rules first second (add c (l ∷ set)) answer same a =
     search (witness_same, covers_of, same_live_symm)
 drat_same rules first second (delete c) answer same a = search (rules, delete_same)
+
+pub ruleset copies_count = (drat_same, after_same)

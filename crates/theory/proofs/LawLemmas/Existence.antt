@@ -1,33 +1,29 @@
 -- Each step has an answer, under either rule.
 use Rattle.std.proofs.Common.{◌≡◌, ℕ, suc, ◌<◌, ◌≤◌, max, not, ◌&&◌, eqb, nat_le, Bool, true, false}
 use Rattle.std.proofs.Common.{◌⊎◌, inl, inr, Option, None, Some, List, [], ◌∷◌, length, slice_get}
-use Rattle.std.proofs.Common.{refl, arith, Ok, Err, rules, MatchBool, zero, ◌++◌, sym, ◌∙◌}
+use Rattle.std.proofs.Common.{refl, arith, Ok, Err, rules, zero, ◌++◌, sym, ◌∙◌, true≢false}
 use Rattle.std.proofs.lemmas.Bool.{cases_lt, cases_eq, cases_Bool}
-use Rattle.std.{proofs.Common.true≢false, proofs.lemmas.Option.none-some, specs.List.list_any}
+use Rattle.std.{proofs.lemmas.Option.none-some, specs.List.list_any}
 use Rattle.cnf_base.specs.Literals.{Literal, Clause, complements, complement, has, without}
-use Rattle.cnf_base.proofs.SetLemmas.{any_from, any_some}
 use Rattle.cnf_base.specs.Literals.{same_clause}
+use Rattle.cnf_base.proofs.SetLemmas.{any_from, any_some}
 use Rattle.theory.specs.declared.accepted.Accepted.TheVariants.{Rup, Rat, Empty, Pr, Deleted}
-use Rattle.theory.specs.declared.refusal.Refusal.TheVariants.{IdOutOfOrder, UnknownId, NotUnit}
-use Rattle.theory.specs.declared.refusal.Refusal.TheVariants.{NoConflict, Unnamed, NotRup}
-use Rattle.theory.specs.declared.refusal.Refusal.TheVariants.{NeitherRupNorRat, NotAlive}
-use Rattle.theory.specs.declared.refusal.Refusal.TheVariants.{InconsistentSet, NeitherRupNorPr}
+use Rattle.theory.specs.declared.{accepted.Accepted.TheVariants.Ignored, refusal.Refusal.Refusal}
 use Rattle.theory.specs.Propagation.{Live, Clash, HasRup, HasRat, HasPr, open_literals, by_empty}
-use Rattle.theory.specs.Rules.{Same, IsFiniteMap, IsFinite, Rule, lrat, drat, State, by_ids}
-use Rattle.theory.specs.Rules.{by_copies, start, after}
-use Rattle.theory.specs.Lrat.{deletion_refusal, answer_of, numbered, ChainEnd, conflict, open_with}
-use Rattle.theory.specs.Lrat.{unknown, not_unit, chain, Group, LratStep, add, delete, LratState}
-use Rattle.theory.specs.Lrat.{is_left_out, AnswersGroups, AnswersChain, AnswersLrat, after_lrat}
-use Rattle.theory.specs.Lrat.{lrat_step, without_ids}
+use Rattle.theory.specs.Rules.{Same, IsFiniteMap, IsFinite, Rule, lrat, drat, State, by_ids, start}
+use Rattle.theory.specs.Rules.{by_copies, after}
+use Rattle.theory.specs.Lrat.{deletion_refusal, answer_of, numbered, ChainEnd, open_with, not_unit}
+use Rattle.theory.specs.Lrat.{chain, Group, LratStep, add, delete, LratState, is_left_out}
+use Rattle.theory.specs.Lrat.{AnswersGroups, AnswersChain, AnswersLrat, after_lrat, lrat_step}
+use Rattle.theory.specs.{declared.accepted.Accepted.Accepted, Laws.AnswersExist, Lrat.without_ids}
 use Rattle.theory.specs.Drat.{drat_step, DratStep, add, delete, AnswersAdd, AnswersDelete}
-use Rattle.theory.specs.Drat.{AnswersDrat, AnswersWithWitness, IsKeptUnit}
+use Rattle.theory.specs.{Drat.AnswersDrat, Drat.AnswersWithWitness, Drat.IsKeptUnit, Sets.conflicts}
 use Rattle.theory.proofs.PropagationLemmas.Unit.{clash_of_conflict, closed_quiet}
 use Rattle.theory.proofs.LawLemmas.Reasons.{all_that_follows, reason_decided, IsDecided}
-use Rattle.theory.specs.{declared.accepted.Accepted.TheVariants.Ignored, Answers.StepAnswer}
-use Rattle.theory.specs.declared.{refusal.Refusal.Refusal, drat_rules.DratRules.DratRules}
-use Rattle.theory.specs.{Laws.AnswersExist, declared.accepted.Accepted.Accepted, Sets.conflicts}
-use Rattle.theory.proofs.{PropagationLemmas.Conflicts.not_both, LratLemmas.Sums.with_other}
+use Rattle.theory.{proofs.PropagationLemmas.Conflicts.not_both, specs.Answers.StepAnswer}
+use Rattle.theory.{specs.declared.drat_rules.DratRules.DratRules, proofs.LratLemmas.Sums.with_other}
 use Rattle.proofs.specs.Steps.{Step}
+use Rattle.theory.specs.declared.refusal.Refusal.TheVariants as refused
 
 -- ---- Each step of a DRAT proof has an answer: whether propagation clashes can be decided
 
@@ -56,17 +52,14 @@ module _ (live : List Clause) (assumed : List Literal) where
 -- ---- Candidates
 
 -- each clause of the list passes, or one does not
-each_or_one : (P : Clause → Type 0) → ((d : Clause) → IsDecided (P d)) → (live : List Clause) → ((k : ℕ) (d : Clause) → slice_get live k ≡ Some d → P d) ⊎ ((k : ℕ) × (d : Clause) × (slice_get live k ≡ Some d) × ¬ P d)
-each_or_one P decide [] = inl (λ k d at. absurd (none-some d at))
-each_or_one P decide (c ∷ live) =
-    let later = each_or_one P decide live in let here = decide c in
-    elim here [
-      | inr not_here ↦ inr (zero, c, refl, not_here)
-      | inl this ↦ elim later [
-        | inr w ↦ inr (suc w.0, w.1, w.2, w.3)
-        | inl rest ↦ inl (grind arith)
-      ]
-    ]
+each_or_one : (P : Clause → Type 0) → ((d : Clause) → IsDecided (P d)) → (live : List Clause)
+    → ((k : ℕ) (d : Clause) → slice_get live k ≡ Some d → P d)
+    ⊎ ((k : ℕ) × (d : Clause) × (slice_get live k ≡ Some d) × ¬ P d)
+each_or_one P decide [] = inl (grind arith)
+each_or_one P decide (c ∷ live) = elim (each_or_one P decide live) [
+  | inr w ↦ inr (suc w.0, w.1, w.2, w.3)
+  | inl rest ↦ elim (decide c) [ inl this ↦ inl (grind arith) | inr not ↦ inr (zero, c, refl, not) ]
+]
 
 module _ (live : List Clause) (c : Clause) (pivot : Literal) where
   -- what RAT asks of a clause
@@ -127,12 +120,12 @@ module _ (live : List Clause) (c set : List Literal) where
 witness_answer : (live : List Clause) (c set : List Literal)
     → (answer : StepAnswer) × AnswersWithWitness (slice_get live) c set answer
 witness_answer live c set = elim (cases_Bool (conflicts set)) [
-  | inl both ↦ (Err InconsistentSet, both)
+  | inl both ↦ (Err refused.InconsistentSet, both)
   | inr consistent ↦ elim (clash_decided live (complements c)) [
     | inl clash ↦ (Ok Rup, (consistent, clash))
     | inr none ↦ elim (pr_decided live c set consistent) [
       | inl pr ↦ (Ok Pr, (consistent, none, pr))
-      | inr neither ↦ (Err NeitherRupNorPr, (consistent, none, neither))
+      | inr neither ↦ (Err refused.NeitherRupNorPr, (consistent, none, neither))
     ]
   ]
 ]
@@ -141,13 +134,13 @@ add_answer : (live : List Clause) (c : List Literal) → (answer : StepAnswer) �
     (slice_get live) c answer
 add_answer live [] = elim (clash_decided live []) [
   | inl clash ↦ (Ok Empty, clash)
-  | inr none ↦ (Err NotRup, none)
+  | inr none ↦ (Err refused.NotRup, none)
 ]
 add_answer live (pivot ∷ rest) = elim (clash_decided live (complements (pivot ∷ rest))) [
   | inl clash ↦ (Ok Rup, clash)
   | inr none ↦ elim (rat_decided live (pivot ∷ rest) pivot) [
     | inl rat ↦ (Ok Rat, (none, rat))
-    | inr neither ↦ (Err (NeitherRupNorRat pivot), (refl, none, neither))
+    | inr neither ↦ (Err (refused.NeitherRupNorRat pivot), (refl, none, neither))
   ]
 ]
 
@@ -163,7 +156,7 @@ delete_answer rules live c = elim (cases_Bool (list_any (same_clause c) live)) [
     | inr none ↦ (Ok Deleted, (alive, none))
   ]
   | inr absent ↦ elim (cases_Bool rules.strict) [
-    | inl strict ↦ (Err NotAlive, (absent, strict))
+    | inl strict ↦ (Err refused.NotAlive, (absent, strict))
     | inr lax ↦ (Ok Ignored, inr (absent, lax))
   ]
 ]
@@ -179,12 +172,7 @@ lowest : (p : ℕ → Bool) (n : ℕ)
     → ((k : ℕ) → k < n → p k ≡ false) ⊎ ((k : ℕ) × (p k ≡ true) × ((j : ℕ) → j < k → p j ≡ false))
 lowest p Prim.Native.Nat.zero = inl (λ k h. absurd (omega arith))
 lowest p (suc n) =
-    let later = lowest p n in
-    elim (p n) as (λ v. p n ≡ v → ((k : ℕ) → k < suc n → p k ≡ false)
-    ⊎ ((k : ℕ) × (p k ≡ true) × ((j : ℕ) → j < k → p j ≡ false))) [
-      | true ↦ λ e. elim later [ inl none ↦ inr (n, e, none) | inr found ↦ inr found ]
-      | false ↦ λ e. elim later [ inl none ↦ inl (grind (arith, cases_eq)) | inr found ↦ inr found ]
-    ] refl
+    let later = lowest p n in let here = cases_Bool (p n) in grind (arith, cases_eq)
 
 and_false : (b : Bool) → (b && false) ≡ false
 and_false b = search rules
@@ -193,7 +181,7 @@ groups_answer : (live : Live) → IsFiniteMap live → (ls : List Literal) (pivo
 groups_answer live b ls pivot groups (Some r) = (Err r, refl)
 groups_answer live b ls pivot groups None =
     elim (lowest (is_left_out live ls pivot groups) (suc b.bound)) [
-      | inr found ↦ (Err (Unnamed found.0), (found.1, found.2))
+      | inr found ↦ (Err (refused.Unnamed found.0), (found.1, found.2))
       | inl none ↦ (
         Ok Rat,
         λ k. elim (cases_lt b.bound k) [
@@ -205,22 +193,19 @@ groups_answer live b ls pivot groups None =
 
 chain_answer : (live : Live) → IsFiniteMap live → (c : List Literal) (groups : List Group)
     (end : ChainEnd) → (answer : StepAnswer) × AnswersChain live c groups end answer
-chain_answer live b [] groups conflict = (Ok Empty, refl)
-chain_answer live b (l ∷ c) groups conflict = (Ok Rup, refl)
-chain_answer live b c groups (not_unit k) = (Err (NotUnit k), search rules)
-chain_answer live b [] groups (open_with ls) = (Err NoConflict, refl)
+chain_answer live b c groups (not_unit k) = (_, refl)
 chain_answer live b (l ∷ c) groups (open_with ls) = groups_answer live b ls l groups _
-chain_answer live b c groups (unknown k) = (Err (UnknownId k), refl)
+chain_answer live b [] groups end = (_, refl)
+chain_answer live b c groups end = (_, refl)
 
 -- each step has an answer
 lrat_answer : (state : LratState) → IsFiniteMap state.live → (step : LratStep)
     → (answer : StepAnswer) × AnswersLrat state step answer
 lrat_answer state b (add id c units groups) =
-    elim (nat_le id state.top) as (λ v. (answer : StepAnswer) × MatchBool v
-    (answer ≡ Err IdOutOfOrder)
-    (AnswersChain state.live c groups (chain state.live (complements c) units) answer)) [
-      | true ↦ (Err IdOutOfOrder, refl)
-      | false ↦ chain_answer state.live b c groups (chain state.live (complements c) units)
+    let after = chain_answer state.live b c groups (chain state.live (complements c) units) in
+    elim (cases_Bool (nat_le id state.top)) [
+      | inl low ↦ (Err refused.IdOutOfOrder, grind arith)
+      | inr high ↦ (after.0, grind arith)
     ]
 lrat_answer state b (delete ids) = (answer_of (deletion_refusal state.live ids), refl)
 
@@ -251,13 +236,12 @@ after_finite state step word h = search (rules, lrat_finite)
 pub same_finite : (first second : State) → Same first second → IsFinite second → IsFinite first
 same_finite first second h h2 = search rules
 
+past : (cs : List Clause) (k : ℕ) → length cs ≤ k → slice_get cs k ≡ None
+past (c ∷ cs) (suc k) h = past cs k (omega arith)
+past cs k h = grind arith
+
 pub numbered_above : (cs : List Clause) (k : ℕ) → length cs < k → numbered cs k ≡ None
-numbered_above cs (suc k) h = past cs k (omega arith)
-  where
-    past : (cs : List Clause) (k : ℕ) → length cs ≤ k → slice_get cs k ≡ None
-    past (c ∷ cs) (suc k) h = past cs k (omega arith)
-    past cs k h = grind arith
-numbered_above cs Prim.Native.Nat.zero h = refl
+numbered_above cs k h = grind (arith, past)
 
 pub start_finite : (rule : Rule) (formula : List Clause) → IsFinite (start rule formula)
 start_finite lrat formula = record { bound = length formula; none = numbered_above formula }

@@ -1,24 +1,24 @@
 -- What deletions lose.
-use Rattle.std.proofs.Common.{false, arith, ◌≡◌, ◌≢◌, true, List, [], ◌∷◌, slice_get, sym}
-use Rattle.std.proofs.Common.{inl, inr, rules, ℕ, suc, cond, Some, Ok, ◌⊎◌, IsTrue}
-use Rattle.std.proofs.{lemmas.Bool.false≢true, lemmas.Bool.cases_Bool, lemmas.Bool.cases_eq}
+use Rattle.std.proofs.Common.{arith, ◌≡◌, ◌≢◌, true, List, [], ◌∷◌, slice_get, inl, inr, rules, ℕ}
+use Rattle.std.proofs.Common.{suc, Some, Ok, ◌⊎◌, IsTrue}
+use Rattle.std.proofs.lemmas.Bool.{cases_Bool, cases_eq}
 use Rattle.cnf_base.specs.Literals.{Literal, Clause, complement, has, same_clause}
-use Rattle.cnf_base.proofs.{SetLemmas.same_itself, SetLemmas.same_there, SetLemmas.same_back}
+use Rattle.cnf_base.proofs.SetLemmas.{same_itself, same_there, same_back}
 use Rattle.theory.specs.Drat.{take_off, SameLive, delete, after_drat, DratStep, add, AnswersListed}
+use Rattle.theory.specs.{Drat.AnswersDrat, Drat.drat_step, declared.accepted.Accepted.Accepted}
 use Rattle.theory.specs.Losses.{LosesLiteral, LosesRootLiteral, DeleteLoses, StepLoses, HasLost}
 use Rattle.theory.specs.Propagation.{Live, Forced, Clash, IsRootReason, by_both, IsClosed}
 use Rattle.theory.proofs.PropagationLemmas.Covers.{Covers, forced_covers, clash_covers}
-use Rattle.theory.proofs.{DratLemmas.Copies.after_same as after_drat_same, LawLemmas.Reasons.IsAll}
-use Rattle.theory.proofs.{PropagationLemmas.Covers.reason_covers, LawLemmas.Reasons.reason_decided}
-use Rattle.theory.proofs.{LawLemmas.Reasons.all_that_follows, PropagationLemmas.Forced.forced_unit}
-use Rattle.theory.proofs.{LawLemmas.Truth.take_off_from, DratLemmas.Copies.covers_of}
-use Rattle.theory.proofs.LawLemmas.Rules.{after_same}
-use Rattle.theory.specs.{declared.accepted.Accepted.TheVariants.Deleted, Verdicts.DeletesReason}
-use Rattle.theory.specs.{Verdicts.DeletedReason, declared.drat_rules.DratRules.DratRules}
-use Rattle.theory.specs.{Drat.AnswersDrat, Laws.LostWithReason, declared.accepted.Accepted.Accepted}
-use Rattle.theory.specs.{Verdicts.Ending, Laws.UnitsAreKept, Laws.ReasonsAreKept, Rules.by_copies}
-use Rattle.theory.specs.{Drat.drat_step, Verdicts.Ends, Rules.State, Rules.Same, Rules.Answers}
-use Rattle.proofs.specs.{Steps.Step, Steps.clause_part, Steps.witness_part}
+use Rattle.theory.proofs.{PropagationLemmas.Covers.reason_covers, LawLemmas.Truth.take_off_from}
+use Rattle.theory.proofs.DratLemmas.Copies.{same_live_symm, after_same as after_drat_same}
+use Rattle.theory.proofs.{PropagationLemmas.Forced.forced_unit, DratLemmas.Copies.covers_of}
+use Rattle.theory.proofs.LawLemmas.Reasons.{IsAll, reason_decided, all_that_follows}
+use Rattle.theory.{specs.declared.drat_rules.DratRules.DratRules, proofs.LawLemmas.Rules.after_same}
+use Rattle.theory.specs.declared.accepted.Accepted.TheVariants.{Deleted}
+use Rattle.theory.specs.Verdicts.{DeletesReason, DeletedReason, Ending, Ends}
+use Rattle.theory.specs.Laws.{LostWithReason, UnitsAreKept, ReasonsAreKept}
+use Rattle.theory.specs.Rules.{by_copies, after, State, Same, Answers}
+use Rattle.proofs.specs.Steps.{Step, clause_part, witness_part}
 
 -- ---- What follows with nothing assumed, and where the rules keep it
 
@@ -36,18 +36,17 @@ module _ (c : Clause) where
   left_of : (live : List Clause) (k : ℕ) (d : Clause) → slice_get live k ≡ Some d
       → (same_clause c d ≡ true) ⊎ ((j : ℕ) × (slice_get (take_off c live) j ≡ Some d))
   left_of (e ∷ live) (suc k) d at =
-      elim (same_clause c e) as (λ b. (same_clause c d ≡ true)
-      ⊎ ((j : ℕ) × (slice_get (cond b live (e ∷ take_off c live)) j ≡ Some d))) [
-        | true ↦ inr (k, at)
-        | false ↦ elim (left_of live k d at) [ inl is ↦ inl is | inr w ↦ inr (suc w.0, w.1) ]
+      elim (cases_Bool (same_clause c e)) [
+        | inl same ↦ inr (k, grind arith)
+        | inr other ↦
+            elim (left_of live k d at) [ inl is ↦ inl is | inr w ↦ inr (suc w.0, grind arith) ]
       ]
   left_of live k d at = search rules
 
   -- what follows without it followed
   pub fewer_forced : (live : List Clause) (l : Literal) → Forced (slice_get (take_off c live)) [] l
       → Forced (slice_get live) [] l
-  fewer_forced live = forced_more (slice_get (take_off c live)) (slice_get live)
-      (take_off_from c live)
+  fewer_forced live l f = forced_more _ _ (take_off_from c live) l f
 
   -- Where each literal that the clause makes hold still holds without it, so does all that held:
   -- what follows without the clause is closed under its unit rule too.
@@ -62,9 +61,9 @@ module _ (c : Clause) where
       back x h = fewer_forced live x (all.1.sound x h)
 
       found : (x : Literal) → Forced (slice_get (take_off c live)) [] x → has all.0 x ≡ true
-      found x g = g.in_each (λ k. has all.0 k) all.1.closed (λ a h. absurd (false≢true h))
+      found x g = g.in_each (has all.0) all.1.closed (search rules)
 
-      closed : IsClosed (slice_get live) (λ x. has all.0 x)
+      closed : IsClosed (slice_get live) (has all.0)
       closed = record {
         unit = λ k d at m member others. elim (left_of live k d at) [
           | inr w ↦ all.1.closed.unit w.0 d w.1 m member others
@@ -138,11 +137,10 @@ module _ (live : List Clause) (c : Clause) (quiet : ¬ Clash (slice_get live) []
   pub still_held : (l : Literal) → has c l ≡ true → Forced (slice_get live) [] l
       → Forced (slice_get (take_off c live)) [] l → ¬ Loses
   still_held l member held still loses =
-      let all = forced_still c live (λ m m_there forced others. elim (cases_eq l m) [
-        | inl same ↦ rw same at still
-        | inr ne ↦ absurd (quiet (by_both l held (others l member ne)))
-      ]) loses.literal loses.forced in
-      loses.lost all
+      let clash = λ (forced : Forced (slice_get live) [] (complement l)).
+      quiet (by_both l held forced) in
+      loses.lost (forced_still c live (λ m m_there forced others. search (rules, cases_eq)) _
+      loses.forced)
 
 -- it was no reason
 pub no_reason_kept : (live : List Clause) (c : Clause) → ¬ IsRootReason (slice_get live) c
@@ -153,24 +151,22 @@ no_reason_kept live c h = search (rules, forced_without)
 
 loses_covers : (a b s t : Live) → Covers a s → Covers s a → Covers t b → (c : Clause)
     → LosesRootLiteral a b c → LosesRootLiteral s t c
-loses_covers a b s t there back left c (inl p) =
-    inl (clash_covers a s there [] p.0, reason_covers a s there c c (same_itself c) p.1)
-loses_covers a b s t there back left c (inr p) =
-    let quiet = clash_covers s a back [] in let held = forced_covers a s there [] p.1.literal
-    p.1.forced in
-    let lost = forced_covers t b left [] p.1.literal in
-    inr (
-      λ clash. p.0 (quiet clash),
-      record { literal = p.1.literal; forced = held; lost = λ f. p.1.lost (lost f) },
-    )
+loses_covers a b s t there back left c (inl (clash, reason)) =
+    inl (clash_covers a s there [] clash, reason_covers a s there c c (same_itself c) reason)
+loses_covers a b s t there back left c (inr (quiet, loses)) = inr (
+  λ clash. quiet (clash_covers s a back [] clash),
+  record {
+    literal = loses.literal;
+    forced = forced_covers a s there [] _ loses.forced;
+    lost = λ f. loses.lost (forced_covers t b left [] _ f);
+  },
+)
 
 delete_loses_same : (c : Clause) (first second : List Clause) → SameLive first second
     → (word : Accepted) → DeleteLoses first c word → DeleteLoses second c word
 delete_loses_same c first second same Deleted loses =
-    let back = λ (x y : List Clause) (s : SameLive x y).
-    covers_of y x (record { copies = λ e. sym (s.copies e) }) in
-    loses_covers _ _ _ _ (covers_of first second same) (back first second same)
-    (back _ _ (after_drat_same first second (delete c) Deleted same)) c loses
+    let after = after_drat_same first second (delete c) Deleted same in
+    search (loses_covers, covers_of, same_live_symm)
 delete_loses_same c first second same word loses = absurd loses
 
 step_loses_same : (step : Step) (word : Accepted) (first second : State) → Same first second
@@ -179,10 +175,9 @@ step_loses_same step word first second h h2 = search (rules, delete_loses_same)
 
 pub lost_same : (steps : List Step) (words : List Accepted) (first second : State)
     → Same first second → HasLost first steps words → HasLost second steps words
-lost_same (step ∷ steps) (word ∷ words) first second same lost = elim lost [
-  | inl now ↦ inl (step_loses_same step word first second same now)
-  | inr later ↦ inr (lost_same steps words _ _ (search (rules, after_same)) later)
-]
+lost_same (step ∷ steps) (word ∷ words) first second same lost =
+    let later = lost_same steps words (after first step word) (after second step word) in
+    grind (arith, step_loses_same, after_same)
 lost_same steps words first second h h2 = search rules
 
 -- ---- Reasons

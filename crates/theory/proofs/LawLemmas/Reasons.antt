@@ -1,18 +1,17 @@
 -- Whether a clause is the reason of a root-level literal can be decided: what follows with nothing
 -- assumed is a list, past a clash too.
-use Rattle.std.proofs.Common.{◌≡◌, ℕ, zero, suc, ◌≤◌, Bool, true, false, not, ◌||◌, ◌&&◌, eqb}
-use Rattle.std.proofs.Common.{eqb-true, eq-eqb, Some, List, [], ◌∷◌, slice_get, refl, inl, inr}
-use Rattle.std.proofs.Common.{arith, rules, true≢false, ◌<◌, ◌++◌, ◌⊎◌, ◌+◌, cond}
+use Rattle.std.proofs.Common.{◌≡◌, ℕ, zero, suc, ◌≤◌, Bool, true, false, not, ◌||◌, ◌&&◌, eqb, Some}
+use Rattle.std.proofs.Common.{eqb-true, eq-eqb, List, [], ◌∷◌, slice_get, refl, inl, inr, arith}
+use Rattle.std.proofs.Common.{rules, true≢false, ◌<◌, ◌++◌, ◌⊎◌, ◌+◌, cond}
 use Rattle.std.proofs.lemmas.Bool.{false≢true, cases_Bool, cases_eq, or_cases, or_left, or_right}
-use Rattle.std.proofs.lemmas.Bool.{and_parts, and_from}
-use Rattle.std.specs.List.{list_any, list_all}
-use Rattle.std.proofs.lemmas.{Option.none-some, List.Sums.sum_by-cons}
+use Rattle.std.proofs.lemmas.{Bool.and_parts, Bool.and_from, Option.none-some}
+use Rattle.std.{specs.List.list_any, specs.List.list_all, proofs.lemmas.List.Sums.sum_by-cons}
 use Rattle.cnf_base.specs.Literals.{Literal, complement, Clause, has}
-use Rattle.cnf_base.proofs.SetLemmas.{any_from, any_some, any_none, all_each, each_all, has_head, has_tail}
-use Rattle.cnf_base.proofs.SetLemmas.{has_append_left, has_append_right}
-use Rattle.theory.specs.Code.{Propagation.OthersFail, Propagation.IsClosedAt, Sets.lacking}
+use Rattle.cnf_base.proofs.SetLemmas.{any_from, any_some, any_none, all_each, each_all, has_head}
+use Rattle.cnf_base.proofs.SetLemmas.{has_tail, has_append_left, has_append_right}
+use Rattle.theory.specs.Code.Propagation.{OthersFail, IsClosedAt}
+use Rattle.theory.{proofs.PropagationLemmas.Forced.forced_assumed, specs.Code.Sets.lacking}
 use Rattle.theory.specs.Propagation.{Live, IsClosed, Forced, IsRootReason}
-use Rattle.theory.proofs.PropagationLemmas.Forced.{forced_assumed}
 
 -- ---- How many literals are not found yet
 
@@ -51,10 +50,9 @@ all_literals (c ∷ live) = c ++ all_literals live
 
 pub has-all_literals : (live : List Clause) (k : ℕ) (c : Clause) (l : Literal)
     → slice_get live k ≡ Some c → has c l ≡ true → has (all_literals live) l ≡ true
-has-all_literals [] k c l at h = absurd (none-some c at)
-has-all_literals (d ∷ live) zero c l at h = search (rules, has_append_left)
 has-all_literals (d ∷ live) (suc k) c l at h = has_append_right d (all_literals live)
     l (has-all_literals live k c l at h)
+has-all_literals live k c l at h = search (rules, none-some, has_append_left)
 
 -- ---- One clause
 
@@ -126,16 +124,13 @@ module _ (live : List Clause) (assumed : List Literal) where
   all_that_follows = grow (lacking assumed (all_literals live)) assumed
       (forced_assumed (slice_get live) assumed) (λ a h. h) (omega arith) (look assumed live)
 
-module _ (live : List Clause) where
-  -- ---- Reasons
+ruleset fail_steps =
+    (and_parts, and_from, others_fail, fail_each, each_fail, false≢true, true≢false)
 
-  pub reason_decided : (c : Clause) → IsDecided (IsRootReason (slice_get live) c)
-  reason_decided c =
-      let w = all_that_follows live [] in
-      let all = w.0 in
-      elim (cases_Bool (list_any (λ m. has all m && others_fail all c m) c)) [
-        | inl some ↦
-            let m = any_some (λ m. has all m && others_fail all c m) c some in
-            grind (arith, and_parts, others_fail, fail_each)
-        | inr none ↦ grind (arith, false≢true, each_fail, true≢false, any_from, and_from)
-      ]
+-- ---- Reasons
+
+pub reason_decided : (live : List Clause) (c : Clause) → IsDecided (IsRootReason (slice_get live) c)
+reason_decided live c =
+    let w = all_that_follows live [] in
+    let some = any_some (λ m. has w.0 m && others_fail w.0 c m) c in
+    grind (arith, fail_steps, any_from)

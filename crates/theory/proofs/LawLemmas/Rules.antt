@@ -1,24 +1,20 @@
 -- What both rules share: a step has at most one answer, and answers, states and sums depend only on
 -- the clauses.
-use Rattle.std.proofs.Common.{◌≡◌, Ok, List, slice_get, ◌∙◌, arith, rules, true, false, nat_le, Err}
-use Rattle.std.proofs.Common.{[], ◌∷◌, refl, sym, ◌⊎◌, inl, inr, cond, true≢false}
-use Rattle.std.{proofs.lemmas.Bool.cases_Bool, specs.List.list_any}
-use Rattle.cnf_base.specs.Literals.{Clause, Literal, same_clause}
+use Rattle.std.proofs.Common.{◌≡◌, Ok, List, slice_get, ◌∙◌, arith, rules, nat_le, Err, [], ◌∷◌}
+use Rattle.std.proofs.{Common.sym, Common.true≢false, lemmas.Bool.cases_Bool}
+use Rattle.cnf_base.specs.Literals.{Clause, Literal}
 use Rattle.theory.specs.Rules.{State, by_ids, by_copies, Answers, after, sum_of, Same, Rule, start}
+use Rattle.theory.specs.{declared.refusal.Refusal.TheVariants.NeitherRupNorPr, Rules.IsSatisfiable}
 use Rattle.theory.proofs.LawLemmas.Truth.{lrat_keeps, drat_keeps, lrat_refutes, drat_refutes}
 use Rattle.theory.proofs.LawLemmas.Sizes.{total_same, sums_same}
-use Rattle.theory.specs.declared.accepted.Accepted.TheVariants.{Empty, Rup, Rat, Pr, Deleted}
-use Rattle.theory.specs.declared.refusal.Refusal.TheVariants.{NotRup, NeitherRupNorRat, NotAlive}
-use Rattle.theory.specs.declared.refusal.Refusal.TheVariants.{InconsistentSet, NeitherRupNorPr}
-use Rattle.theory.specs.Propagation.{Live, HasRup, HasRat, HasPr}
-use Rattle.theory.specs.Drat.{DratStep, add, delete, AnswersAdd, AnswersDelete, AnswersDrat}
-use Rattle.theory.specs.Drat.{AnswersWithWitness, IsKeptUnit}
+use Rattle.theory.specs.declared.accepted.Accepted.TheVariants.{Empty, Rup, Rat, Pr}
+use Rattle.theory.specs.declared.refusal.Refusal.TheVariants.{NotRup, NeitherRupNorRat}
+use Rattle.theory.specs.{declared.drat_rules.DratRules.DratRules, Propagation.Live, Models.HasModel}
+use Rattle.theory.specs.Drat.{DratStep, AnswersDelete, AnswersDrat, AnswersListed}
 use Rattle.theory.specs.Lrat.{LratState, LratStep, add as add_lrat, delete as delete_lrat, Group}
 use Rattle.theory.specs.Lrat.{ChainEnd, open_with, AnswersChain, AnswersLrat}
-use Rattle.theory.specs.{Rules.IsSatisfiable, declared.accepted.Accepted.TheVariants.Ignored}
-use Rattle.theory.specs.{Answers.StepAnswer, declared.drat_rules.DratRules.DratRules}
-use Rattle.theory.specs.{declared.accepted.Accepted.Accepted, Models.HasModel, Sets.conflicts}
-use Rattle.theory.proofs.{LratLemmas.LiveSets.SameClauses-trans, DratLemmas.Copies.drat_same}
+use Rattle.theory.{proofs.LratLemmas.LiveSets.SameClauses-trans, specs.Answers.StepAnswer}
+use Rattle.theory.{specs.declared.accepted.Accepted.Accepted, proofs.DratLemmas.Copies.drat_same}
 use Rattle.proofs.specs.Steps.{Step}
 use Rattle.theory.proofs.DratLemmas.Copies as copies
 use Rattle.theory.proofs.LratLemmas.States as ids
@@ -27,80 +23,33 @@ use Rattle.theory.proofs.LratLemmas.States as ids
 
 -- ---- DRAT
 
--- one of three answers, by whether P holds, and then whether Q does
-abbrev OneOf : StepAnswer → StepAnswer → StepAnswer → Type 0 → Type 0 → StepAnswer → Type 0
-OneOf first second third P Q answer =
-    ((answer ≡ first) × P) ⊎ (((answer ≡ second) × ¬ P × Q) ⊎ ((answer ≡ third) × ¬ P × ¬ Q))
-
-one_of : (x y z : StepAnswer) (P Q : Type 0) (first second : StepAnswer)
-    → OneOf x y z P Q first → OneOf x y z P Q second → first ≡ second
-one_of x y z P Q first second a b = grind arith
-
--- the answers to an addition without a set
-add_cases : (live : Live) (pivot : Literal) (rest : List Literal) (answer : StepAnswer)
-    → AnswersAdd live (pivot ∷ rest) answer
-    → OneOf (Ok Rup) (Ok Rat) (Err (NeitherRupNorRat pivot)) (HasRup live (pivot ∷ rest))
-    (HasRat live (pivot ∷ rest) pivot) answer
-add_cases live pivot rest (Ok Rup) a = inl (refl, a)
-add_cases live pivot rest (Ok Rat) a = inr (inl (refl, a.0, a.1))
-add_cases live pivot rest (Err (NeitherRupNorRat l)) a = inr (inr (search rules, a.1, a.2))
-add_cases live pivot rest answer a = absurd a
-
-empty_cases : (live : Live) (answer : StepAnswer) → AnswersAdd live [] answer
-    → OneOf (Ok Empty) (Err NotRup) (Err NotRup) (HasRup live []) (Unit {0}) answer
-empty_cases live (Ok Empty) a = inl (refl, a)
-empty_cases live (Err NotRup) a = inr (inl (refl, a, tt))
-empty_cases live answer a = absurd a
-
--- the answers to a deletion
-abbrev DeleteCases : DratRules → List Clause → List Literal → StepAnswer → Type 0
-DeleteCases rules live c answer =
-    ((list_any (same_clause c) live ≡ true)
-    × OneOf (Ok Ignored) (Ok Deleted) (Ok Deleted) (IsKeptUnit rules live c) (Unit {0}) answer)
-    ⊎ ((list_any (same_clause c) live ≡ false)
-    × (answer ≡ cond rules.strict (Err NotAlive) (Ok Ignored)))
-
-delete_cases : (rules : DratRules) (live : List Clause) (c : List Literal) (answer : StepAnswer)
-    → AnswersDelete rules live c answer → DeleteCases rules live c answer
-delete_cases rules live c answer h = grind arith
+listed_unique : (live : Live) (c set : List Literal) (first second : StepAnswer)
+    → AnswersListed live c set first → AnswersListed live c set second → first ≡ second
+listed_unique live [] [] (Ok Empty) (Err NotRup) a b = absurd (b a)
+listed_unique live [] [] (Err NotRup) (Ok Empty) a b = absurd (a b)
+listed_unique live (l ∷ c) [] (Ok Rup) (Ok Rat) a b = absurd (b.0 a)
+listed_unique live (l ∷ c) [] (Ok Rup) (Err (NeitherRupNorRat m)) a b = absurd (b.1 a)
+listed_unique live (l ∷ c) [] (Ok Rat) (Ok Rup) a b = absurd (a.0 b)
+listed_unique live (l ∷ c) [] (Ok Rat) (Err (NeitherRupNorRat m)) a b = absurd (b.2 a.1)
+listed_unique live (l ∷ c) [] (Err (NeitherRupNorRat m)) (Ok Rup) a b = absurd (a.1 b)
+listed_unique live (l ∷ c) [] (Err (NeitherRupNorRat m)) (Ok Rat) a b = absurd (a.2 b.1)
+listed_unique live c (l ∷ set) (Ok Rup) (Ok Pr) a b = absurd (b.1 a.1)
+listed_unique live c (l ∷ set) (Ok Rup) (Err NeitherRupNorPr) a b = absurd (b.1 a.1)
+listed_unique live c (l ∷ set) (Ok Pr) (Ok Rup) a b = absurd (a.1 b.1)
+listed_unique live c (l ∷ set) (Ok Pr) (Err NeitherRupNorPr) a b = absurd (b.2 a.2)
+listed_unique live c (l ∷ set) (Err NeitherRupNorPr) (Ok Rup) a b = absurd (a.1 b.1)
+listed_unique live c (l ∷ set) (Err NeitherRupNorPr) (Ok Pr) a b = absurd (a.2 b.2)
+listed_unique live c set first second a b = search (rules, true≢false)
 
 delete_unique : (rules : DratRules) (live : List Clause) (c : List Literal)
-    (first second : StepAnswer) → DeleteCases rules live c first
-    → DeleteCases rules live c second → first ≡ second
-delete_unique rules live c first second a b = grind (arith, true≢false, one_of)
-
--- the answers to an addition that lists a set
-abbrev WitnessCases : Live → List Literal → List Literal → StepAnswer → Type 0
-WitnessCases live c set answer = ((conflicts set ≡ true) × (answer ≡ Err InconsistentSet))
-    ⊎ ((conflicts set ≡ false)
-    × OneOf (Ok Rup) (Ok Pr) (Err NeitherRupNorPr) (HasRup live c) (HasPr live c set) answer)
-
-witness_cases : (live : Live) (c set : List Literal) (answer : StepAnswer)
-    → AnswersWithWitness live c set answer → WitnessCases live c set answer
-witness_cases live c set (Err InconsistentSet) a = inl (a, refl)
-witness_cases live c set (Ok Rup) a = inr (a.0, inl (refl, a.1))
-witness_cases live c set (Ok Pr) a = inr (a.0, inr (inl (refl, a.1, a.2)))
-witness_cases live c set (Err NeitherRupNorPr) a = inr (a.0, inr (inr (refl, a.1, a.2)))
-witness_cases live c set answer a = absurd a
-
-witness_unique : (live : Live) (c set : List Literal) (first second : StepAnswer)
-    → WitnessCases live c set first → WitnessCases live c set second → first ≡ second
-witness_unique live c set first second (inl a) (inl b) = cc
-witness_unique live c set first second (inl a) (inr b) = cc
-witness_unique live c set first second (inr a) (inl b) = cc
-witness_unique live c set first second (inr a) (inr b) = one_of _ _ _ _ _ first second a.1 b.1
+    (first second : StepAnswer) → AnswersDelete rules live c first
+    → AnswersDelete rules live c second → first ≡ second
+delete_unique rules live c first second a b = grind (arith, true≢false)
 
 pub drat_unique : (rules : DratRules) (live : List Clause) (step : DratStep)
     (first second : StepAnswer) → AnswersDrat rules live step first
     → AnswersDrat rules live step second → first ≡ second
-drat_unique rules live (add [] []) first second a b =
-    one_of _ _ _ _ _ first second (empty_cases _ first a) (empty_cases _ second b)
-drat_unique rules live (add (pivot ∷ rest) []) first second a b =
-    one_of _ _ _ _ _ first second (add_cases _ pivot rest first a) (add_cases _ pivot rest second b)
-drat_unique rules live (add c (l ∷ set)) first second a b =
-    witness_unique (slice_get live) c (l ∷ set) first second (witness_cases _ c (l ∷ set) first a)
-    (witness_cases _ c (l ∷ set) second b)
-drat_unique rules live (delete c) first second a b = search (rules, delete_unique, delete_cases)
+drat_unique options live step first second a b = search (rules, delete_unique, listed_unique)
 
 -- ---- LRAT
 
@@ -116,17 +65,12 @@ lrat_unique state (delete_lrat ids) first second a b = a ∙ sym b
 
 pub answers_same : (s t : State) (step : Step) (answer : StepAnswer) → Same s t
     → Answers s step answer → Answers t step answer
-answers_same (by_ids s) (by_ids t) step answer same a = grind (arith, ids.answers_same)
-answers_same (by_copies rules x) (by_copies rules_too y) step answer same a =
-    grind (arith, drat_same)
-answers_same s t step answer same a = absurd same
+answers_same s t step answer same a = search (rules, ids.answers_same, drat_same)
 
 pub after_same : (s t : State) (step : Step) (word : Accepted) → Same s t
     → Same (after s step word) (after t step word)
-after_same (by_ids s) (by_ids t) step word same = grind (arith, ids.after_same)
-after_same (by_copies rules x) (by_copies rules_too y) step word same =
-    grind (arith, copies.after_same)
-after_same s t step word same = absurd same
+after_same s t step word same =
+    let by_id = ids.after_same in let by_copy = copies.after_same in grind (arith, by_id, by_copy)
 
 pub sum_same : (s t : State) → Same s t → sum_of s ≡ sum_of t
 sum_same s t h = search (rules, total_same, sums_same)
@@ -135,9 +79,7 @@ pub same_trans : (s t u : State) → Same s t → Same t u → Same s u
 same_trans (by_ids s) (by_ids t) (by_ids u) first second =
     (SameClauses-trans _ _ _ first.0 second.0, first.1 ∙ second.1)
 same_trans (by_copies a x) (by_copies b y) (by_copies c z) first second = search rules
-same_trans (by_ids s) (by_ids t) (by_copies c z) first second = absurd second
-same_trans (by_copies a x) (by_copies b y) (by_ids u) first second = absurd second
-same_trans s t u first second = absurd first
+same_trans s t u first second = grind arith
 
 -- ---- Models
 

@@ -1,15 +1,14 @@
 -- Clauses that are the same set are equally large, and so are states with the same clauses.
-use Rattle.std.proofs.Common.{◌≡◌, true, Option, rules, ℕ, ◌+◌, ◌-◌, ◌<◌, cond, List, [], ◌∷◌, refl}
-use Rattle.std.proofs.Common.{sym, ap, ◌∙◌, arith, sum_by}
-use Rattle.std.proofs.{lemmas.List.Sums.sum_by-cons, lemmas.Bool.false≢true}
-use Rattle.std.specs.List.{list_any}
-use Rattle.cnf_base.specs.{Literals.Clause, Literals.same_clause, Literals.size}
-use Rattle.cnf_base.proofs.{SetLemmas.same_itself, SizeLemmas.size_same as by_sets}
-use Rattle.cnf_base.proofs.{SetLemmas.same_there, SetLemmas.same_back}
-use Rattle.theory.specs.{Laws.EqualSetsEqualTotals, Laws.EqualCopiesEqualSums, Drat.copies_of}
-use Rattle.theory.specs.{Sizes.size_at, Drat.take_off, Drat.SameLive, Lrat.SameAt}
-use Rattle.theory.proofs.{DratLemmas.Copies.copies-take_off, DratLemmas.Copies.copies_alive}
-use Rattle.theory.proofs.{DratLemmas.Copies.copies-cons, LratLemmas.Sums.sum_agree}
+use Rattle.std.proofs.Common.{◌≡◌, true, Option, rules, ◌+◌, ◌<◌, cond, List, [], ◌∷◌, refl, sym}
+use Rattle.std.proofs.{Common.ap, Common.◌∙◌, Common.arith, Common.sum_by, lemmas.Bool.false≢true}
+use Rattle.std.{proofs.lemmas.List.Sums.sum_by-cons, specs.List.list_any}
+use Rattle.cnf_base.specs.Literals.{Clause, same_clause, size}
+use Rattle.cnf_base.proofs.SetLemmas.{same_itself, same_there, same_back}
+use Rattle.cnf_base.proofs.SizeLemmas.{size_same as by_sets}
+use Rattle.theory.specs.{Laws.EqualSetsEqualTotals, Laws.EqualCopiesEqualSums, Sizes.size_at}
+use Rattle.theory.specs.{Drat.copies_of, Drat.take_off, Drat.SameLive, Lrat.SameAt}
+use Rattle.theory.proofs.DratLemmas.Copies.{copies-take_off, copies_alive, copies-cons}
+use Rattle.theory.proofs.LratLemmas.Sums.{sum_agree}
 
 pub size_same : (c d : Clause) → same_clause c d ≡ true → size c ≡ size d
 size_same c d same = by_sets c d (same_there c d same) (same_back c d same)
@@ -39,9 +38,8 @@ sums_same [] (d ∷ second) same = search (rules, (copies_own d second))
 sums_same (c ∷ first) second same =
     let own = copies_own c first in
     let alive : 0 < copies_of c second = omega arith in
-    let rest : SameLive first (take_off c second) = record { copies = λ e. less (cond (same_clause e c) 1 0) (copies_of e first) _ _ _ (copies-cons e c first) (same.copies e) (copies-take_off e c second) } in
+    let rest : SameLive first (take_off c second) = record {
+      copies = λ e. omega (arith, copies-cons e c first, same.copies e, copies-take_off e c second);
+    } in
     sum_by-cons size c first ∙ ap (λ n. size c + n) (sums_same first (take_off c second) rest)
     ∙ sym (sum_take_off c second (copies_alive c second alive))
-  where
-    less : (n x more there rest : ℕ) → more ≡ n + x → more ≡ there → rest ≡ there - n → x ≡ rest
-    less n x more there rest h i j = omega arith

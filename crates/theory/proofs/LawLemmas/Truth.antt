@@ -1,8 +1,8 @@
 -- What is true under an assignment, the assignment that makes a witness true, and that accepted
 -- steps keep satisfiability.
 use Rattle.std.proofs.Common.{◌∷◌, ◌++◌, sym, ap, ◌∙◌, inl, inr, if◌then◌else◌, ne_eqb, rules, ◌≡◌}
-use Rattle.std.proofs.Common.{arith, ◌≢◌, ℕ, ◌+◌, ◌*◌, ◌/◌, true, false, not, ◌||◌, Some, List, []}
-use Rattle.std.proofs.Common.{true≢false, zero, suc, cond, Ok, slice_get}
+use Rattle.std.proofs.Common.{arith, ◌≢◌, ℕ, ◌+◌, ◌*◌, true, false, not, ◌||◌, Some, List, []}
+use Rattle.std.proofs.Common.{true≢false, zero, suc, Ok, slice_get}
 use Rattle.std.proofs.lemmas.Bool.{false≢true, cases_Bool, cases_eq, not-true, true_from_ne_false}
 use Rattle.std.proofs.{lemmas.Bool.Decides.nat_tests, lemmas.Option.none-some}
 use Rattle.cnf_base.specs.Literals.{Literal, complement, Clause, has, complements, without}
@@ -42,14 +42,11 @@ AreTrue v ls = (a : Literal) → has ls a ≡ true → holds v a ≡ true
 module _ (v : Assignment) (live : Live) where
   -- the true literals of a model are closed under the unit rule
   pub closed_by_model : Models v live → IsClosed live (holds v)
-  closed_by_model models = record { unit = go }
-    where
-      go : (k : ℕ) (c : Clause) → live k ≡ Some c → (m : Literal) → has c m ≡ true
-          → ((l : Literal) → has c l ≡ true → l ≢ m → holds v (complement l) ≡ true)
-          → holds v m ≡ true
-      go k c at m member others =
-          let w = any_some (holds v) c (models k c at) in
-          search (rules, cases_eq, complement_false)
+  closed_by_model models = record {
+    unit = λ k c at m member others.
+        let w = any_some (holds v) c (models k c at) in
+        search (rules, cases_eq, complement_false);
+  }
 
   -- under an assignment that makes all live clauses and all assumed literals true, what is forced
   -- is true
@@ -77,75 +74,59 @@ unfoldable pub override : Assignment → List Literal → Assignment
 override v witness x =
     if has witness (2 * x) then true else if has witness (2 * x + 1) then false else v x
 
--- a literal is the even or the odd one of its variable
-data Parity (l : Literal) : Type 0 where
-  even : l ≡ 2 * (l / 2) → complement l ≡ 2 * (l / 2) + 1
-      → ((v : Assignment) → holds v l ≡ v (l / 2)) → Parity l
-  odd : l ≡ 2 * (l / 2) + 1 → complement l ≡ 2 * (l / 2)
-      → ((v : Assignment) → holds v l ≡ not (v (l / 2))) → Parity l
-
-parity : (l : Literal) → Parity l
-unfolding complement holds
-parity l = search rules
-
 module _ (v : Assignment) (witness : List Literal) (l : Literal) where
   pub override_true : has witness l ≡ true → has witness (complement l) ≡ false
       → holds (override v witness) l ≡ true
-  unfolding override
-  override_true member absent = elim (parity l) [
-    | even at other value ↦ search rules
-    | odd at other value ↦ search rules
-  ]
+  unfolding override holds complement
+  override_true member absent = grind (arith, nat_tests)
 
   pub override_keeps : holds v l ≡ true → has witness (complement l) ≡ false
       → holds (override v witness) l ≡ true
-  unfolding override
-  override_keeps h absent = elim (parity l) [
-    | even at other value ↦ search rules
-    | odd at other value ↦ search rules
-  ]
+  unfolding override holds complement
+  override_keeps h absent = grind (arith, nat_tests)
 
 -- ---- RAT and PR keep satisfiability
+
+ruleset rest_steps = (has_append_cases, true≢false, any_none, override_keeps)
 
 -- a model of the live clauses and of one more
 abbrev pub HasModelWith : Live → Clause → Type 0
 HasModelWith live c = (v : Assignment) × Models v live × (satisfies v c ≡ true)
 
-module _ (v : Assignment) (live : Live) (c : Clause) where
+module _ (live : Live) (c : Clause) where
   -- Where a clause is false and has PR, making the witness true makes it true and keeps every live
   -- clause true.
-  pub pr_keeps : (witness : List Literal) → Models v live → HasPr live c witness
+  pub pr_keeps : (witness : List Literal) → HasPr live c witness → HasModel live
       → HasModelWith live c
-  pr_keeps witness models pr =
-      let meets = any_from (holds (override v witness)) c pr.meets.0 pr.meets.1 (override_true v
-      witness pr.meets.0 pr.meets.2 (pr.consistent pr.meets.0 pr.meets.2)) in
-      elim (cases_Bool (satisfies v c)) [
-        | inl e ↦ (v, models, e)
-        | inr e ↦ (override v witness, kept e, meets)
-      ]
+  pr_keeps witness pr (v, models) = elim (cases_Bool (satisfies v c)) [
+    | inl e ↦ (v, models, e)
+    | inr e ↦ (override v witness, kept e, met c pr.meets)
+  ]
     where
+      met : (d : Clause) → (l : Literal) × (has d l ≡ true) × (has witness l ≡ true)
+          → satisfies (override v witness) d ≡ true
+      met d (l, member, set) =
+          any_from _ d l member (override_true v witness l set (pr.consistent l set))
+
       in_rest : satisfies v c ≡ false → (d : Clause) → (l : Literal)
           → has (c ++ open_literals witness d) l ≡ true → holds v l ≡ true
-          → (has d l ≡ true) × (has witness (complement l) ≡ false)
-      in_rest fails d l member h =
-          grind (arith, has_append_cases, true≢false, any_none, filter_has, not-true)
+          → (has d l ≡ true) × (holds (override v witness) l ≡ true)
+      in_rest fails d l member h = grind (arith, rest_steps, filter_has, not-true)
 
       kept : satisfies v c ≡ false → Models (override v witness) live
       kept fails k d at = elim (pr.others k d at) [
-        | inl m ↦ any_from _ d m.0 m.1 (override_true v witness m.0 m.2 (pr.consistent m.0 m.2))
+        | inl m ↦ met d m
         | inr rup ↦
             let w = any_some (holds v) _ (rup_true v live _ models rup) in
-            let r = in_rest fails d w.0 w.1 w.2 in
-            any_from _ d w.0 r.0 (override_keeps v witness w.0 w.2 r.1)
+            let r = in_rest fails d w.0 w.1 w.2 in any_from _ d w.0 r.0 r.1
       ]
 
   -- the same for RAT, where the pivot is made true
-  pub rat_keeps : (pivot : Literal) → Models v live → HasRat live c pivot → HasModelWith live c
-  rat_keeps pivot models rat =
-      elim (cases_Bool (satisfies v c)) [
-        | inl e ↦ (v, models, e)
-        | inr e ↦ (changed, kept e, any_from _ c pivot rat.holds_pivot made_true)
-      ]
+  pub rat_keeps : (pivot : Literal) → HasRat live c pivot → HasModel live → HasModelWith live c
+  rat_keeps pivot rat (v, models) = elim (cases_Bool (satisfies v c)) [
+    | inl e ↦ (v, models, e)
+    | inr e ↦ (changed, kept e, any_from _ c pivot rat.holds_pivot made_true)
+  ]
     where
       changed : Assignment
       changed = override v (pivot ∷ [])
@@ -158,16 +139,15 @@ module _ (v : Assignment) (live : Live) (c : Clause) where
 
       in_rest : satisfies v c ≡ false → (d : Clause) (l : Literal)
           → has (c ++ without d (complement pivot)) l ≡ true → holds v l ≡ true
-          → (has d l ≡ true) × (pivot ≢ complement l)
+          → (has d l ≡ true) × (holds changed l ≡ true)
       in_rest fails d l member h =
-          grind (arith, has_append_cases, true≢false, any_none, without_has, complement-complement)
+          grind (arith, rest_steps, without_has, complement-complement, other)
 
       kept : satisfies v c ≡ false → Models changed live
       kept fails k d at = elim (cases_Bool (has d (complement pivot))) [
         | inl member ↦
             let w = any_some _ _ (rup_true v live _ models (rat.candidates k d at member)) in
-            let r = in_rest fails d w.0 w.1 w.2 in
-            any_from _ d w.0 r.0 (override_keeps v (pivot ∷ []) w.0 w.2 (other w.0 r.1))
+            let r = in_rest fails d w.0 w.1 w.2 in any_from _ d w.0 r.0 r.1
         | inr absent ↦
             let w = any_some (holds v) d (models k d at) in
             search (rules, any_from, override_keeps, true≢false, complement-complement)
@@ -180,8 +160,8 @@ redundant_keeps : (live : Live) (c : List Literal) (word : Accepted) → IsRedun
     → HasModel live → HasModelWith live c
 redundant_keeps live c Rup rup m = (m.0, m.1, rup_true m.0 live c m.1 rup)
 redundant_keeps live [] Empty rup m = (m.0, m.1, rup_true m.0 live [] m.1 rup)
-redundant_keeps live (pivot ∷ rest) Rat rat m = rat_keeps m.0 live (pivot ∷ rest) pivot m.1 rat
-redundant_keeps live c Pr pr m = pr_keeps m.0 live c pr.0 m.1 pr.1
+redundant_keeps live (pivot ∷ rest) Rat rat m = rat_keeps live (pivot ∷ rest) pivot rat m
+redundant_keeps live c Pr pr m = pr_keeps live c pr.0 pr.1 m
 redundant_keeps live c word never m = grind arith
 
 -- no model makes the empty clause true
@@ -204,17 +184,14 @@ models_more v live c h h2 = search rules
 pub take_off_from : (c : Clause) (live : List Clause) (k : ℕ) (d : Clause)
     → slice_get (take_off c live) k ≡ Some d → (j : ℕ) × (slice_get live j ≡ Some d)
 take_off_from c [] k d at = absurd (none-some d at)
-take_off_from c (e ∷ live) k d at =
-    let later = λ (i : ℕ). take_off_from c live i d in
-    elim (same_clause c e) as (λ b. slice_get (cond b live (e ∷ take_off c live)) k ≡ Some d
-    → (j : ℕ) × (slice_get (e ∷ live) j ≡ Some d)) [
-      | true ↦ λ at. (suc k, at)
-      | false ↦ elim k as (λ k. slice_get (e ∷ take_off c live) k ≡ Some d
-          → (j : ℕ) × (slice_get (e ∷ live) j ≡ Some d)) [
-            | zero ↦ λ at. (0, at)
-            | suc k ↦ λ at. let w = later k at in (suc w.0, w.1)
-          ]
-    ] at
+take_off_from c (e ∷ live) zero d at = elim (cases_Bool (same_clause c e)) [
+  | inl same ↦ (1, grind arith)
+  | inr other ↦ (0, grind arith)
+]
+take_off_from c (e ∷ live) (suc k) d at = elim (cases_Bool (same_clause c e)) [
+  | inl same ↦ (suc (suc k), grind arith)
+  | inr other ↦ let w = take_off_from c live k d (grind arith) in (suc w.0, w.1)
+]
 
 taken_off_keeps : (live : List Clause) (c : Clause) → HasModel (slice_get live)
     → HasModel (slice_get (take_off c live))

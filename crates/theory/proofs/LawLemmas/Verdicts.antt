@@ -1,6 +1,6 @@
 -- A proof has one verdict, which depends on the clauses alone, and a verified formula has no model.
-use Rattle.std.proofs.Common.{arith, ◌≡◌, zero, suc, true, false, Ok, Err, List, [], ◌∷◌}
-use Rattle.std.proofs.Common.{slice_get, refl, sym, ◌∙◌, rules}
+use Rattle.std.proofs.Common.{arith, ◌≡◌, zero, suc, true, Ok, Err, List, [], ◌∷◌}
+use Rattle.std.proofs.Common.{slice_get, refl, rules, inl, inr}
 use Rattle.std.{proofs.lemmas.Bool.false≢true, proofs.lemmas.Bool.cases_Bool, specs.List.list_any}
 use Rattle.cnf_base.specs.Literals.{Clause}
 use Rattle.proofs.specs.Steps.{Step}
@@ -17,8 +17,7 @@ use Rattle.theory.proofs.{LawLemmas.Rules.started, LratLemmas.Steps.ok_is, LratL
 
 pub ends_same : (steps : List Step) (words : List Accepted) (ending : Ending) (first second : State)
     → Same first second → Ends first steps words ending → Ends second steps words ending
-ends_same [] [] ending first second same e = e
-ends_same [] (word ∷ words) ending first second same e = absurd e
+ends_same [] words ending first second same e = search rules
 ends_same (step ∷ steps) [] ending first second same e = search (rules, answers_same)
 ends_same (step ∷ steps) (word ∷ words) ending first second same e =
     let later = ends_same steps words ending (after first step word) (after second step word)
@@ -31,15 +30,11 @@ err_is first second e = cc
 
 ends_unique : (steps : List Step) (s : State) (first second : List Accepted) (ending other : Ending)
     → Ends s steps first ending → Ends s steps second other → (first ≡ second) × (ending ≡ other)
-ends_unique [] s [] [] ending other a b = (refl, a ∙ sym b)
-ends_unique [] s [] (w ∷ ws) ending other a b = absurd b
-ends_unique [] s (w ∷ ws) second ending other a b = absurd a
-ends_unique (step ∷ steps) s [] [] ending other a b = search (rules, err_is, answer_unique)
-ends_unique (step ∷ steps) s [] (w ∷ ws) ending other a b = search (rules, ok_err, answer_unique)
-ends_unique (step ∷ steps) s (w ∷ ws) [] ending other a b = search (rules, ok_err, answer_unique)
 ends_unique (step ∷ steps) s (w ∷ ws) (x ∷ xs) ending other a b =
     let later = ends_unique steps (after s step w) ws xs ending other in
     grind (arith, ok_is, answer_unique, cases_Bool)
+ends_unique steps s first second ending other a b =
+    search (rules, err_is, ok_err, answer_unique)
 
 pub verdict_unique : (rule : Rule) (formula : List Clause) (steps : List Step)
     (first second : List Accepted) (ending other : Ending) →
@@ -50,33 +45,33 @@ verdict_unique rule formula steps first second ending other a b =
 
 -- ---- A verdict
 
+abbrev HasEnding : State → List Step → Type 0
+HasEnding state steps =
+    (words : List Accepted) × (ending : Ending) × Ends state steps words ending
+
 pub some_ending : (steps : List Step) (state : State) → IsFinite state
     → (words : List Accepted) × (ending : Ending) × Ends state steps words ending
 some_ending [] state b = ([], no_empty_clause, refl)
 some_ending (step ∷ steps) state b =
-    let a = some_answer state step b in
-    by (λ word. some_ending steps (after state step word) (after_finite state step word b)) a.0 a.1
-  where
-    by : ((word : Accepted) → (words : List Accepted) × (ending : Ending)
-        × Ends (after state step word) steps words ending) → (answer : StepAnswer)
-        → Answers state step answer
-        → (words : List Accepted) × (ending : Ending) × Ends state (step ∷ steps) words ending
-    by later (Ok word) a = elim (is_last word) as (λ v. is_last word ≡ v → (words : List Accepted)
-        × (ending : Ending) × Ends state (step ∷ steps) words ending) [
-          | true ↦ λ e. (word ∷ [], verified, (a, rw e (refl, refl)))
-          | false ↦ λ e. let w = later word in (word ∷ w.0, w.1, (a, rw e w.2))
-        ] refl
-    by later (Err r) a = ([], refused r, (r, refl, a))
+    let (given, told) = some_answer state step b in
+    elim given as (λ answer. Answers state step answer → HasEnding state (step ∷ steps)) [
+      | Err r ↦ λ a. ([], refused r, (r, refl, a))
+      | Ok word ↦ λ a.
+          let w = some_ending steps _ (after_finite state step word b) in
+          elim (cases_Bool (is_last word)) [
+            | inl e ↦ (word ∷ [], verified, (a, rw e (refl, refl)))
+            | inr e ↦ (word ∷ w.0, w.1, (a, rw e w.2))
+          ]
+    ] told
 
 pub some_verdict : (rule : Rule) (formula : List Clause) (steps : List Step)
     → (words : List Accepted) × (ending : Ending) × Verdict rule formula steps words ending
 some_verdict rule formula steps =
     let rest = some_ending steps (start rule formula) (start_finite rule formula) in
-    elim (list_any is_empty formula) as (λ v. list_any is_empty formula ≡ v
-    → (words : List Accepted) × (ending : Ending) × Verdict rule formula steps words ending) [
-      | true ↦ λ e. ([], verified, rw e (refl, refl))
-      | false ↦ λ e. (rest.0, rest.1, rw e rest.2)
-    ] refl
+    elim (cases_Bool (list_any is_empty formula)) [
+      | inl e ↦ ([], verified, rw e (refl, refl))
+      | inr e ↦ (rest.0, rest.1, rw e rest.2)
+    ]
 
 -- ---- A verified formula has no model
 

@@ -1,20 +1,18 @@
 -- The rule of LRAT depends only on the sets of the live clauses.
-use Rattle.std.proofs.Common.{arith, ◌≡◌, ℕ, true, ◌||◌, eqb, Option, Some, inl, option_map, List}
-use Rattle.std.proofs.Common.{[], ◌∷◌, refl, sym, ap, ◌∙◌, inr, rules}
+use Rattle.std.proofs.Common.{arith, ◌≡◌, ℕ, true, ◌||◌, eqb, Option, Some, option_map, List, []}
+use Rattle.std.proofs.Common.{◌∷◌, refl, sym, ap, ◌∙◌, rules}
 use Rattle.std.{proofs.lemmas.Bool.false≢true, specs.List.list_all}
-use Rattle.cnf_base.specs.Literals.{Literal, complement, Clause, complements, without, same_clause}
-use Rattle.cnf_base.proofs.SetLemmas.{both_pass, has_head, has-filter, filter_has, has_append_left}
-use Rattle.cnf_base.proofs.SetLemmas.{complements_has, has-without, without_has, same_there}
-use Rattle.cnf_base.proofs.SetLemmas.{same_back, same_symm, has_append_right, has_append_cases}
-use Rattle.cnf_base.proofs.{SetLemmas.has-complements, LiteralLemmas.complement-complement}
+use Rattle.cnf_base.specs.Literals.{Literal, Clause, without, same_clause}
+use Rattle.cnf_base.proofs.SetLemmas.{both_pass, has_head, has-filter, filter_has, has-without}
+use Rattle.cnf_base.proofs.SetLemmas.{without_has, same_there, same_back, same_symm}
 use Rattle.cnf_base.proofs.SizeLemmas.{IsWithin}
-use Rattle.theory.specs.Lrat.{SameClauses, ChainEnd, look_at, chain, Group, LratStep}
-use Rattle.theory.specs.Lrat.{with_candidate, chain_refusal, group_refusal, groups_refusal}
-use Rattle.theory.specs.Lrat.{is_unsettled, is_left_out, AnswersGroups, AnswersChain, with_clause}
-use Rattle.theory.specs.Lrat.{without_id, without_ids, deletion_refusal, AnswersLrat, SameAt, add}
-use Rattle.theory.specs.{declared.refusal.Refusal.Refusal, Propagation.open_literals, Sets.SameSet}
-use Rattle.theory.specs.{Propagation.Live, Answers.StepAnswer, Lrat.delete}
-use Rattle.theory.proofs.PropagationLemmas.Conflicts.{conflicts_same}
+use Rattle.theory.specs.Lrat.{SameClauses, ChainEnd, look_at, chain, Group, LratStep, chain_refusal}
+use Rattle.theory.specs.Lrat.{with_candidate, group_refusal, groups_refusal, is_unsettled, SameAt}
+use Rattle.theory.specs.Lrat.{is_left_out, AnswersGroups, AnswersChain, with_clause, without_id}
+use Rattle.theory.specs.{Lrat.without_ids, Lrat.deletion_refusal, Lrat.AnswersLrat, Sets.SameSet}
+use Rattle.theory.specs.{Propagation.Live, declared.refusal.Refusal.Refusal, Answers.StepAnswer}
+use Rattle.theory.{specs.Propagation.open_literals, proofs.DratLemmas.Copies.complements_within}
+use Rattle.theory.proofs.{PropagationLemmas.Conflicts.conflicts_same, DratLemmas.Copies.append_more}
 use Rattle.theory.proofs.PropagationLemmas.Open.{first_alone, alone_first}
 
 pub same_set_from : (c d : Clause) → same_clause c d ≡ true → SameSet c d
@@ -72,8 +70,7 @@ module _ (live other : Live) (same_clauses : SameClauses live other) where
   chain_alike r (k ∷ hints) first second same =
       let later = λ (l : Literal). chain_alike r hints (l ∷ first) (l ∷ second) (search rules) in
       let clash = conflicts_same first second same in
-      let look = looks_same k (λ l. chain other (l ∷ second) hints) first second same (live k)
-      (other k)
+      let look = looks_same k (λ l. chain other (l ∷ second) hints) first second same _ _
       (same_clauses.at k) in grind arith
 
   -- ---- Candidates
@@ -81,17 +78,8 @@ module _ (live other : Live) (same_clauses : SameClauses live other) where
   module _ (ls : List Literal) (pivot : Literal) where
     candidate_there : (c d : Clause) → same_clause c d ≡ true
         → IsWithin (with_candidate ls c pivot) (with_candidate ls d pivot)
-    candidate_there c d same l h =
-        elim (has_append_cases ls (complements (without c (complement pivot))) l h) [
-          | inl g ↦ has_append_left ls _ l g
-          | inr g ↦
-              let w = without_has c _ _ (complements_has _ l g) in
-              let rest = without d (complement pivot) in
-              let there = has-without d (complement pivot) (complement l)
-              (same_there c d same (complement l) w.0) w.1 in
-              has_append_right ls (complements rest) l
-              (rw complement-complement at (has-complements rest (complement l) there))
-        ]
+    candidate_there c d same = append_more ls _ _ (complements_within (without c _) (without d _)
+        (grind (arith, without_has, has-without, same_there)))
 
     candidate_same : (c d : Clause) → same_clause c d ≡ true
         → SameSet (with_candidate ls c pivot) (with_candidate ls d pivot)
@@ -151,8 +139,7 @@ deletion_same (id ∷ ids) first second same =
 pub lrat_same : (first second : Live) (top : ℕ) (step : LratStep) (answer : StepAnswer)
     → SameClauses first second → AnswersLrat (record { live = first; top = top }) step answer
     → AnswersLrat (record { live = second; top = top }) step answer
-lrat_same first second top (add id c units groups) answer same a =
-    let walk = chain_is first second same units (complements c) in
-    let after = chain_answer first second same c groups in grind arith
-lrat_same first second top (delete ids) answer same a =
-    let refusal = deletion_same ids first second same in grind arith
+lrat_same first second top step answer same a =
+    search (rules, chain_is, chain_answer, deletion_same)
+
+pub ruleset sets_count = (lrat_same, with_same, without_all_same)

@@ -1,19 +1,18 @@
 -- What an accepted LRAT step shows.
 use Rattle.std.proofs.Common.{◌≡◌, ℕ, true, false, eqb, eqb-true, Option, Some, None, Ok, Err, List}
-use Rattle.std.proofs.Common.{[], ◌∷◌, ◌++◌, inl, inr, arith, rules, cond, option_map, refl}
+use Rattle.std.proofs.Common.{[], ◌∷◌, ◌++◌, inl, inr, arith, rules, refl}
 use Rattle.std.proofs.lemmas.{Bool.false≢true, Bool.cases_Bool, Bool.or_cases, List.map-append}
 use Rattle.std.specs.{Option.option_or, List.list_any}
 use Rattle.cnf_base.specs.Literals.{Literal, complement, Clause, has, complements, without}
 use Rattle.cnf_base.proofs.SetLemmas.{has_head, has_append_left, has_append_right, has_append_cases}
 use Rattle.cnf_base.proofs.SetLemmas.{has_cases}
-use Rattle.theory.specs.Propagation.{Live, Forced, Clash, HasRat, by_both, open_literals}
+use Rattle.theory.specs.Propagation.{Live, Forced, Clash, HasRat, open_literals}
 use Rattle.theory.specs.Lrat.{ChainEnd, conflict, chain, Group, with_candidate, AnswersGroups}
 use Rattle.theory.specs.Lrat.{AnswersChain, answer_of, chain_refusal, group_refusal, groups_refusal}
 use Rattle.theory.specs.Lrat.{is_left_out, open_with, unknown, not_unit, look_at}
 use Rattle.theory.proofs.PropagationLemmas.Forced.{forced_assumed, forced_through, clash_through}
 use Rattle.theory.proofs.PropagationLemmas.Unit.{none_left_clashes, clash_of_conflict}
 use Rattle.theory.specs.Laws.{IsRedundant, LratShowsRedundant}
-use Rattle.theory.proofs.PropagationLemmas.Conflicts.{conflicts_some}
 use Rattle.theory.proofs.PropagationLemmas.{Unit.left_is_forced, Open.first_alone}
 use Rattle.theory.specs.{declared.refusal.Refusal.TheVariants.GroupWithoutConflict, Sets.conflicts}
 use Rattle.theory.specs.{Answers.StepAnswer, declared.accepted.Accepted.TheVariants.Deleted}
@@ -47,20 +46,16 @@ module _ (live : Live) (assumed : List Literal) where
         | l ∷ rest ↦ λ e. let first = first_alone l rest in grind arith
       ] refl
 
-  pub chain_means : (hints : List ℕ) (ls : List Literal) → AreForced live assumed ls → ChainMeans live assumed (chain live ls hints)
-  chain_means [] ls forced =
-      elim (conflicts ls) as (λ b. conflicts ls ≡ b
-      → ChainMeans live assumed (cond b conflict (open_with ls))) [
-        | true ↦ λ h. clash_of_conflict live assumed ls forced h
-        | false ↦ λ h. forced
-      ] refl
-  chain_means (k ∷ hints) ls forced =
-      let go_on : Literal → ChainEnd = λ l. chain live (l ∷ ls) hints in
-      let look = look_at k (option_map (open_literals ls) (live k)) go_on in
-      elim (conflicts ls) as (λ b. conflicts ls ≡ b → ChainMeans live assumed (cond b conflict look)) [
-        | true ↦ λ h. clash_of_conflict live assumed ls forced h
-        | false ↦ grind (arith, look_means, has_cases, (chain_means hints))
-      ] refl
+  pub chain_means : (hints : List ℕ) (ls : List Literal) → AreForced live assumed ls
+      → ChainMeans live assumed (chain live ls hints)
+  chain_means [] ls forced = elim (cases_Bool (conflicts ls)) [
+    | inl h ↦ rw h (clash_of_conflict live assumed ls forced h)
+    | inr h ↦ rw h forced
+  ]
+  chain_means (k ∷ hints) ls forced = elim (cases_Bool (conflicts ls)) [
+    | inl h ↦ rw h (clash_of_conflict live assumed ls forced h)
+    | inr h ↦ rw h (grind (arith, look_means, has_cases, (chain_means hints)))
+  ]
 
 -- ---- Refusals in a row
 
@@ -77,13 +72,13 @@ module _ (live : Live) (ls : List Literal) (pivot : Literal) where
   abbrev Clashes : Clause → Type 0
   Clashes d = Clash live (with_candidate ls d pivot)
 
-  group_clash : (earlier : List ℕ) (group : Group) (d : Clause) → group_refusal live ls pivot earlier group (Some d) ≡ None → Clashes d
+  group_clash : (earlier : List ℕ) (group : Group) (d : Clause)
+      → group_refusal live ls pivot earlier group (Some d) ≡ None → Clashes d
   group_clash earlier group d e =
       let start = with_candidate ls d pivot in
       let last = or_none _ _ (or_none _ _ e).1 in
-      let ended = conflict_of_none (GroupWithoutConflict group.candidate)
-      (chain live start group.hints)
-      last.1 in
+      let walk = chain live start group.hints in
+      let ended = conflict_of_none (GroupWithoutConflict group.candidate) walk last.1 in
       let means = chain_means live start group.hints start (forced_assumed live start) in
       rw ended at means
 
@@ -98,39 +93,31 @@ module _ (live : Live) (ls : List Literal) (pivot : Literal) where
         | inr there ↦ groups_clash groups (group.candidate ∷ earlier) parts.1 k there d at
       ]
 
-  -- a candidate that gives a conflict at once
-  conflict_clash : (d : Clause) → conflicts (with_candidate ls d pivot) ≡ true
-      → Clashes d
-  conflict_clash d h =
-      let w = conflicts_some (with_candidate ls d pivot) h in
-      by_both w.0 (forced_assumed live _ w.0 w.1) (forced_assumed live _ (complement w.0) w.2)
-
-  candidate_clash : (groups : List Group) → groups_refusal live ls pivot [] groups ≡ None → ((k : ℕ) → is_left_out live ls pivot groups k ≡ false) → (k : ℕ) (d : Clause) → live k ≡ Some d → has d (complement pivot) ≡ true → Clashes d
-  candidate_clash groups e none_left k d at member =
-      let none = none_left k in
-      elim (cases_Bool (list_any (λ group. eqb group.candidate k) groups)) [
-        | inl named ↦ groups_clash groups [] e k named d at
-        | inr unnamed ↦ conflict_clash d (grind arith)
-      ]
+ruleset append_steps = (has_append_cases, has_append_left, has_append_right)
 
 -- what follows from the candidate's start follows from the complements of both clauses
-resolvent_forced : (live : Live) (c d : Clause) (ls : List Literal) (pivot : Literal) → AreForced live (complements c) ls → (a : Literal) → has (with_candidate ls d pivot) a ≡ true → Forced live (complements (c ++ without d (complement pivot))) a
+resolvent_forced : (live : Live) (c d : Clause) (ls : List Literal) (pivot : Literal)
+    → AreForced live (complements c) ls
+    → AreForced live (complements (c ++ without d (complement pivot))) (with_candidate ls d pivot)
 resolvent_forced live c d ls pivot forced a member =
-    let rest = without d (complement pivot) in let all = map-append complement c rest in
-    elim (has_append_cases ls (complements rest) a member) [
-      | inl h ↦ forced_through live (complements c) _ (λ x inside. forced_assumed live _ x
-          (rw all (has_append_left (complements c) (complements rest) x inside))) a (forced a h)
-      | inr h ↦ forced_assumed live _ a (rw all (has_append_right (complements c) _ a h))
-    ]
+    let all = map-append complement c (without d (complement pivot)) in
+    search (rules, append_steps, forced_through, forced_assumed)
 
-rat_of_groups : (live : Live) (pivot : Literal) (rest ls : List Literal) (groups : List Group) → AreForced live (complements (pivot ∷ rest)) ls → groups_refusal live ls pivot [] groups ≡ None → ((k : ℕ) → is_left_out live ls pivot groups k ≡ false) → HasRat live (pivot ∷ rest) pivot
-rat_of_groups live pivot rest ls groups forced e none_left =
-    record {
-      holds_pivot = has_head pivot rest;
-      candidates = λ k d at member. clash_through live (with_candidate ls d pivot) _
-          (resolvent_forced live (pivot ∷ rest) d ls pivot forced)
-          (candidate_clash live ls pivot groups e none_left k d at member);
-    }
+rat_of_groups : (live : Live) (pivot : Literal) (rest ls : List Literal) (groups : List Group)
+    → AreForced live (complements (pivot ∷ rest)) ls
+    → groups_refusal live ls pivot [] groups ≡ None
+    → ((k : ℕ) → is_left_out live ls pivot groups k ≡ false) → HasRat live (pivot ∷ rest) pivot
+rat_of_groups live pivot rest ls groups forced e none_left = record {
+  holds_pivot = has_head pivot rest;
+  candidates = λ k d at member.
+      let none = none_left k in
+      clash_through live (with_candidate ls d pivot) _ (resolvent_forced live (pivot ∷ rest) d ls
+      pivot forced)
+      (elim (cases_Bool (list_any (λ group. eqb group.candidate k) groups)) [
+        | inl named ↦ groups_clash live ls pivot groups [] e k named d at
+        | inr unnamed ↦ clash_of_conflict live _ _ (forced_assumed live _) (grind arith)
+      ]);
+}
 
 -- ---- Steps
 

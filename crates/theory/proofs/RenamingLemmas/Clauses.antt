@@ -1,5 +1,5 @@
 -- Clauses under a map of literals that another map undoes.
-use Rattle.std.proofs.Common.{arith, ◌≡◌, ℕ, zero, suc, take, drop, Bool, true, eqb, List, [], ◌∷◌}
+use Rattle.std.proofs.Common.{arith, ◌≡◌, ℕ, suc, take, drop, Bool, true, eqb, List, [], ◌∷◌}
 use Rattle.std.proofs.Common.{Some, ◌++◌, map, filter, refl, rules}
 use Rattle.std.{proofs.lemmas.Bool.false≢true, specs.List.list_any, specs.List.list_all}
 use Rattle.cnf_base.specs.Literals.{Literal, complement, Clause, has, complements, without}
@@ -112,11 +112,9 @@ module _ (there back : Literal → Literal) (among : Literal → Type 0) (r : Re
     append_among c d c_within d_within l h = search (rules, has_append_cases)
 
 pub take_has : (n : ℕ) (c : List Literal) (l : Literal) → has (take n c) l ≡ true → has c l ≡ true
-take_has zero c l h = absurd (false≢true h)
-take_has (suc n) [] l h = h
 take_has (suc n) (k ∷ c) l h = grind (arith, has_cases, has_head, has_tail, (take_has n c l))
+take_has n c l h = grind arith
 
 pub drop_has : (n : ℕ) (c : List Literal) (l : Literal) → has (drop n c) l ≡ true → has c l ≡ true
-drop_has zero c l h = h
-drop_has (suc n) [] l h = h
 drop_has (suc n) (k ∷ c) l h = has_tail k c l (drop_has n c l h)
+drop_has n c l h = grind arith

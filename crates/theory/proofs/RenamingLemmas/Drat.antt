@@ -1,25 +1,24 @@
 -- The rule of DRAT under other names.
-use Rattle.std.proofs.Common.{◌≡◌, ℕ, zero, suc, Bool, not, eqb, Option, Some}
-use Rattle.std.proofs.Common.{option_map, Ok, Err, List, [], ◌∷◌, map, length, slice_get, refl, sym}
-use Rattle.std.proofs.{Common.ap, Common.◌∙◌, Common.arith, Common.rules, lemmas.List.length-map}
+use Rattle.std.proofs.Common.{◌≡◌, ℕ, zero, suc, not, eqb, Option, Some, option_map, Ok, Err, List}
+use Rattle.std.proofs.Common.{[], ◌∷◌, map, slice_get, refl, sym, ap, arith, rules}
+use Rattle.std.proofs.{lemmas.List.length-map, Common.◌∙◌}
 use Rattle.std.proofs.lemmas.Option.{none-some, same_Some, slice_get-map}
 use Rattle.std.specs.List.{list_any, take-map, drop-map, prefix_len}
 use Rattle.cnf_base.specs.Literals.{Literal, complement, Clause, same_clause}
 use Rattle.cnf_base.proofs.SetLemmas.{has_head}
 use Rattle.proofs.specs.{Steps.clause_part, Steps.witness_part, declared.step_buf.StepKind.StepKind}
-use Rattle.theory.specs.declared.accepted.Accepted.{Accepted}
+use Rattle.theory.specs.declared.{drat_rules.DratRules.DratRules, accepted.Accepted.Accepted}
 use Rattle.theory.specs.declared.accepted.Accepted.TheVariants.{Rup, Rat, Pr, Empty}
 use Rattle.theory.specs.declared.refusal.Refusal.TheVariants.{NotRup, NeitherRupNorRat}
 use Rattle.theory.specs.declared.refusal.Refusal.TheVariants.{InconsistentSet, NeitherRupNorPr}
-use Rattle.theory.specs.{declared.drat_rules.DratRules.DratRules, Renaming.answer_renamed}
-use Rattle.theory.specs.{Answers.StepAnswer, Drat.AnswersDelete, Drat.AnswersDrat, Drat.IsKeptUnit}
+use Rattle.theory.specs.{Renaming.answer_renamed, Answers.StepAnswer, Drat.AnswersListed}
+use Rattle.theory.specs.Drat.{AnswersDelete, AnswersDrat, IsKeptUnit, DratStep, add, delete}
+use Rattle.theory.specs.Drat.{drat_step_of, take_off, after_drat, AnswersAdd, AnswersWithWitness}
 use Rattle.theory.specs.Propagation.{Live, HasRup, HasRat, HasPr, IsRootReason}
-use Rattle.theory.specs.Drat.{DratStep, add, delete, addition_of, drat_step_of, take_off}
-use Rattle.theory.specs.Drat.{after_drat, AnswersAdd, AnswersWithWitness, AnswersListed}
-use Rattle.theory.proofs.RenamingLemmas.Clauses.{AreAmong, Renames, GoesTo, mapped_among}
+use Rattle.theory.proofs.RenamingLemmas.Clauses.{AreAmong, Renames, GoesTo, mapped_among, equal_is}
 use Rattle.theory.proofs.RenamingLemmas.Clauses.{back_there, conflicts_mapped, same_mapped}
-use Rattle.theory.proofs.RenamingLemmas.{Clauses.equal_is, Clauses.LiveAmong, Forced.reason_image}
-use Rattle.theory.proofs.RenamingLemmas.Forced.{Carries, carries_back, rup_of, rat_image, pr_image}
+use Rattle.theory.proofs.RenamingLemmas.{Forced.rat_image, Forced.pr_image, Clauses.LiveAmong}
+use Rattle.theory.proofs.RenamingLemmas.Forced.{reason_image, Carries, carries_back, rup_of}
 
 -- a step whose literals are mapped
 abbrev pub drat_mapped : (Literal → Literal) → DratStep → DratStep
@@ -58,27 +57,23 @@ module _ (there back : Literal → Literal) (among : Literal → Type 0)
     -- what an image has, its clause has
     pub rup_back : (c : Clause) → AreAmong among c → HasRup other (map there c) → HasRup live c
     rup_back c within rup =
-        rw (back_there there back among r c within) at
-        (rup_of back there (GoesTo there among) other live back_again (map there c) rup)
+        rw (back_there _ _ _ r c within) at (rup_of _ _ _ _ _ back_again (map there c) rup)
 
     pub rat_back : (c : Clause) (pivot : Literal) → AreAmong among c → among pivot
         → HasRat other (map there c) (there pivot) → HasRat live c pivot
-    rat_back c pivot within a rat =
-        rw (back_there there back among r c within, r.undone pivot a) at
-        (rat_image back there _ other live back_again _ _ (pivot, a, refl) rat)
+    rat_back c pivot within a rat = rw (back_there _ _ _ r c within, r.undone pivot a) at
+        (rat_image _ _ _ _ _ back_again _ _ (pivot, a, refl) rat)
 
     pub pr_back : (c witness : List Literal) → AreAmong among c → AreAmong among witness
         → HasPr other (map there c) (map there witness) → HasPr live c witness
     pr_back c witness within w pr =
-        rw (back_there there back among r c within, back_there there back among r witness w) at
-        (pr_image back there (GoesTo there among) other live back_again (map there c) _
-        (mapped_among there back among r witness w) pr)
+        rw (back_there _ _ _ r c within, back_there _ _ _ r witness w) at
+        (pr_image _ _ _ _ _ back_again (map there c) _ (mapped_among _ _ _ r witness w) pr)
 
     pub reason_back : (c : Clause) → AreAmong among c → IsRootReason other (map there c)
         → IsRootReason live c
     reason_back c within reason =
-        rw (back_there there back among r c within) at
-        (reason_image back there (GoesTo there among) other live back_again (map there c) reason)
+        rw (back_there _ _ _ r c within) at (reason_image _ _ _ _ _ back_again (map there c) reason)
 
   alive_mapped : (live : List Clause) (c : Clause) → AreOf live → AreAmong among c
       → list_any (same_clause (map there c)) (map (map there) live)
@@ -123,34 +118,35 @@ module _ (there back : Literal → Literal) (among : Literal → Type 0)
           → AnswersWithWitness (slice_get other) (map there c) (map there witness)
           (answer_renamed there answer)
       witness_mapped witness (Err InconsistentSet) ww a = search (rules, conflicts_mapped)
-      witness_mapped witness (Ok Rup) ww a =
-          (conflicts_mapped there back among r witness ww ∙ a.0, rup_there c a.1)
-      witness_mapped witness (Ok Pr) ww a = (
-        conflicts_mapped there back among r witness ww ∙ a.0,
-        λ b. a.1 (rup_again b),
-        pr_image there back among (slice_get live) (slice_get other) listed c witness ww a.2,
+      witness_mapped witness (Ok Rup) ww (quiet, rup) =
+          (conflicts_mapped _ _ _ r witness ww ∙ quiet, rup_there c rup)
+      witness_mapped witness (Ok Pr) ww (quiet, none, pr) = (
+        conflicts_mapped _ _ _ r witness ww ∙ quiet,
+        λ b. none (rup_again b),
+        pr_image _ _ _ _ _ listed c witness ww pr,
       )
-      witness_mapped witness (Err NeitherRupNorPr) ww a =
-          let again = pr_back (slice_get live) (slice_get other) listed c witness cw ww in (
-            conflicts_mapped there back among r witness ww ∙ a.0,
-            λ b. a.1 (rup_again b),
-            λ b. a.2 (again b),
-          )
+      witness_mapped witness (Err NeitherRupNorPr) ww (quiet, none, no_pr) = (
+        conflicts_mapped _ _ _ r witness ww ∙ quiet,
+        λ b. none (rup_again b),
+        λ b. no_pr (pr_back _ _ listed c witness cw ww b),
+      )
       witness_mapped witness answer ww a = absurd a
 
     add_mapped : (c : List Literal) (answer : StepAnswer) → AreAmong among c
         → AnswersAdd (slice_get live) c answer
         → AnswersAdd (slice_get other) (map there c) (answer_renamed there answer)
     add_mapped [] (Ok Empty) w a = rup_there [] a
-    add_mapped [] (Err NotRup) w a = λ b. a (rup_again [] w b)
+    add_mapped [] (Err NotRup) w a = search rup_again
     add_mapped (l ∷ c) (Ok Rup) w a = rup_there (l ∷ c) a
-    add_mapped (l ∷ c) (Ok Rat) w a =
-        let there = rat_image there back among (slice_get live) (slice_get other) listed (l ∷ c) l
-        (w l (has_head l c)) in (λ b. a.0 (rup_again (l ∷ c) w b), there a.1)
-    add_mapped (l ∷ c) (Err (NeitherRupNorRat m)) w a =
-        let again = rat_back (slice_get live) (slice_get other) listed (l ∷ c) l w
-        (w l (has_head l c)) in
-        (ap there a.0, λ b. a.1 (rup_again (l ∷ c) w b), λ b. a.2 (again b))
+    add_mapped (l ∷ c) (Ok Rat) w (none, rat) = (
+      λ b. none (rup_again (l ∷ c) w b),
+      rat_image _ _ _ _ _ listed (l ∷ c) l (w l (has_head l c)) rat,
+    )
+    add_mapped (l ∷ c) (Err (NeitherRupNorRat m)) w (is, none, no_rat) = (
+      ap there is,
+      λ b. none (rup_again (l ∷ c) w b),
+      λ b. no_rat (rat_back _ _ listed (l ∷ c) l w (w l (has_head l c)) b),
+    )
     add_mapped c answer w a = absurd a
 
     listed_mapped : (c witness : List Literal) (answer : StepAnswer) → AreAmong among c
@@ -197,17 +193,11 @@ module _ (there back : Literal → Literal) (among : Literal → Type 0)
       let same = prefix_mapped first rest (search rules) (search rules) in
       cc (take-map there (prefix_len (λ l. not (eqb l first)) rest) rest)
 
-  module _ (lits : List Literal) (w : AreAmong among lits) where
-    pub witness_part_mapped : witness_part (map there lits) ≡ map there (witness_part lits)
-    witness_part_mapped =
-        let same = clause_part_mapped lits w in let long = length-map (clause_part lits) there in
-        cc (drop-map there (length (clause_part lits)) lits)
-
-    addition_mapped : (pr : Bool)
-        → addition_of pr (map there lits) ≡ drat_mapped there (addition_of pr lits)
-    addition_mapped pr = search (rules, clause_part_mapped, witness_part_mapped)
+  pub witness_part_mapped : (lits : List Literal) → AreAmong among lits
+      → witness_part (map there lits) ≡ map there (witness_part lits)
+  witness_part_mapped lits w = search (rules, clause_part_mapped, length-map, drop-map)
 
   pub drat_step_mapped : (rules : DratRules) (kind : StepKind) (lits : List Literal)
       → AreAmong among lits
       → drat_step_of rules kind (map there lits) ≡ drat_mapped there (drat_step_of rules kind lits)
-  drat_step_mapped rules kind lits h = grind (arith, addition_mapped)
+  drat_step_mapped options kind lits h = search (rules, clause_part_mapped, witness_part_mapped)

@@ -1,6 +1,6 @@
 -- What is forced under other names, and the clauses that are redundant.
-use Rattle.std.proofs.Common.{arith, ◌≡◌, ◌≢◌, ℕ, Bool, true, false, Some, List, [], ◌∷◌, ◌++◌, map}
-use Rattle.std.proofs.Common.{refl, sym, ap, ◌∙◌, subst, inl, inr, ◌⊎◌, rules}
+use Rattle.std.proofs.Common.{arith, ◌≡◌, ℕ, Bool, true, Some, List, [], ◌∷◌, map}
+use Rattle.std.proofs.Common.{refl, sym, ap, ◌∙◌, subst, inl, inr, rules}
 use Rattle.std.proofs.lemmas.List.{map-append}
 use Rattle.cnf_base.specs.Literals.{Literal, complement, Clause, has, complements, without}
 use Rattle.theory.specs.Propagation.{Live, IsClosed, Forced, Clash, by_empty, by_both}
@@ -17,13 +17,12 @@ module _ (f : Literal → Literal) (commutes : (l : Literal) → complement (f l
     (live other : Live) (images : HasImages f live other) where
   closed_image : (passes : Literal → Bool) → IsClosed other passes
       → IsClosed live (λ l. passes (f l))
-  closed_image passes closed = record { unit = go }
-    where
-      go : (k : ℕ) (c : Clause) → live k ≡ Some c → (m : Literal) → has c m ≡ true → ((l : Literal) → has c l ≡ true → l ≢ m → passes (f (complement l)) ≡ true) → passes (f m) ≡ true
-      go k c at m member others =
-          closed.unit k (map f c) (images k c at) (f m) (has_mapped f c m member) (λ x inside ne.
-          let w = mapped_has f c x inside in
-          rw (← w.2, commutes) (others w.0 w.1 (λ e. ne (sym w.2 ∙ ap f e))))
+  closed_image passes closed = record {
+    unit = λ k c at m member others.
+        closed.unit k (map f c) (images k c at) (f m) (has_mapped f c m member) (λ x inside ne.
+        let w = mapped_has f c x inside in
+        rw (← w.2, commutes) (others w.0 w.1 (λ e. ne (sym w.2 ∙ ap f e))));
+  }
 
   pub forced_image : (assumed : List Literal) (l : Literal) → Forced live assumed l
       → Forced other (map f assumed) (f l)
@@ -74,53 +73,33 @@ module _ (there back : Literal → Literal) (among : Literal → Type 0) (live o
       → HasRat other (map there c) (there pivot)
   rat_image c pivot a rat = record {
     holds_pivot = has_mapped there c pivot rat.holds_pivot;
-    candidates = candidate;
+    candidates = λ k d at member.
+        let at_back = s.images_back k d at in let within = s.within k _ at_back in
+        let opposite = s.renames.opposite pivot a in let image = is_image k d at in
+        let name = s.renames.commutes pivot in
+        let inside : has (map back d) (complement pivot) ≡ true =
+        cc (has_is _ _ _ s.renames _ within _ opposite) in
+        let left = map-append there c (without (map back d) (complement pivot)) in
+        let same = without_mapped _ _ _ s.renames _ within _ opposite in
+        rw (image, name, same, ← left) (rup_of _ (rat.candidates k _ at_back inside));
   }
-    where
-      candidate : (k : ℕ) (d : Clause) → other k ≡ Some d → has d (complement (there pivot)) ≡ true
-          → HasRup other (map there c ++ without d (complement (there pivot)))
-      candidate k d at member =
-          let e = map back d in
-          let at_back = s.images_back k d at in
-          let within = s.within k e at_back in
-          let opposite = s.renames.opposite pivot a in
-          let image = is_image k d at in
-          let name = s.renames.commutes pivot in
-          let inside : has e (complement pivot) ≡ true =
-          cc (has_is there back among s.renames e within (complement pivot) opposite) in
-          let left = map-append there c (without e (complement pivot)) in
-          let same = without_mapped there back among s.renames e within (complement pivot)
-          opposite in
-          rw (image, name, same, ← left) (rup_of _ (rat.candidates k e at_back inside))
 
   pub pr_image : (c : Clause) (witness : List Literal) → AreAmong among witness
       → HasPr live c witness → HasPr other (map there c) (map there witness)
   pr_image c witness w_within pr = record {
-    consistent = consistent;
-    meets = (
-      there pr.meets.0,
-      has_mapped there c pr.meets.0 pr.meets.1,
-      has_mapped there witness
-          pr.meets.0 pr.meets.2,
-    );
-    others = others;
+    consistent = grind (arith, mapped_has, has_is);
+    meets = let (l, member, met) = pr.meets in
+        (there l, has_mapped there c l member, has_mapped there witness l met);
+    others = λ k d at.
+        let e = map back d in let at_back = s.images_back k d at in let image = is_image k d at in
+        elim (pr.others k e at_back) [
+          | inl m ↦ grind (arith, has_mapped)
+          | inr rup ↦
+              let same = open_mapped _ _ _ s.renames witness e w_within (s.within k e at_back) in
+              let left = map-append there c (open_literals witness e) in
+              inr (rw (image, same, ← left) (rup_of _ rup))
+        ];
   }
-    where
-      consistent : (m : Literal) → has (map there witness) m ≡ true
-          → has (map there witness) (complement m) ≡ false
-      consistent m h = grind (arith, mapped_has, has_is)
-
-      others : (k : ℕ) (d : Clause) → other k ≡ Some d → ((l : Literal) × (has d l ≡ true) × (has (map there witness) l ≡ true)) ⊎ HasRup other (map there c ++ open_literals (map there witness) d)
-      others k d at =
-          let e = map back d in let at_back = s.images_back k d at in let image = is_image k d at in
-          elim (pr.others k e at_back) [
-            | inl m ↦ grind (arith, has_mapped)
-            | inr rup ↦
-                let same = open_mapped there back among s.renames witness e w_within
-                (s.within k e at_back) in
-                let left = map-append there c (open_literals witness e) in
-                inr (rw (image, same, ← left) (rup_of _ rup))
-          ]
 
   pub reason_image : (c : Clause) → IsRootReason live c → IsRootReason other (map there c)
   reason_image c r = record {

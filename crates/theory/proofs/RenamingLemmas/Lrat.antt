@@ -65,7 +65,7 @@ module _ (there back : Literal → Literal) (among : Literal → Type 0)
   look_mapped k (Some (l ∷ ls)) go other w each =
       let first = w (l ∷ ls) refl l (has_head l ls) in
       let same = all_mapped there (λ m. eqb m l) (λ m. eqb m (there l)) ls
-      (λ m h. equal_is there back among r m l (w (l ∷ ls) refl m (has_tail l ls m h)) first) in
+      (λ m h. equal_is _ _ _ r m l (w (l ∷ ls) refl m (has_tail l ls m h)) first) in
       let goes_on = each l first in grind arith
 
   left_mapped : (ls : List Literal) → AreAmong among ls → (o : Option Clause) → IsAmong among o
@@ -83,27 +83,25 @@ module _ (there back : Literal → Literal) (among : Literal → Type 0)
         → chain other (map there ls) hints ≡ end_mapped there (chain live ls hints)
     chain_mapped [] ls w = search (rules, conflicts_mapped)
     chain_mapped (k ∷ hints) ls w =
-        let clash = conflicts_mapped there back among r ls w in let same = mapped k in
+        let clash = conflicts_mapped _ _ _ r ls w in let same = mapped k in
         let left = left_mapped ls w (live k) (within k) in
-        let look = look_mapped k (option_map (open_literals ls) (live k))
-        (λ l. chain live (l ∷ ls) hints) (λ l. chain other (l ∷ map there ls) hints)
-        (left_among ls _ (within k)) (λ l a. chain_mapped hints (l ∷ ls) (search rules)) in
-        grind arith
+        let look = look_mapped k _ (λ l. chain live (l ∷ ls) hints)
+        (λ l. chain other (l ∷ map there ls) hints) (left_among ls _ (within k))
+        (λ l a. chain_mapped hints (l ∷ ls) (search rules)) in grind arith
+
+    looked : (k : ℕ) (o : Option Clause) (go : Literal → ChainEnd) → IsAmong among o
+        → ((l : Literal) → among l → EndsAmong among (go l)) → EndsAmong among (look_at k o go)
+    looked k (Some (l ∷ rest)) go each next =
+        let first = next l (each (l ∷ rest) refl l (has_head l rest)) in grind arith
+    looked k o go each next = grind arith
 
     -- what a walk leaves true is among these
     chain_among : (hints : List ℕ) (ls : List Literal) → AreAmong among ls
         → EndsAmong among (chain live ls hints)
     chain_among [] ls w = search rules
     chain_among (k ∷ hints) ls w =
-        let left = looked _ (left_among ls _ (within k)) (λ l a. chain_among hints _ (search rules))
-        in grind arith
-      where
-        looked : (o : Option Clause) → IsAmong among o
-            → ((l : Literal) → among l → EndsAmong among (chain live (l ∷ ls) hints))
-            → EndsAmong among (look_at k o (λ l. chain live (l ∷ ls) hints))
-        looked (Some (l ∷ rest)) each next =
-            let first = next l (each (l ∷ rest) refl l (has_head l rest)) in grind arith
-        looked o each next = grind arith
+        let left = looked k _ (λ l. chain live (l ∷ ls) hints) (left_among ls _ (within k))
+        (λ l a. chain_among hints (l ∷ ls) (search rules)) in grind arith
 
     -- ---- Candidates
 
@@ -161,7 +159,6 @@ module _ (there back : Literal → Literal) (among : Literal → Type 0)
       → deletion_refusal other ids ≡ refusal_mapped there (deletion_refusal live ids)
   deletion_mapped [] live other mapped = refl
   deletion_mapped (id ∷ ids) live other mapped =
-      let now = mapped id in
       let later = deletion_mapped ids (without_id live id) (without_id other id) (search rules) in
       grind arith
 

@@ -1,23 +1,22 @@
 -- States, steps and proofs under other names.
 use Rattle.std.proofs.Common.{◌≡◌, ℕ, zero, suc, ◌+◌, ◌*◌, ◌%◌, Ok, List, [], ◌∷◌, map, slice_get}
 use Rattle.std.proofs.Common.{refl, ap, arith, rules, nat_abs}
-use Rattle.std.proofs.lemmas.{Bool.false≢true, Option.none-some, Option.slice_get-map}
+use Rattle.std.proofs.lemmas.{Option.none-some, Option.slice_get-map, Bool.false≢true}
 use Rattle.std.{proofs.lemmas.List.length-map, specs.List.list_any}
 use Rattle.cnf_base.specs.Literals.{Literal, complement, Clause, variable}
 use Rattle.cnf_base.proofs.MemberLemmas.{variable-complement}
 use Rattle.theory.specs.Drat.{DratStep, AnswersDrat, drat_step_of, take_off, after_drat}
 use Rattle.theory.specs.Lrat.{AnswersLrat, step_of, without_ids, after_lrat, LratState}
 use Rattle.theory.specs.Rules.{Rule, State, by_ids, by_copies, start, Answers, after}
-use Rattle.theory.specs.Verdicts.{Ending, Ends, is_empty}
+use Rattle.theory.specs.{Verdicts.Ending, Verdicts.Ends, Verdicts.is_empty, Answers.StepAnswer}
 use Rattle.theory.specs.Renaming.{renamed, step_renamed, answer_renamed, ending_renamed, IsUndone}
 use Rattle.theory.specs.Renaming.{AreUndone, StepsAreUndone, IsRenamed}
 use Rattle.theory.proofs.RenamingLemmas.Clauses.{Renames, take_has, drop_has}
-use Rattle.theory.proofs.RenamingLemmas.Drat.{IsOf, drat_answers_mapped, after_mapped}
-use Rattle.theory.specs.{Laws.VerdictsKeepUnderNames, declared.drat_rules.DratRules.DratRules}
-use Rattle.theory.specs.{declared.accepted.Accepted.Accepted, Answers.StepAnswer, Propagation.Live}
-use Rattle.theory.proofs.RenamingLemmas.{Drat.drat_mapped, Lrat.lrat_answers_mapped}
-use Rattle.theory.proofs.{LawLemmas.Truth.take_off_from, RenamingLemmas.Lrat.without_all_mapped}
-use Rattle.theory.proofs.RenamingLemmas.Drat.{drat_step_mapped}
+use Rattle.theory.proofs.RenamingLemmas.Drat.{IsOf, drat_answers_mapped, after_mapped, drat_mapped}
+use Rattle.theory.{proofs.RenamingLemmas.Drat.drat_step_mapped, specs.Laws.VerdictsKeepUnderNames}
+use Rattle.theory.specs.{declared.drat_rules.DratRules.DratRules, Propagation.Live}
+use Rattle.theory.{specs.declared.accepted.Accepted.Accepted, proofs.LawLemmas.Truth.take_off_from}
+use Rattle.theory.proofs.RenamingLemmas.Lrat.{lrat_answers_mapped, without_all_mapped}
 use Rattle.proofs.specs.{Steps.Step, Steps.clause_part, declared.step_buf.StepKind.StepKind}
 use Rattle.proofs.specs.declared.step_buf.StepKind.TheVariants as kinds
 
@@ -61,34 +60,31 @@ module _ (name back : ℕ → ℕ) where
       → AnswersLrat s (step_of kind step.id step.lits step.hints) answer
       → AnswersLrat t (step_of kind step.id (map there step.lits) step.hints)
       (answer_renamed there answer)
-  lrat_there s t kinds.Add step answer r told a = rw (← r.1) at
-      (lrat_answers_mapped there (renamed back) (IsTold name back) (renames name back) s.live t.live
-      s.top r.0 r.2 (step_of kinds.Add step.id step.lits step.hints) answer told a)
-  lrat_there s t kinds.Delete step answer r told a =
-      lrat_answers_mapped there (renamed back) (IsTold name back) (renames name back) s.live t.live
-      s.top r.0 r.2 (step_of kinds.Delete step.id step.lits step.hints) answer tt a
+  lrat_there s t kind step answer r told a =
+      let alike = lrat_answers_mapped _ _ _ (renames name back) s.live t.live s.top r.0 r.2
+      (step_of kind step.id step.lits step.hints) answer in grind arith
 
   module _ (rules : DratRules) (live : List Clause) (undone : AreUndone name back (slice_get live))
       (step : Step) (told : IsUndone name back step.lits) where
     same_step : drat_step_of rules step.kind (map there step.lits)
         ≡ drat_mapped there (drat_step_of rules step.kind step.lits)
-    same_step = drat_step_mapped there (renamed back) (IsTold name back) (renames name back)
-        (renamed_complement back) rules step.kind step.lits told
+    same_step = drat_step_mapped _ _ _ (renames name back) (renamed_complement back) rules step.kind
+        step.lits told
 
     drat_there : (answer : StepAnswer)
         → AnswersDrat rules live (drat_step_of rules step.kind step.lits) answer
         → AnswersDrat rules (map (map there) live)
         (drat_step_of rules step.kind (map there step.lits)) (answer_renamed there answer)
-    drat_there answer a = rw same_step (drat_answers_mapped there (renamed back) (IsTold name back)
-        (renames name back) (renamed_complement back) live undone rules _ answer
-        (of_step rules step.kind step.lits told) a)
+    drat_there answer a =
+        let of = of_step rules step.kind step.lits told in rw same_step (drat_answers_mapped _ _ _
+        (renames name back) (renamed_complement back) live undone rules _ answer of a)
 
     after_there : (word : Accepted) → after_drat (map (map there) live)
         (drat_step_of rules step.kind (map there step.lits)) word
         ≡ map (map there) (after_drat live (drat_step_of rules step.kind step.lits) word)
-    after_there word = rw same_step (after_mapped there (renamed back) (IsTold name back)
-        (renames name back) (renamed_complement back) live _ word undone
-        (of_step rules step.kind step.lits told))
+    after_there word =
+        let of = of_step rules step.kind step.lits told in rw same_step (after_mapped _ _ _
+        (renames name back) (renamed_complement back) live _ word undone of)
 
   pub step_answers : (first second : State) (step : Step) (answer : StepAnswer) → IsRenamed name back first second → IsUndone name back step.lits → Answers first step answer →
       Answers second (step_renamed (renamed name) step) (answer_renamed (renamed name) answer)
@@ -129,18 +125,14 @@ module _ (name back : ℕ → ℕ) where
           (by_ids (after_lrat t (step_of kind step.id (map there step.lits) step.hints)))
       by kinds.Add = search rules
       by kinds.Delete =
-          let ids = map nat_abs step.hints in (
-            without_all_mapped _ _ _ (renames name back) ids s.live t.live r.0,
-            r.1,
-            without_undone ids s.live r.2,
-          )
-  step_leaves (by_copies rules live) (by_copies rules_too other) step word r told =
-      let of = of_step rules step.kind step.lits told in (
-        r.0,
-        rw (r.0, r.1) (after_there rules live r.2 step told word),
-        drat_undone live _ word of
-            r.2,
-      )
+          let ids = map nat_abs step.hints in
+          let same = without_all_mapped _ _ _ (renames name back) ids s.live t.live r.0 in
+          (same, r.1, without_undone ids s.live r.2)
+  step_leaves (by_copies rules live) (by_copies rules_too other) step word r told = (
+    r.0,
+    rw (r.0, r.1) (after_there rules live r.2 step told word),
+    drat_undone live _ word (of_step rules step.kind step.lits told) r.2,
+  )
   step_leaves first second step word r told = absurd r
 
   -- ---- A proof
@@ -151,14 +143,12 @@ module _ (name back : ℕ → ℕ) where
       → Ends second (map (step_renamed there) steps) words (ending_renamed there ending)
   ends_renamed [] [] ending first second r told e = ap (ending_renamed there) e
   ends_renamed [] (word ∷ words) ending first second r told e = absurd e
-  ends_renamed (step ∷ steps) [] ending first second r told e =
-      (_, ap (ending_renamed _) e.1, step_answers first second step _ r (told zero step refl) e.2)
+  ends_renamed (step ∷ steps) [] ending first second r told (reason, is, a) =
+      (_, ap (ending_renamed _) is, step_answers first second step _ r (told zero step refl) a)
   ends_renamed (step ∷ steps) (word ∷ words) ending first second r told e =
       let now = step_answers first second step (Ok word) r (told zero step refl) in
-      let later = ends_renamed steps words ending (after first step word)
-      (after second (step_renamed there step) word)
-      (step_leaves first second step word r (told zero step refl))
-      (λ k. told (suc k)) in grind arith
+      let leaves = step_leaves first second step word r (told zero step refl) in
+      let later = ends_renamed steps words ending _ _ leaves (λ k. told (suc k)) in grind arith
 
   empties : (formula : List Clause) → list_any is_empty (map (map (renamed name)) formula)
       ≡ list_any is_empty formula
@@ -173,3 +163,5 @@ pub verdict_renamed : VerdictsKeepUnderNames
 verdict_renamed name back rule formula steps words ending undone told v =
     let same = empties name back formula in let first = started name back rule formula undone in
     let ends = ends_renamed name back steps words ending _ _ first told in search rules
+
+pub ruleset step_renames = (step_answers, step_leaves)

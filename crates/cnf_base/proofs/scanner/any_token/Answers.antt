@@ -1,11 +1,12 @@
 -- What comes before a token is skipped.
 use Rattle.std.proofs.Common.{◌≡◌, ◌==◌, true, sym, ◌∙◌, rules, arith, refl, slice_index}
 use Rattle.std.proofs.lemmas.{Bool.Decides.nat_tests, Grind.common_steps, Bool.and_parts}
-use Rattle.cnf_base.proofs.RunLemmas.{Stands-start, Stands-end, Stands-failed, Stands-looked}
-use Rattle.cnf_base.proofs.RunLemmas.{Stands-separator, Stands-feed, Stands-comment, Stands-cut}
+use Rattle.cnf_base.proofs.RunLemmas.{Stands-start, Stands-looked, Stands-separator, Stands-c}
 use Rattle.cnf_base.proofs.RunLemmas.{Stands-word, Stands-cut_word, whole_number-read}
 use Rattle.cnf_base.proofs.{RunLemmas.one_byte-read, TokenLemmas.failed}
 use Rattle.cnf_base.specs.declared.word.Word.TheVariants as words
+use Rattle.cnf_base.proofs.StreamLemmas.{Along-then, Along-bumped, Along-look}
+use Rattle.cnf_base.proofs.TextLemmas.{listing_at-feed}
 use Rattle.cnf_base.proofs.scanner.any_token.Goals as goal
 
 pub loop-byte-init : goal.loop-byte-init
@@ -13,18 +14,20 @@ loop-byte-init g c = Stands-start _
 
 pub returns-in-Ok-None-clause-tokens : goal.returns-in-Ok-None-clause-tokens
 returns-in-Ok-None-clause-tokens g c =
-    Stands-end _ _ _ _ c.loop-byte.invariant c.peek.ensures.look (search rules) (search rules)
-    c.place-in-Ok-None.ensures.value
+    Along-then _ _ _ _ _ _ c.loop-byte.invariant.text (Along-look _ _ c.peek.ensures.look)
+    (grind (arith, common_steps))
 
 pub returns-in-Err-clause-tokens : goal.returns-in-Err-clause-tokens
 returns-in-Err-clause-tokens g c =
-    Stands-failed _ _ _ c.loop-byte.invariant c.peek.ensures.look (search rules) (search rules)
+    Along-then _ _ _ _ _ _ c.loop-byte.invariant.text (Along-look _ _ c.peek.ensures.look)
+    (grind (arith, common_steps))
 
 pub returns-then-byte-eq10-clause-tokens : goal.returns-then-byte-eq10-clause-tokens
 returns-then-byte-eq10-clause-tokens g c =
+    let now = Stands-looked _ _ _ c.loop-byte.invariant c.peek.ensures.look (search rules) in
+    let bumped = Along-bumped c.peek.new.self c.in-Ok-Some.byte (search rules) (search rules) in
     rw (c.bump.ensures, c.place-place.ensures.value)
-    (Stands-feed _ c.peek.new.self c.in-Ok-Some.byte (search (rules, Stands-looked)) (search rules)
-    (search rules) (grind (arith, nat_tests)))
+    (Along-then _ _ _ _ _ _ now.text bumped (grind (arith, nat_tests, listing_at-feed)))
 
 pub loop-byte-preserved-else-byte-eq10 : goal.loop-byte-preserved-else-byte-eq10
 loop-byte-preserved-else-byte-eq10 g c =
@@ -38,17 +41,19 @@ returns-then-is_err-clause-tokens g c =
     let both = and_parts _ _ (sym c.begins_comment.ensures ∙ c.if-begins_comment.true) in
     let start : (c.peek.new.self.place.col == 1) ≡ true = rw (← c.place.ensures.value) both.0 in
     let text = rw c.bump_in_line.ensures at c.skip_comment.ensures.text in
-    Stands-cut _ c.peek.new.self c.in-Ok-Some.byte (search (rules, Stands-looked)) (search rules)
-    (search rules) both.1 start _ _ text (search rules)
+    let first = Stands-c _ c.peek.new.self c.in-Ok-Some.byte (search (rules, Stands-looked))
+    (search rules) (search rules) both.1 start in
+    Along-then _ _ _ _ _ _ first text (grind (arith, common_steps))
 
 pub loop-byte-preserved : goal.loop-byte-preserved
 loop-byte-preserved g c =
     let both = and_parts _ _ (sym c.begins_comment.ensures ∙ c.if-begins_comment.true) in
     let start : (c.peek.new.self.place.col == 1) ≡ true = rw (← c.place.ensures.value) both.0 in
     let text = rw c.bump_in_line.ensures at c.skip_comment.ensures.text in
+    let first = Stands-c _ c.peek.new.self c.in-Ok-Some.byte (search (rules, Stands-looked))
+    (search rules) (search rules) both.1 start in
     record {
-      text = Stands-comment _ c.peek.new.self c.in-Ok-Some.byte (search (rules, Stands-looked))
-          (search rules) (search rules) both.1 start _ _ text;
+      text = Along-then _ _ _ _ _ _ first text (λ i j k m p q. p ∙ q.0);
       fewer = grind (arith, common_steps);
       mark = search rules;
     }

@@ -1,7 +1,9 @@
 -- A byte of the run is taken, until a separator, the end or a failed read.
 use Rattle.std.proofs.Common.{[], ◌∷◌, ◌++◌, rules}
-use Rattle.cnf_base.proofs.RunLemmas.{InRun-first, InRun-looked, InRun-bumped, InRun-separator}
-use Rattle.cnf_base.proofs.RunLemmas.{InRun-end, InRun-failed}
+use Rattle.cnf_base.proofs.RunLemmas.{InRun-first, InRun-looked, InRun-separator, InRun-failed}
+use Rattle.cnf_base.proofs.StreamLemmas.{Along-map, Along-then, Along-bumped, Splits-then}
+use Rattle.cnf_base.proofs.TextLemmas.{listing_at-last_run, Each-append, col_along-append}
+use Rattle.std.proofs.{Common.arith, lemmas.Grind.common_steps}
 use Rattle.cnf_base.proofs.scanner.read_run.Goals as goal
 
 pub loop-byte-init : goal.loop-byte-init
@@ -14,9 +16,19 @@ pub loop-byte-preserved : goal.loop-byte-preserved
 loop-byte-preserved g c =
     let so_far = c.loop-byte.invariant in
     let looked = InRun-looked _ _ _ _ so_far.1 c.peek.ensures.look (search rules) in
-    let bumped = InRun-bumped _ _ _ _ looked (search rules) (search rules) (search rules) in
+    let bumped = Along-bumped c.peek.new.self c.in-Ok-Some.byte (search rules) (search rules) in
     let added = c.add.ensures so_far.0 so_far.2 in
-    rw c.bump_in_line.ensures (so_far.0 ++ c.in-Ok-Some.byte ∷ [], bumped, added)
+    rw c.bump_in_line.ensures (
+      so_far.0 ++ c.in-Ok-Some.byte ∷ [],
+      record {
+        is_run = grind (arith, Each-append);
+        place = grind (arith, col_along-append);
+        text = Along-then _ _ _ _ _ _ looked.text bumped (λ i j k m p q. Splits-then i _ j _ k p q);
+        fewer = grind (arith, common_steps);
+        mark = looked.mark;
+      },
+      added,
+    )
 
 pub returns-then-is_separator : goal.returns-then-is_separator
 returns-then-is_separator g c =
@@ -34,7 +46,7 @@ returns-in-Ok-None g c =
     let so_far = c.loop-byte.invariant in
     let says = c.says-in-Ok-None.ensures so_far.0 so_far.2 in
     let looked = InRun-looked _ _ _ _ so_far.1 c.peek.ensures.look (search rules) in record {
-      text = InRun-end _ _ _ _ says looked (search rules) (search rules);
+      text = Along-map _ _ _ _ looked.text (grind (arith, listing_at-last_run));
       fewer = looked.fewer;
       failed = tt;
       mark = looked.mark;

@@ -46,8 +46,10 @@ returns-then-is_err-clause-step g c =
 pub returns-in-Ok-Complete-clause-step : goal.returns-in-Ok-Complete-clause-step
 returns-in-Ok-Complete-clause-step g c =
     let so_far = c.loop-byte.invariant in
-    rw c.bump.ensures (Between-step _ _ _ _ _ so_far.1 c.in-Ok-Some.ensures.look c.in-Ok-Some.byte (search rules) (search rules) _ (search rules) c.move_on.new.step
-    (moves_told _ (Ok Complete) so_far.0 _ _ c.byte_no-byte_no.result c.peek.new.self.byte_no _ (c.move_on.ensures so_far.0 so_far.2) (search rules) (search rules)))
+    let moves = moves_told _ (Ok Complete) so_far.0 _ _ c.byte_no-byte_no.result
+    c.peek.new.self.byte_no _ (c.move_on.ensures so_far.0 so_far.2) (search rules) (search rules) in
+    rw c.bump.ensures (Between-step _ _ _ _ _ so_far.1 c.in-Ok-Some.ensures.look
+    c.in-Ok-Some.byte (search rules) (search rules) _ (search rules) c.move_on.new.step moves)
 
 pub returns-in-Err-Binary-clause-step : goal.returns-in-Err-Binary-clause-step
 returns-in-Err-Binary-clause-step g c =
@@ -58,5 +60,5 @@ returns-in-Err-Binary-clause-step g c =
 
 pub returns-in-Err-OutOfMemory-clause-step : goal.returns-in-Err-OutOfMemory-clause-step
 returns-in-Err-OutOfMemory-clause-step g c =
-    let so_far = c.loop-byte.invariant in
-    rw c.bump.ensures (Between-refused _ _ _ _ _ so_far.1 c.in-Ok-Some.ensures.look c.in-Ok-Some.byte (search rules) (search rules) c.move_on.new.step)
+    rw c.bump.ensures (Between-refused _ _ _ _ _ c.loop-byte.invariant.1
+    c.in-Ok-Some.ensures.look c.in-Ok-Some.byte (search rules) (search rules) c.move_on.new.step)

@@ -9,9 +9,7 @@ use Rattle.proofs.proofs.text.read_step.Goals as goal
 use Rattle.cnf_base.specs.declared.word.Word.TheVariants as words
 
 pub loop-count-init : goal.loop-count-init
-loop-count-init g c =
-    rw c.name.ensures
-    (rw c.requires.start (Between-start g.P.TextPart.format _), c.requires.fits)
+loop-count-init g c = search (rules, Between-start)
 
 -- ---- A number that was ahead
 
