@@ -43,7 +43,7 @@ use cnf_base::{Lit, OutOfMemory};
 use occurrences::Occurrences;
 use std::alloc::Global;
 use std::marker::Model;
-use tables::Filled;
+use tables::ByKey;
 
 /// The live clauses of a proof checker, each in a slot that the store picks.
 ///
@@ -57,9 +57,9 @@ pub struct Store<M: Memory = Blocks, I: Indexing = Index> {
     memory: M,
     index: I,
     /// By literal whether a call has marked it.
-    marks: Filled<bool>,
+    marks: ByKey<bool>,
     /// By literal how many clauses have it, where this is counted.
-    counts: Option<Filled<u32>>,
+    counts: Option<ByKey<u32>>,
     sum: u128,
     /// By literal the slots of the clauses that have it, from when they are first asked for.
     occurrences: Option<Occurrences>,
@@ -101,7 +101,7 @@ impl<M: Memory, I: Indexing> Model for Store<M, I> {
 fn list_up<I: Indexing>(
     index: &mut I,
     kept: &mut Option<Occurrences>,
-    counts: &mut Option<Filled<u32>>,
+    counts: &mut Option<ByKey<u32>>,
     slot: usize,
     lits: &[Lit],
 ) -> Result<(), OutOfMemory>
@@ -147,7 +147,7 @@ impl<M: Memory, I: Indexing> Store<M, I> {
             alloc,
             memory: M::new(alloc),
             index: I::new(alloc, seed),
-            marks: Filled::new(alloc),
+            marks: ByKey::new(alloc),
             counts: None,
             sum: 0,
             occurrences: None,

@@ -5,7 +5,6 @@ pub mod Found
 pub mod Hashes
 pub mod Longer
 pub mod PutIn
-pub mod Results
 pub mod TakeOut
 pub mod Walks
 pub mod Whole

@@ -68,7 +68,7 @@ pub part_same : (xs ys : List ℕ) (a n : ℕ) → length ys ≡ length xs
     → ((i : ℕ) → i < n → get_or ys (a + i) 0 ≡ get_or xs (a + i) 0)
     → take n (drop a ys) ≡ take n (drop a xs)
 part_same xs ys a n long same =
-    grind (arith, same_number_lists, length-take, length-drop, get_or-take, get_or-drop)
+    search (rules, same_number_lists, length-take, length-drop, get_or-take, get_or-drop)
 
 written_blanks : (n : ℕ) → written (blanks n) ≡ 0
 written_blanks zero = refl
@@ -96,7 +96,7 @@ module _ (xs : List ℕ) (a k : ℕ) (fits : a + k ≤ length xs) where
 
   pub wiped_inside : (i : ℕ) → a ≤ i → i < a + k → get_or wiped i 0 ≡ 2
   wiped_inside i high low =
-      grind (arith, get_or-append_right, front_len, get_or_append_left, get_or-replicate, length-replicate)
+      search (rules, get_or-append_right, front_len, get_or_append_left, get_or-replicate, length-replicate)
 
   pub wiped_behind : (i : ℕ) → a + k ≤ i → get_or wiped i 0 ≡ get_or xs i 0
   wiped_behind i high = grind (arith, get_or-append_right, front_len, get_or-drop, length-replicate)

@@ -10,6 +10,7 @@ use Rattle.clause_memory.specs.{Code.Fields.IsMemory, Code.Fields.seen_as, decla
 use Rattle.clause_memory.specs.Code.Cells.{clause_at, clauses_from, clauses_in, kind_at}
 use Rattle.clause_memory.specs.Code.Cells.{literal_words, size_at, sum_from}
 use Rattle.clause_memory.specs.declared.kind.Kind.TheVariants.{Live, Free, Rest}
+use Rattle.clause_memory.proofs.{BlockLemmas.cells_are, CellLemmas.begins_inside}
 
 -- the clause of a cell of this kind, if it begins one's block
 abbrev pub clause_if : Kind → Clause → Option Clause
@@ -98,3 +99,5 @@ module _ {kinds : List Kind} {words : List ℕ} {heads : ℕ → Option ℕ} (me
       → maps.get state.live s ≡ Some c → (kind_at kinds s ≡ Live) × (c ≡ clause_at words s)
       × (length c ≡ size_at words s)
   seen_in state view s c here = grind (arith, get_clause kinds words s, clause_len)
+
+pub ruleset seen_facts = (alive_in, alive_kind, few_clauses, stored_is, begins_inside, cells_are)

@@ -10,7 +10,7 @@ use Rattle.clause_memory.specs.Blocks.{AddsFewBlocks, blocks_with, cells_for, ce
 use Rattle.clause_memory.specs.{Blocks.clauses_with, declared.kind.Kind.Kind}
 use Rattle.clause_memory.specs.Code.{Fields.IsMemory, Cells.blocks_in, Cells.clauses_in}
 use Rattle.clause_memory.proofs.BlockLemmas.{block_is}
-use Rattle.clause_memory.proofs.ClauseLemmas.{alive_kind, clause_len, get_live}
+use Rattle.clause_memory.proofs.ClauseLemmas.{alive_kind, clause_len, few_clauses, get_live, stored_is}
 
 -- ---- Blocks and clauses
 
@@ -21,7 +21,7 @@ module _ {ks : List Kind} {words : List ℕ} {heads : ℕ → Option ℕ} (memor
       → weight_at (λ c. cond (eqb (cells_for (length c)) n) 1 0) (maps.get (clauses_in ks words) s)
       ≡ 1
   one_for_each n s here alive =
-      grind (arith, alive_kind ks words s, clause_len memory s, block_is (memory.block s (alive_kind ks words s alive)), get_live)
+      grind (arith, alive_kind, clause_len memory s, block_is (memory.block s (alive_kind ks words s alive)), get_live)
 
   -- where each block of one size has a clause there are as many of these
   pub none_left : (n : ℕ) → ((s : ℕ) → maps.get (blocks_in ks) s ≡ Some n
@@ -47,3 +47,5 @@ pub one_more_block : (old new : FinMap nat_cmp ℕ) (live : FinMap nat_cmp Claus
     → AddsFewBlocks old new live added
 one_more_block old new live slot added full free here others n =
     grind (arith, inserted_is old new slot added here others, sum_insert)
+
+pub ruleset insert_facts = (few_clauses, stored_is, one_block_more)

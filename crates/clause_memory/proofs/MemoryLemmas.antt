@@ -9,7 +9,7 @@ use Rattle.clause_memory.proofs.ClauseLemmas.{get_clause, clause_if, clause_len,
 use Rattle.clause_memory.specs.{Blocks.cells_for, Code.Cells.written, declared.kind.Kind.Kind}
 use Rattle.clause_memory.specs.Code.{Fields.IsMemory, Free.LeadsTo, Free.link_at, Free.link_of}
 use Rattle.clause_memory.specs.Code.Cells.{IsBlock, blocks_in, clause_at, clauses_in, kept_as}
-use Rattle.clause_memory.specs.Code.Cells.{kept_in, is_rest, kind_at, rests, size_at, start_of}
+use Rattle.clause_memory.specs.Code.Cells.{literal_words, kept_in, is_rest, kind_at, rests, size_at, start_of}
 use Rattle.clause_memory.specs.declared.kind.Kind.TheVariants.{Live, Free, Rest}
 use Rattle.clause_memory.proofs.BlockLemmas.{blocks_same, rests_alike}
 use Rattle.clause_memory.proofs.FreeLemmas.{HasHead, first_of, link_low, listed_still, listed_with}
@@ -17,7 +17,7 @@ use Rattle.clause_memory.proofs.{FreeLemmas.listed_without, RewatchLemmas.named_
 use Rattle.clause_memory.proofs.CellLemmas.{IsChanged, begins_inside, block_same, clause_same}
 use Rattle.clause_memory.proofs.CellLemmas.{free_begins, kept_same, part_blank, size_same}
 use Rattle.clause_memory.proofs.CellLemmas.{start_begins, start_le, start_same}
-use Rattle.cnf_base.proofs.MapLemmas.{same_maps, get_insert, get_remove, insert_twice}
+use Rattle.cnf_base.proofs.MapLemmas.{same_maps, get_insert, get_remove, insert_twice, sum_empty}
 use Rattle.cnf_base.{specs.Literals.Clause, specs.Literals.has, proofs.SetLemmas.has_tail}
 
 -- ---- What a change leaves
@@ -40,7 +40,7 @@ module _ {ks ls : List Kind} {words now : List ℕ} {heads : ℕ → Option ℕ}
 
   block_still : (t : ℕ) → (t ≡ s → ⊥) → kind_at ls t ≡ Live
       → IsBlock ls t (cells_for (size_at now t))
-  block_still t ne live = grind (arith, size_still t ne live, block_same is.alike (memory.block t (live_before t ne live)))
+  block_still t ne live = grind (arith, size_still)
 
   known_still : (t : ℕ) → (t ≡ s → ⊥) → kind_at ls t ≡ Live
       → is_some (heads (cells_for (size_at now t))) ≡ true
@@ -55,8 +55,7 @@ module _ {ks ls : List Kind} {words now : List ℕ} {heads : ℕ → Option ℕ}
   -- a cell of another block keeps nothing, and a further one of this block is one that goes on
   clean_still : (u : ℕ) → u < length ls → kind_at ls u ≢ Live → (u ≡ s → ⊥)
       → (start_of ks u ≡ s → kind_at ls u ≡ Rest → kept_in ls now u ≡ 0) → kept_in ls now u ≡ 0
-  clean_still u inside differs ne own =
-      grind (arith, start_begins, kept_same is u, memory.clean u, is.others u ne)
+  clean_still u inside differs ne own = grind (arith, start_begins, kept_same is u, is.others u ne)
 
 -- ---- A clause that is put in
 
@@ -245,7 +244,7 @@ module _ {ks : List Kind} {words : List ℕ} {heads : ℕ → Option ℕ} (memor
 
   pub swapped_clause : clause_at swapped s ≡ swap (clause_at words s) a b
   swapped_clause =
-      grind (arith, clause_len memory s live, get_or-drop, get_or-take, swapped_is, drop-set-add, take_set, swap_is (clause_at words s), get_or-set_other)
+      grind (arith, clause_len, get_or-drop, get_or-take, swapped_is, drop-set-add, take_set, swap_is (clause_at words s), get_or-set_other)
 
   pub swapped_clauses : clauses_in ks swapped
       ≡ maps.insert (clauses_in ks words) s (swap (clause_at words s) a b)
@@ -282,4 +281,30 @@ module _ {ks : List Kind} {words : List ℕ} {heads : ℕ → Option ℕ} (memor
 
   pub rewritten_clauses : clauses_in ks rewritten ≡ maps.insert (clauses_in ks words) s (swap (swap (clause_at words s) 0 (1 - from)) 1 to)
   rewritten_clauses =
-      grind (arith, same_size, rewritten_is, swapped_clauses, turned_memory, insert_twice, swapped_clause)
+      search (rules, same_size, rewritten_is, swapped_clauses, turned_memory, insert_twice, swapped_clause)
+
+-- ---- A memory of no block
+
+pub empty_memory : (heads : ℕ → Option ℕ) → ((n : ℕ) → heads n ≡ None) → IsMemory [] [] heads
+empty_memory heads none = record {
+  whole = refl;
+  front = refl;
+  few = omega arith;
+  block = grind arith;
+  known = grind arith;
+  free = record {
+    list = λ n. [];
+    leads = grind arith;
+    once = λ n. tt;
+    free = grind arith;
+    block = grind arith;
+    all = λ s free. absurd (grind arith);
+  };
+  clean = grind arith;
+}
+
+pub empty_maps : (clauses_in [] [] ≡ maps.empty) × (blocks_in [] ≡ maps.empty) × (literal_words [] [] ≡ 0)
+unfolding clauses_in blocks_in literal_words
+empty_maps = (refl, refl, refl)
+
+pub ruleset new_facts = (empty_memory, empty_maps, sum_empty)

@@ -29,7 +29,7 @@ module _ (xs : List ℕ) (n to first second l : ℕ) (past : 2 ≤ to) (inside :
   pub three_written : front ++ (set (set (set block 0 first) 1 second) to l ++ rest)
       ≡ set (set (set xs n first) (n + 1) second) (n + to) l
   three_written =
-      grind (arith, len, set-append_left, whole, written (drop n xs) 0 first, written (set (drop n xs) 0 first) 1 second, written (set (set (drop n xs) 0 first) 1 second) to l, take-append-drop n xs)
+      grind (arith, len, set-append_left, whole, written (drop n xs) 0 first, written (set (drop n xs) 0 first) 1 second, written, take-append-drop n xs)
 
 -- the same by exchanges: the other one of the first two comes first, and then the one behind them
 module _ (xs : List ℕ) (n from to l other next : ℕ) (low : from < 2) (past : 2 ≤ to) (inside : n + to < length xs)
@@ -50,9 +50,6 @@ module _ (xs : List ℕ) (n from to l other next : ℕ) (low : from < 2) (past :
   move =
       swapped_from_swap turned moved (n + 1) (n + to) 0 (grind (arith, length-swap)) (grind (arith, length-swap)) refl
 
-  turned_second : get_or turned (n + 1) 0 ≡ l
-  turned_second = grind (arith, turn)
-
   pub named_is : named ≡ moved
   named_is =
-      same_number_lists named moved (grind (arith, length-set, length-swap)) (λ k h. grind (arith, turn, move, turned_second, length-set, length-swap, get_or-set_same, get_or-set_other))
+      grind (arith, same_number_lists, length-set, length-swap, turn, move, get_or-set_same, get_or-set_other)

@@ -1,7 +1,7 @@
 -- A memory that gets a further block.
 use Rattle.std.proofs.Common.{◌≡◌, ℕ, ◌+◌, ◌-◌, ◌*◌, ◌<◌, ◌≤◌, true, false, ◌≢◌, cond, eqb, Option}
 use Rattle.std.proofs.Common.{Some, None, is_some, List, [], ◌∷◌, ◌++◌, length, take, drop, get_or}
-use Rattle.std.proofs.Common.{refl, ap, arith, inl, inr, replicate, length-append, length-drop, set}
+use Rattle.std.proofs.Common.{refl, ap, arith, rules, inl, inr, replicate, length-append, length-drop, set}
 use Rattle.std.proofs.lemmas.{Bool.cases_eq, List.take-append-le, Grind.common_steps}
 use Rattle.std.proofs.lemmas.List.{drop-append-le, get_or-append_right, get_or-replicate}
 use Rattle.std.proofs.lemmas.List.{get_or_append_left, get_or_past, length-replicate}
@@ -53,7 +53,7 @@ module _ {ks : List Kind} {words : List ℕ} {heads heads_now : ℕ → Option �
 
   rest_kind : (u : ℕ) → end < u → kind_at longer u ≡ Rest
   rest_kind u high =
-      grind (arith, get_or-append_right, get_or-replicate, get_or_past, length-replicate)
+      search (rules, get_or-append_right, get_or-replicate, get_or_past, length-replicate)
 
   old_start : (u : ℕ) → u < end → start_of longer u ≡ start_of ks u
   old_start u low = grind (arith, start_alike, old_kind)
@@ -91,7 +91,7 @@ module _ {ks : List Kind} {words : List ℕ} {heads heads_now : ℕ → Option �
 
   new_kept : (u : ℕ) → end ≤ u → u < length longer → kept_in longer wider u ≡ 0
   new_kept u high inside =
-      grind (arith, longer_len, wider_len, new_kind, rest_kind u, part_blank wider (4 * u) 4, part_blank wider (4 * u + 2) 2, get_or-append_right, get_or-replicate)
+      grind (arith, longer_len, wider_len, new_kind, part_blank wider (4 * u) 4, part_blank wider (4 * u + 2) 2, get_or-append_right, get_or-replicate)
 
   -- ---- The lists
 
@@ -130,7 +130,7 @@ module _ {ks : List Kind} {words : List ℕ} {heads heads_now : ℕ → Option �
 
   pub made_clauses : clauses_in longer wider ≡ clauses_in ks words
   made_clauses =
-      grind (arith, old_kind, new_kind, rest_kind, same_maps, get_clause, old_size, old_part)
+      search (rules, old_kind, new_kind, rest_kind, same_maps, get_clause, old_size, old_part)
 
   -- ---- The blocks
 
@@ -148,6 +148,13 @@ none_free {ks} {words} {heads} memory n none s here = by_kind (kind_at ks s) ref
     by_kind Free is = let w = memory.free.all s is in
         grind (arith, none_of, block_is (memory.free.block w.0 s w.1))
     by_kind Rest is = grind (arith, get_block)
+
+-- room was made for the link to a further list
+pub memory_widened : {ks : List Kind} {words : List ℕ} {heads heads_now : ℕ → Option ℕ}
+    → IsMemory ks words heads → ((n : ℕ) → link_of (heads_now n) ≡ link_of (heads n))
+    → ((n : ℕ) → is_some (heads n) ≡ true → is_some (heads_now n) ≡ true)
+    → IsMemory ks words heads_now
+memory_widened memory same kept = grind arith
 
 -- ---- A clause behind all others
 

@@ -1,6 +1,6 @@
 -- The clauses in slots, as a finite map.
 use Rattle.std.proofs.Common.{◌≡◌, ℕ, zero, suc, ◌+◌, ◌-◌, ◌<◌, ◌≤◌, true, Option, Some, None}
-use Rattle.std.proofs.Common.{is_some, option_map, List, [], ◌∷◌, length, get_or, sym, arith}
+use Rattle.std.proofs.Common.{refl, is_some, option_map, List, [], ◌∷◌, length, get_or, sym, arith}
 use Rattle.std.{proofs.Common.nat_cmp, proofs.lemmas.List.Sums.sum_by-cons, specs.Cmp.nat_cmp_total}
 use Rattle.std.specs.FinMap as maps
 use Rattle.slab.specs.Slab.{Slab, Updates}
@@ -42,11 +42,12 @@ few_from (slot ∷ rest) n end below =
     let few = few_from rest (n + 1) end (λ k some. grind (arith, below (suc k))) in
     grind (arith, below 0, maps.len-insert nat_cmp_total (held_from (n + 1) rest) n)
 
-pub few_held : (slots : List (Option (SmallVec ℕ))) (end : ℕ) → IsSlots slots end
+pub few_held : (slots : List (Option (SmallVec ℕ)))
+    → ((s : ℕ) → is_some (get_or slots s None) ≡ true → s < 4294967295)
     → maps.len (held_in slots) ≤ 4294967295
 unfolding held_in
-few_held slots end is =
-    grind (arith, few_from slots 0 end (λ k some. let low = is.below k some in omega arith))
+few_held slots low =
+    let few = few_from slots 0 4294967295 (λ k some. let l = low k some in omega arith) in omega arith
 
 -- ---- How many literals they have
 
@@ -80,4 +81,12 @@ pub slots_with : (old new : Slab (SmallVec ℕ)) (slot end later : ℕ) (v : Sma
     → later ≤ 4294967295 → IsSlots new.slots later
 slots_with old new slot end later v updates is low more few = grind arith
 
--- ---- What is seen
+-- where there are no slots
+pub none_held : (held_in [] ≡ maps.empty) × (slot_literals [] ≡ 0)
+unfolding held_in slot_literals
+none_held = (refl, refl)
+
+-- what functions of the memory cite
+pub ruleset held_facts = (held_at, few_held, held_with, held_without, none_held)
+
+pub ruleset slot_facts = (held_facts, slots_stored, slots_with)

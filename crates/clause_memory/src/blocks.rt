@@ -17,7 +17,7 @@ use crate::words::{exchange, literals, rewrite};
 use cnf_base::{Lit, OutOfMemory};
 use std::alloc::Global;
 use std::marker::Model;
-use tables::Table;
+use tables::ByKey;
 
 /// The live clauses of a proof checker, each in a slot that the memory picks: the literals of a
 /// clause behind its header, in one array of words. A slot says where the block of its clause
@@ -36,11 +36,11 @@ pub struct Blocks {
     kinds: Vec<Kind>,
     words: Vec<Lit>,
     /// By number of cells the link to the first free block.
-    heads: Table<u32>,
+    heads: ByKey<u32>,
 }
 
 impl Model for Blocks {
-    ghost use Rattle.tables.specs.Table.{at};
+    ghost use Rattle.tables.specs.ByKey.{at};
     ghost use Rattle.clause_memory.specs.Blocks.{BlocksState};
     ghost use Rattle.clause_memory.specs.Code.Fields.{IsMemory, blocks_code, seen_as};
 
@@ -95,6 +95,7 @@ impl Blocks {
 impl Memory for Blocks {
     ghost seen = { memory_of };
 
+    #[tactic(auto, using(crate::proofs::MemoryLemmas::new_facts))]
     fn new(alloc: Global) -> Self
         ensures live { result.live ≡ maps.empty }
         ensures stored { result.stored ≡ 0 }
@@ -104,7 +105,7 @@ impl Memory for Blocks {
         Blocks {
             kinds: Vec::new(alloc),
             words: Vec::new(alloc),
-            heads: Table::new(alloc),
+            heads: ByKey::new(alloc),
         }
     }
 
@@ -114,6 +115,7 @@ impl Memory for Blocks {
     /// # Errors
     ///
     /// Where memory runs out.
+    #[tactic(auto, using(crate::proofs::CountLemmas::insert_facts))]
     fn insert(&mut self, lits: &[Lit]) -> Result<usize, OutOfMemory>
         ensures free { IfOk result (λ slot. maps.get self.old.live slot ≡ None) }
         ensures live { IfOk result (λ slot.
@@ -138,6 +140,7 @@ impl Memory for Blocks {
     }
 
     /// Removes the clause in the slot. Its block waits. It takes no memory.
+    #[tactic(auto, using(crate::proofs::ClauseLemmas::seen_facts))]
     fn remove(&mut self, slot: usize)
         requires { IsSome (maps.get self.old.live slot) }
         ensures live { self.new.live ≡ maps.remove self.old.live slot }
@@ -161,10 +164,12 @@ impl Memory for Blocks {
         }
     }
 
+    #[tactic(auto, using(crate::proofs::ClauseLemmas::seen_facts))]
     fn end(&self) -> usize {
         self.kinds.len()
     }
 
+    #[tactic(auto, using(crate::proofs::ClauseLemmas::seen_facts))]
     fn recall_invariant(&self) {
         let _len = self.kinds.len();
     }

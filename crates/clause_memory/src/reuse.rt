@@ -2,7 +2,7 @@
 
 ghost use Rattle.std.specs.Prelude.{◌≡◌, ℕ, ◌+◌, ◌≤◌, length, Some, None};
 ghost use Rattle.std.specs.FinMap as maps;
-ghost use Rattle.tables.specs.Table.{at};
+ghost use Rattle.tables.specs.ByKey.{at};
 ghost use Rattle.clause_memory.specs.Blocks.{cells_for};
 ghost use Rattle.clause_memory.specs.Code.Fields.{IsMemory};
 ghost use Rattle.clause_memory.specs.Code.Cells.{blocks_in, clauses_in, kind_at};
@@ -11,13 +11,13 @@ ghost use Rattle.clause_memory.specs.declared.kind.Kind.TheVariants.{Live};
 use crate::kind::Kind;
 use crate::words::{CELL, cells, link, size, wipe, write_clause, write_link};
 use cnf_base::Lit;
-use tables::Table;
+use tables::ByKey;
 
 /// Puts a clause into the first block of the list of free ones that have its number of cells.
 pub(crate) fn put_in(
     kinds: &mut Vec<Kind>,
     words: &mut Vec<Lit>,
-    heads: &mut Table<u32>,
+    heads: &mut ByKey<u32>,
     slot: usize,
     lits: &[Lit],
 )
@@ -42,7 +42,7 @@ pub(crate) fn put_in(
 pub(crate) fn take_out(
     kinds: &mut Vec<Kind>,
     words: &mut Vec<Lit>,
-    heads: &mut Table<u32>,
+    heads: &mut ByKey<u32>,
     slot: usize,
 )
     requires memory { IsMemory kinds.old.items words.old.items (at heads.old) }
@@ -53,7 +53,7 @@ pub(crate) fn take_out(
         maps.remove (clauses_in kinds.old.items words.old.items) slot }
 {
     let count = cells(size(words, slot));
-    let first = heads.get(count as u32).unwrap_or(0);
+    let first = heads.get_or(count as u32, 0);
     wipe(words, slot * CELL, count * CELL);
     write_link(words, slot, first as usize);
     kinds[slot] = Kind::Free;

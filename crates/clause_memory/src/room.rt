@@ -3,7 +3,7 @@
 ghost use Rattle.std.specs.Prelude.{◌≡◌, ◌≢◌, ℕ, ◌+◌, ◌*◌, ◌<◌, ◌≤◌, ◌++◌, ◌∷◌, length, Some, None};
 ghost use Rattle.std.specs.Prelude.{IsSome, IfOk, OnErr, replicate, vec_len, vec_capacity};
 ghost use Rattle.std.specs.FinMap as maps;
-ghost use Rattle.tables.specs.Table.{at};
+ghost use Rattle.tables.specs.ByKey.{at};
 ghost use Rattle.clause_memory.specs.Blocks.{AddsFewBlocks, cells_for};
 ghost use Rattle.clause_memory.specs.Code.Fields.{IsMemory};
 ghost use Rattle.clause_memory.specs.Code.Free.{link_of};
@@ -14,7 +14,7 @@ use crate::kind::Kind;
 use crate::reuse::put_in;
 use crate::words::{CELL, MOST, append_clause, cells, grow};
 use cnf_base::{Lit, OutOfMemory};
-use tables::Table;
+use tables::ByKey;
 
 /// A link, which is a cell's number and 1, has four bytes.
 const MOST_CELLS: usize = 4294967295;
@@ -36,7 +36,7 @@ fn append_kinds(kinds: &mut Vec<Kind>, count: usize)
 fn append(
     kinds: &mut Vec<Kind>,
     words: &mut Vec<Lit>,
-    heads: &mut Table<u32>,
+    heads: &mut ByKey<u32>,
     lits: &[Lit],
 ) -> Result<usize, OutOfMemory>
     requires memory { IsMemory kinds.old.items words.old.items (at heads.old) }
@@ -76,7 +76,7 @@ fn append(
 pub(crate) fn place(
     kinds: &mut Vec<Kind>,
     words: &mut Vec<Lit>,
-    heads: &mut Table<u32>,
+    heads: &mut ByKey<u32>,
     lits: &[Lit],
 ) -> Result<usize, OutOfMemory>
     requires memory { IsMemory kinds.old.items words.old.items (at heads.old) }

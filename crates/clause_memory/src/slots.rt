@@ -59,6 +59,7 @@ fn grow(clauses: &mut Slab<SmallVec<Lit, SHORT>>) -> Result<(), OutOfMemory>
 impl Memory for Slots {
     ghost seen = { λ s. s };
 
+    #[tactic(auto, using(crate::proofs::SlotLemmas::slot_facts))]
     fn new(alloc: Global) -> Self {
         Slots {
             alloc,
@@ -67,6 +68,7 @@ impl Memory for Slots {
         }
     }
 
+    #[tactic(auto, using(crate::proofs::SlotLemmas::slot_facts))]
     fn insert(&mut self, lits: &[Lit]) -> Result<usize, OutOfMemory> {
         // The slab gives out no key past the next one, which its contract leaves open.
         let key = self.clauses.vacant_key();
@@ -80,10 +82,12 @@ impl Memory for Slots {
         Ok(slot)
     }
 
+    #[tactic(auto, using(crate::proofs::SlotLemmas::slot_facts))]
     fn remove(&mut self, slot: usize) {
         self.clauses.remove(slot);
     }
 
+    #[tactic(auto, using(crate::proofs::SlotLemmas::slot_facts))]
     fn clause(&self, slot: usize) -> &[Lit] {
         match self.clauses.get(slot) {
             Some(clause) => clause.as_slice(),
@@ -91,7 +95,7 @@ impl Memory for Slots {
         }
     }
 
-    #[tactic(auto, using(crate::proofs::SlotLemmas::held_at))]
+    #[tactic(auto, using(crate::proofs::SlotLemmas::slot_facts))]
     fn at(&self, number: usize) -> Option<&[Lit]> {
         match self.clauses.get(number) {
             Some(clause) => Some(clause.as_slice()),
@@ -99,11 +103,12 @@ impl Memory for Slots {
         }
     }
 
-    #[tactic(auto, using(crate::proofs::SlotLemmas::held_at))]
+    #[tactic(auto, using(crate::proofs::SlotLemmas::slot_facts))]
     fn end(&self) -> usize {
         self.end
     }
 
+    #[tactic(auto, using(crate::proofs::SlotLemmas::slot_facts))]
     fn recall_invariant(&self) {
         let _end = self.end;
     }

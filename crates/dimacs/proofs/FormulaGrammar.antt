@@ -4,6 +4,7 @@ use Rattle.std.proofs.Common.{◌++◌, length, map, Option, None, Some, Result,
 use Rattle.std.proofs.Common.{subst, ◌∙◌, append_assoc, arith, rules, if◌then◌else◌, codes}
 use Rattle.cnf_base.specs.declared.word.Word.TheVariants as words
 use Rattle.cnf_base.specs.declared.token.Token as tokens
+use Rattle.cnf_base.specs.declared.token.Token.TheVariants as token
 use Rattle.std.proofs.lemmas.{List.Folds.list_all-append, List.map-append, Bool.Decides.nat_tests}
 use Rattle.std.specs.{List.flat_map, List.list_all, Fmt.decimal}
 use Rattle.cnf_base.specs.{Literals.Literal, Literals.Clause, Literals.variable, Text.listing_of}
@@ -195,23 +196,16 @@ header_agrees : (lines : Lines) (ts : List Listed) (p : Place) → AreSaid ts (s
     → Agree IsHead (header_of (listing ts p End)) (lines_header lines)
 header_agrees [] [] p s = tt
 header_agrees [] (t ∷ ts) p s = absurd s
-header_agrees ([] ∷ lines) [] p s = no_more lines s
-  where
-    no_more : (lines : Lines) → AreSaid [] (None ∷ said_by lines)
-        → Agree IsHead (header_of (listing [] p End)) (lines_header lines)
-    no_more [] s = tt
-    no_more ([] ∷ lines) s = absurd s
-    no_more ((w ∷ ws) ∷ lines) s = absurd s
+header_agrees ([] ∷ []) [] p s = tt
+header_agrees ([] ∷ [] ∷ lines) [] p s = absurd s
+header_agrees ([] ∷ (w ∷ ws) ∷ lines) [] p s = absurd s
 header_agrees ([] ∷ lines) (t ∷ ts) p s = search (rules, (header_agrees lines ts p s.1))
 header_agrees ((w ∷ ws) ∷ lines) [] p s = absurd s
-header_agrees ((w ∷ ws) ∷ lines) (t ∷ ts) p s = by t.0 s.0
-    (line_agrees lines (listing (t ∷ ts) p End) (w ∷ ws) (record { said = s; ending = refl }))
-  where
-    by : (u : tokens.Token) → IsSaid u (Some (word_of w))
-        → Agree IsHead (part (fixed is_p) (listing ((u, t.1) ∷ ts) p End) after_p)
-        (line_header lines (w ∷ ws))
-        → Agree IsHead (header_of (listing ((u, t.1) ∷ ts) p End)) (line_header lines (w ∷ ws))
-    by u h h2 = grind arith
+header_agrees ((w ∷ ws) ∷ lines) ((token.Word q v, n) ∷ ts) p s =
+    let here : Listing = listing ((token.Word q v, n) ∷ ts) p End in
+    line_agrees lines here (w ∷ ws) (record { said = s; ending = refl })
+header_agrees ((w ∷ ws) ∷ lines) ((token.LineEnd q, n) ∷ ts) p s = absurd s.0
+header_agrees ((w ∷ ws) ∷ lines) ((token.End q, n) ∷ ts) p s = absurd s.0
 
 -- ---- The header's spelling
 
@@ -236,10 +230,8 @@ count_spelled : (limit : ℕ) (line : List (List ℕ)) (n : ℕ) (rest : List (L
 count_spelled limit [] n rest small e = absurd (let bad : None ≡ Some (n, rest) = e in cc)
 count_spelled limit (w ∷ ws) n rest small e =
     let r = went_on (number_in limit (word_of w)) (λ n. Some (n, ws)) (n, rest) e in
-    let same = some_parts (r.0, ws) (n, rest) r.2 in
     let t = number_tested limit (word_of w) r.0 r.1 in
-    let spelled = (number_spelled w false r.0 (omega (arith, t.1)) t.0).0 in
-    grind (arith, same.0, same.1, t.1)
+    grind (arith, number_spelled w false r.0, some_parts (r.0, ws) (n, rest) r.2)
 
 end_spelled : (line : List (List ℕ)) (u : Unit {0}) → end_in line ≡ Some u → line ≡ []
 end_spelled line u h = search rules
@@ -262,16 +254,10 @@ line_spelled lines line h rest e0 =
     let v = count_spelled 268435455 b.0 c.0.0 c.0.1 (omega arith) c.1 in
     let n = count_spelled 4294967295 c.0.1 d.0.0 d.0.1 (omega arith) d.1 in
     let none = end_spelled d.0.1 z.0 z.1 in
-    finish p.0 q.0 a.0 b.0 c.0.0 c.0.1 d.0.0 d.0.1 p.1 (p_spelled p.0 (p_tested (word_of p.0) p.2))
-    q.1 (cnf_spelled q.0 (cnf_tested (word_of q.0) q.2)) v.0 v.1 n.0 n.1 none
-    (some_parts (record { vars = c.0.0; clauses = d.0.0 }, lines) (h, rest) z.2)
-  where
-    finish : (p q : List ℕ) (a b : List (List ℕ)) (vars : ℕ) (c : List (List ℕ)) (clauses : ℕ)
-        (d : List (List ℕ)) → line ≡ p ∷ a → p ≡ codes "p" → a ≡ q ∷ b → q ≡ codes "cnf" → b
-        ≡ decimal vars ∷ c → vars ≤ 268435455 → c ≡ decimal clauses ∷ d → clauses ≤ 4294967295 → d
-        ≡ [] → (record { vars = vars; clauses = clauses } ≡ h) × (lines ≡ rest)
-        → (line ≡ header_words h) × IsHeader h × (rest ≡ lines)
-    finish p q a b vars c clauses d e f g i j low k high m same = grind arith
+    let first = p_spelled p.0 (p_tested (word_of p.0) p.2) in
+    let second = cnf_spelled q.0 (cnf_tested (word_of q.0) q.2) in
+    let same = some_parts (record { vars = c.0.0; clauses = d.0.0 }, lines) (h, rest) z.2 in
+    grind arith
 
 -- the lines begin with the header's words
 header_spelled : (lines : Lines) (h : Header) (rest : Lines) → lines_header lines ≡ Some (h, rest)
@@ -374,15 +360,20 @@ module _ (h : Header) (small : h.vars ≤ 268435455) where
   clause_taken [] acc k ws cs missing are later = search rules
   clause_taken (l ∷ ls) acc k ws cs missing are later =
       let r = both (is_literal h.vars l) (list_all (is_literal h.vars) ls) are in
-      rw (judged_literal h small k l missing r.0) (grind (arith, append_assoc, clause_taken ls (acc ++ l ∷ []) k ws cs missing r.1 later))
+      rw (judged_literal h small k l missing r.0)
+      (grind (arith, append_assoc, clause_taken ls (acc ++ l ∷ []) k ws cs missing r.1 later))
 
   clauses_taken : (cs : List Clause) (k : ℕ) → h.clauses ≡ k + length cs
       → list_all (list_all (is_literal h.vars)) cs ≡ true
       → clauses_in h k [] (flat_map literal_words cs) ≡ Some cs
   clauses_taken [] k count are = search rules
-  clauses_taken (c ∷ cs) k count are =
-      let r = both (list_all (is_literal h.vars) c) (list_all (list_all (is_literal h.vars)) cs) are in
-      clause_taken c [] k (flat_map literal_words cs) cs (grind (arith, nat_tests)) r.0 (clauses_taken cs (k + 1) (omega arith) r.1)
+  clauses_taken (c ∷ cs) k count are = grind (
+    arith,
+    nat_tests,
+    both,
+    clauses_taken cs (k + 1),
+    clause_taken c [] k (flat_map literal_words cs) cs,
+  )
 
 -- ---- A whole formula
 
@@ -393,7 +384,8 @@ text_clauses : (h : Header) (l : Listing) (lines : Lines) → IsAfter lines l
     → clean (body_of h 0 [] l) ≡ clauses_in h 0 [] (all_words lines)
 text_clauses h l lines is = search (rules, lines_clauses)
 
-formula_words : (h : Header) (clauses : List Clause) (r : Result (Header × Listing) (Fault × List ℕ))
+formula_words : (h : Header) (clauses : List Clause)
+    (r : Result (Header × Listing) (Fault × List ℕ))
     (o : Option (Header × Lines)) → Agree IsHead r o → formula_with r ≡ faultless_formula h clauses
     → (rest : Lines) × (o ≡ Some (h, rest)) × (clauses_in h 0 [] (all_words rest) ≡ Some clauses)
 formula_words h clauses (Ok x) (Some y) a e =
@@ -407,11 +399,7 @@ formula_taken : (h : Header) (clauses : List Clause)
     → Agree IsHead r o → o ≡ Some (h, rest) → clauses_in h 0 [] (all_words rest) ≡ Some clauses
     → formula_with r ≡ faultless_formula h clauses
 formula_taken h clauses (Ok x) (Some y) rest a o e =
-    let given = some_parts y (h, rest) o in let body = text_clauses h x.1 y.1 a.1 in
-    ap (λ g. formula_with (Ok (g, x.1))) (a.0 ∙ given.0) ∙ by (body_of h 0 [] x.1) (grind (arith, body, given.1, e))
-  where
-    by : (b : Body) → clean b ≡ Some clauses → record { header = Some h; clauses = b.clauses; fault = b.fault } ≡ faultless_formula h clauses
-    by b e = grind arith
+    grind (arith, some_parts y (h, rest) o, text_clauses h x.1 y.1)
 formula_taken h clauses r o rest h2 h3 h4 = grind (arith, rest)
 
 text_header : (bytes : List ℕ)
@@ -430,14 +418,7 @@ read_is_written bytes h clauses e =
     (lines_header (word_lines bytes)) (text_header bytes) e in
     let s = header_spelled (word_lines bytes) h r.0 r.1 in
     let c = clauses_spelled h s.1.vars (all_words r.0) 0 [] clauses r.2 (omega arith) refl in
-    let count = c.count in (
-      record { vars = s.1.vars; count = omega arith; most = s.1.clauses; literals = c.literals },
-      record {
-        body = filled_lines r.0;
-        header_first = s.0;
-        clauses_after = filled_words r.0 ∙ c.words;
-      },
-    )
+    grind (arith, filled_words)
 
 written_is_read : (bytes : List ℕ) (h : Header) (clauses : List Clause)
     → IsFormula h clauses → FormulaText (word_lines bytes) h clauses

@@ -9,6 +9,7 @@ use Rattle.cnf_base.specs.declared.{input.ReadFailed.ReadFailed as Cut, word.Wor
 use Rattle.cnf_base.specs.declared.{fault.TextFault.TextFault, fault.Fault.Fault, token.Token.Token}
 use Rattle.cnf_base.specs.declared.fault.Fault.TheVariants.{Text, ReadFailed, OutOfMemory}
 use Rattle.cnf_base.proofs.ListingLemmas.{Gives-from, listing_at-from}
+use Rattle.cnf_base.proofs.TokenLemmas.{GivesNext}
 use Rattle.cnf_base.proofs.StreamLemmas.{Along-then, Along-map, Along-none}
 use Rattle.dimacs.specs.Reading.{FormulaReading, clauses_to_come, body_unless_ended, GivesClause}
 use Rattle.dimacs.specs.Code.Reading.{body_left, EndsBody, ends_left}
@@ -53,7 +54,7 @@ Between-start h complete s at_hand = record {
 }
 
 module _ (h : Header) (complete : ℕ) (old now new : Stream) (before at_hand : List Literal) (so_far : Between h complete old now before at_hand) where
-  pub Between-line : (p : Place) → Along now new (λ i j. Gives (Ok (token.LineEnd p)) (listing_at now.place i) (listing_at new.place j) j)
+  pub Between-line : (p : Place) → GivesNext (Ok (token.LineEnd p)) now new
       → most_to_come new < most_to_come now → tells_failure new.reader ≡ tells_failure now.reader → Between h complete old new before at_hand
   Between-line p gives fewer mark = grind (arith, Along-then)
 
@@ -66,7 +67,7 @@ module _ (h : Header) (complete : ℕ) (old now new : Stream) (before at_hand : 
   passes : (xs ys : List ℕ) (j : Suffix) → xs ≡ ys → PassesNoEnd ys j → PassesNoEnd xs j
   passes xs ys j is h = let P : List ℕ → Type 0 = λ x. PassesNoEnd x j in subst P (sym is) h
 
-  module _ (p : Place) (w : Word) (gives : Along now new (λ i j. Gives (Ok (token.Word p w)) (listing_at now.place i) (listing_at new.place j) j)) where
+  module _ (p : Place) (w : Word) (gives : GivesNext (Ok (token.Word p w)) now new) where
     abbrev follows : Suffix → Result (Option Literal) TextFault → Body
     follows j r = body_on_word complete at_hand p r (λ c ls. body_of h c ls (listing_at new.place j))
 
@@ -99,9 +100,9 @@ module _ (h : Header) (complete : ℕ) (old now new : Stream) (before at_hand : 
   rest-from result i j k gives is = passes _ (ends_after h complete (listing_at now.place j)) k is
       (ends_among-from h k.offset complete _ (Gives-from result (listing_at now.place j) new.place k gives))
 
-  pub Between-end : (p : Place) (result : Result Bool Fault) → Along now new (λ i j. Gives (Ok (token.End p)) (listing_at now.place i) (listing_at new.place j) j)
+  pub Between-end : (p : Place) (result : Result Bool Fault) → GivesNext (Ok (token.End p)) now new
       → EndsBody result (body_at_end h complete at_hand p End) → Gave result at_hand
   Between-end p result gives ends = Along-then old now new _ _ _ so_far.text gives (λ i j k m q r. grind (arith, ends_so, gives_no_end, ends_no_clause, rest-from))
 
-  pub Between-failed : (cut : Cut) → Along now new (λ i j. Gives (Err cut) (listing_at now.place i) (listing_at new.place j) j) → Gave (Err ReadFailed) at_hand
+  pub Between-failed : (cut : Cut) → GivesNext (Err cut) now new → Gave (Err ReadFailed) at_hand
   Between-failed cut gives = grind (arith, Along-then, gives_fault, rest-from)

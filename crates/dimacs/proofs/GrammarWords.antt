@@ -1,6 +1,6 @@
 -- Tokens as the words of lines, where places don't matter, and how words are spelled.
-use Rattle.std.proofs.Common.{◌≡◌, ◌⊎◌, inl, inr, ℕ, ◌+◌, ◌*◌, ◌/◌, ◌%◌, ◌≤◌, nat_le, cond, Bool}
-use Rattle.std.proofs.Common.{true, false, List, [], ◌∷◌, ◌++◌, Option, None, Some, refl, ap, subst}
+use Rattle.std.proofs.Common.{◌≡◌, ◌⊎◌, inl, inr, ℕ, ◌+◌, ◌*◌, ◌≤◌, nat_le, cond}
+use Rattle.std.proofs.Common.{true, List, [], ◌∷◌, ◌++◌, Option, None, Some, refl, ap, subst}
 use Rattle.std.proofs.Common.{◌∙◌, arith, rules, ◌&&◌, codes}
 use Rattle.cnf_base.specs.declared.word.Word.TheVariants as words
 use Rattle.cnf_base.specs.declared.token.Token as tokens
@@ -9,10 +9,10 @@ use Rattle.std.proofs.lemmas.{Bool.Decides.nat_tests, Fmt.decimal_digit}
 use Rattle.std.specs.{Bool.then_some, List.flat_map, List.list_all}
 use Rattle.cnf_base.specs.{Literals.Literal, Literals.variable, Grammar.word_lines}
 use Rattle.cnf_base.specs.{Printing.input_of, Printing.literal_text, Text.Listed, Text.listing_of}
-use Rattle.cnf_base.specs.Words.{number, number_literal, word_of}
+use Rattle.cnf_base.specs.Words.{number_literal, word_of}
 use Rattle.cnf_base.specs.declared.word.{Number.Number, Word.Word}
 use Rattle.cnf_base.proofs.GrammarLemmas.{said, is_inside, all_said, line_said, text_said}
-use Rattle.cnf_base.proofs.GrammarLemmas.{listing_says, number_text, number_spelled}
+use Rattle.cnf_base.proofs.GrammarLemmas.{listing_says, number_spelled}
 use Rattle.cnf_base.proofs.PrintLemmas.{both}
 use Rattle.dimacs.specs.Grammar.{filled_lines, all_words}
 
@@ -112,40 +112,14 @@ limited n x l e = search rules
 
 pub literal_spelled : (w : List ℕ) (n : Number) (l : Literal) → word_of w ≡ words.Number n
     → number_literal n ≡ Some l → IsLiteralNumber w n l
-literal_spelled w n l is e = by n.is_negative n.size is e
-  where
-    by : (s : Bool) (m : ℕ) → word_of w ≡ words.Number (number s m)
-        → then_some (nat_le 1 m && nat_le m 268435455) (cond s (2 * m + 1) (2 * m)) ≡ Some l
-        → IsLiteralNumber w (number s m) l
-    by true m is e =
-        let r = limited m (2 * m + 1) l e in let a = r.2 in let high = r.1 in
-        let half : l / 2 ≡ m = omega arith in let odd : l % 2 ≡ 1 = omega arith in
-        let spelled = (number_spelled w true m (omega arith) is).0 in
-        record { text = grind (arith, nat_tests); is = half; some = r.0; within = r.1 }
-    by false m is e =
-        let r = limited m (2 * m) l e in let a = r.2 in let high = r.1 in
-        let half : l / 2 ≡ m = omega arith in let even : l % 2 ≡ 0 = omega arith in
-        let spelled = (number_spelled w false m (omega arith) is).0 in
-        record { text = grind (arith, nat_tests); is = half; some = r.0; within = r.1 }
+literal_spelled w n l is e =
+    let r = limited n.size (cond n.is_negative (2 * n.size + 1) (2 * n.size)) l e in
+    let spelled = number_spelled w n.is_negative n.size (omega (arith, r.1)) is in
+    grind (arith, nat_tests)
 
 -- the only number within the limit that names no literal
 pub zero_spelled : (w : List ℕ) (n : Number) → word_of w ≡ words.Number n → n.size ≤ 268435455
     → number_literal n ≡ None → w ≡ codes "0"
-zero_spelled w n is high e = by n.is_negative n.size is high e
-  where
-    none_within : (a b : Bool) (x : ℕ) → b ≡ true → then_some (a && b) x ≡ None → a ≡ false
-    none_within a b x h h2 = grind arith
-
-    by : (s : Bool) (m : ℕ) → word_of w ≡ words.Number (number s m) → m ≤ 268435455
-        → then_some (nat_le 1 m && nat_le m 268435455) (cond s (2 * m + 1) (2 * m)) ≡ None
-        → w ≡ codes "0"
-    by s m is high e =
-        let within : nat_le m 268435455 ≡ true = grind (arith, nat_tests) in
-        let test = none_within (nat_le 1 m) (nat_le m 268435455) (cond s (2 * m + 1) (2 * m)) within
-        e in
-        let zero : m ≡ 0 = grind (arith, nat_tests) in
-        signed s m zero (number_spelled w s m (omega arith) is)
-      where
-        signed : (s : Bool) (m : ℕ) → m ≡ 0 → (w ≡ number_text s m) × (s ≡ true → 1 ≤ m)
-            → w ≡ codes "0"
-        signed s m h h2 = grind (arith, decimal_digit)
+zero_spelled w n is high e =
+    let spelled = number_spelled w n.is_negative n.size (omega (arith, high)) is in
+    grind (arith, decimal_digit, nat_tests)

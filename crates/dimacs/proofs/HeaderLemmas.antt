@@ -1,13 +1,14 @@
 -- A header's parts, one after another.
-use Rattle.std.proofs.Common.{arith, ◌≡◌, ℕ, cond, Bool, List, ◌∷◌, refl, sym, ap, subst, ◌∙◌}
+use Rattle.std.proofs.Common.{arith, ◌≡◌, ℕ, cond, Bool, List, ◌∷◌, sym, ap, subst, ◌∙◌}
 use Rattle.std.proofs.Common.{rules, if◌then◌else◌, Result, Ok, Err}
 use Rattle.cnf_base.specs.declared.token.Token.TheVariants as token
 use Rattle.cnf_base.specs.{Stream.Suffix, Stream.Stream, Stream.Along, Text.Listed, Text.Listing}
 use Rattle.cnf_base.specs.{Text.listing_at, Text.Gives, declared.input.ReadFailed.ReadFailed as Cut}
 use Rattle.cnf_base.specs.declared.{place.Place.Place, word.Word.Word, token.Token.Token}
-use Rattle.cnf_base.specs.declared.fault.Fault.{Fault, TheVariants.Text, TheVariants.ReadFailed}
+use Rattle.cnf_base.specs.declared.fault.Fault.{Fault, TheVariants.Text}
 use Rattle.cnf_base.specs.declared.fault.TextFault.TheVariants.{BadHeader}
 use Rattle.cnf_base.proofs.ListingLemmas.{EndFrom, Gives-from}
+use Rattle.cnf_base.proofs.TokenLemmas.{GivesNext}
 use Rattle.cnf_base.proofs.StreamLemmas.{Along-then, Along-map, Along-none}
 use Rattle.dimacs.specs.Formula.{drop_line_ends, skip_blank, next_word, is_p, is_cnf, fixed}
 use Rattle.dimacs.specs.Formula.{count_of, count, line_end, and_then, part, header_of, formula_at}
@@ -96,16 +97,37 @@ module _ {A : Type 0} (old now new : Stream) (test : Listing → Result A Fault)
       → Along old new (λ i j. GivesHeader (Err f) (header_of (listing_at old.place i)) (listing_at new.place j) j)
   Heads-fault f run = grind (arith, Along-then)
 
+-- after each of the parts
+module _ (a b : Stream) (p : Part a b skip_blank (fixed is_p) (λ l. Ok l)) where
+  pub Heads-p : Heads a b after_p
+  Heads-p = Heads-part a a b (fixed is_p) skip_blank after_p (Heads-start a) (λ l. l) p
+
+  module _ (c : Stream) (cnf : Part b c (λ l. l) (fixed is_cnf) (λ l. Ok l)) where
+    pub Heads-cnf : Heads a c after_cnf
+    Heads-cnf = Heads-part a b c (fixed is_cnf) (λ l. l) after_cnf Heads-p (λ l. l) cnf
+
+    module _ (d : Stream) (vars : ℕ)
+        (first : Part c d before_count (count 268435455) (λ l. Ok (vars, l))) where
+      pub Heads-vars : Heads a d (λ l. after_vars (vars, l))
+      Heads-vars =
+          Heads-part a c d (count 268435455) before_count after_vars Heads-cnf (λ l. (vars, l)) first
+
+      pub Heads-clauses : (e : Stream) (clauses : ℕ)
+          → Part d e before_count (count 4294967295) (λ l. Ok (clauses, l))
+          → Heads a e (λ l. after_clauses vars (clauses, l))
+      Heads-clauses e clauses second = Heads-part a d e (count 4294967295) before_count
+          (after_clauses vars) Heads-vars (λ l. (clauses, l)) second
+
 -- ---- Blank lines
 
 abbrev pub Blank : Stream → Stream → Type 0
 Blank old now = Along old now (λ i j. skip_blank (listing_at old.place i) ≡ skip_blank (listing_at now.place j))
 
 module _ (old now new : Stream) (so_far : Blank old now) where
-  pub Blank-line : (p : Place) → Along now new (λ i j. Gives (Ok (token.LineEnd p)) (listing_at now.place i) (listing_at new.place j) j) → Blank old new
+  pub Blank-line : (p : Place) → GivesNext (Ok (token.LineEnd p)) now new → Blank old new
   Blank-line p gives = Along-then old now new _ _ _ so_far gives (λ i j k m q r. q ∙ ap skip_blank r)
 
-  module _ (result : Result Token Cut) (gives : Along now new (λ i j. Gives result (listing_at now.place i) (listing_at new.place j) j)) where
+  module _ (result : Result Token Cut) (gives : GivesNext result now new) where
     -- what the first word after blank lines is, and that its end wasn't passed
     abbrev First : Result Token Cut → (Listing → Result (Place × Word × Listing) Fault) → Type 0
     First t x = (l m : Listing) (k : Suffix) → Gives t l m k → next_word (skip_blank l) ≡ x m
@@ -117,15 +139,6 @@ module _ (old now new : Stream) (so_far : Blank old now) where
       (let P : Listing → Type 0 = λ l. PassesNoEnd (first_end l.tokens) k in
           subst P (sym q) (blank_passed result (listing_at now.place j) new.place k r)),
     ))
-
-pub first_word : (p : Place) (w : Word) (l m : Listing) (k : Suffix) → Gives (Ok (token.Word p w)) l m k → next_word (skip_blank l) ≡ Ok (p, w, m)
-first_word p w l m k g = ap (λ x. next_word (skip_blank x)) g
-
-pub first_end_of_input : (p : Place) (l m : Listing) (k : Suffix) → Gives (Ok (token.End p)) l m k → next_word (skip_blank l) ≡ Err (Text BadHeader p)
-first_end_of_input p l m k g = ap (λ x. next_word (skip_blank x)) g.1
-
-pub first_failed : (cut : Cut) (l m : Listing) (k : Suffix) → Gives (Err cut) l m k → next_word (skip_blank l) ≡ Err ReadFailed
-first_failed cut l m k g = let none = g.1 in let failed = g.2 in rw (none, failed) refl
 
 -- ---- A fault in the header is the formula's
 

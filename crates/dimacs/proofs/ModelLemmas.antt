@@ -1,5 +1,5 @@
 -- A set of literals, where none is there with its complement.
-use Rattle.std.proofs.Common.{◌≡◌, ℕ, eqb, false, cond, Option, Some, is_some, List, ◌∷◌, ne_eqb}
+use Rattle.std.proofs.Common.{◌≡◌, ℕ, eqb, true, false, cond, Bool, List, ◌∷◌, ne_eqb}
 use Rattle.std.proofs.{lemmas.Bool.both_ways, lemmas.Bool.or_from, Common.rules}
 use Rattle.cnf_base.specs.Literals.{Literal, complement, has}
 use Rattle.cnf_base.proofs.LiteralLemmas.{complement-complement, complement-other}
@@ -7,9 +7,9 @@ use Rattle.cnf_base.proofs.SetLemmas.{has_cases}
 use Rattle.dimacs.specs.Claim.{IsConsistent}
 
 -- the table has one more key
-pub listed_more : {T : Type 0} (listed after : ℕ → Option T) (ls : List ℕ) (x : ℕ) (value : T) → ((l : ℕ) → is_some (listed l) ≡ has ls l) →
-    ((l : ℕ) → after l ≡ cond (eqb l x) (Some value) (listed l)) → (l : ℕ) → is_some (after l) ≡ has (x ∷ ls) l
-listed_more listed after ls x value was put l = search rules
+pub listed_more : (listed after : ℕ → Bool) (ls : List ℕ) (x : ℕ) → ((l : ℕ) → listed l ≡ has ls l)
+    → ((l : ℕ) → after l ≡ cond (eqb l x) true (listed l)) → (l : ℕ) → after l ≡ has (x ∷ ls) l
+listed_more listed after ls x was put l = search rules
 
 -- one more literal, whose complement is not there
 more : (ls : List Literal) (x : Literal) → IsConsistent ls → has ls (complement x) ≡ false → IsConsistent (x ∷ ls)

@@ -25,9 +25,9 @@ module _ (h : Header) (n : ℕ) where
   pub ends_among-from : (complete : ℕ) (ts : List Listed) → EndFrom n ts → AreFrom n (ends_among h complete ts)
   ends_among-from complete [] ends = from-none n
   ends_among-from complete ((token.Word p w, offset) ∷ ts) ends =
-      on_word-from complete offset (judged h complete w) (λ complete. ends_among h complete ts) ends.0 (λ complete. ends_among-from complete ts ends.1)
-  ends_among-from complete ((token.LineEnd p, offset) ∷ ts) ends = ends_among-from complete ts ends.1
-  ends_among-from complete ((token.End p, offset) ∷ ts) ends = ends_among-from complete ts ends.1
+      on_word-from complete offset (judged h complete w) (λ complete. ends_among h complete ts)
+      ends.0 (λ complete. ends_among-from complete ts ends.1)
+  ends_among-from complete (t ∷ ts) ends = search (rules, (ends_among-from complete ts ends.1))
 
 -- ---- There is one for each clause
 

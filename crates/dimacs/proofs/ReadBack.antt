@@ -2,12 +2,12 @@
 use Rattle.std.proofs.Common.{rules, ◌≡◌, ℕ, ◌≤◌, ◌==◌, true, false, List, [], ◌∷◌, ◌++◌, map}
 use Rattle.std.proofs.Common.{filter, refl, sym, ap, ◌∙◌, append_assoc, subst, arith, append-nil}
 use Rattle.std.proofs.Common.{flat_map}
-use Rattle.std.proofs.lemmas.{List.map-append, List.Folds.list_all-append, Bool.Decides.nat_tests}
+use Rattle.std.proofs.lemmas.{List.map-append, List.Folds.list_all-append}
 use Rattle.std.specs.{Prelude.codes, Fmt.decimal, List.concat, List.list_all, List.slice_split}
 use Rattle.cnf_base.specs.{Grammar.is_word, Grammar.words_in, Grammar.word_lines, Literals.Clause}
 use Rattle.cnf_base.specs.{Text.is_separator, Text.is_comment, Text.lines_of, Literals.Literal}
 use Rattle.cnf_base.specs.Printing.{words_line, is_literal, literal_text, literal_words}
-use Rattle.cnf_base.proofs.TextLemmas.{append_nil, Each, none, more, split-append}
+use Rattle.cnf_base.proofs.TextLemmas.{append_nil, Each-feed, split-append}
 use Rattle.cnf_base.proofs.PrintLemmas.{decimal_plain, zero_plain, literal_plain, after_word, both}
 use Rattle.cnf_base.proofs.PrintLemmas.{literal_no_comment, words_line-cons, IsPlain, fixed_plain}
 use Rattle.dimacs.specs.Grammar.{filled_lines, all_words}
@@ -26,15 +26,11 @@ abbrev spaced : List (List ℕ) → List ℕ
 spaced [] = []
 spaced (w ∷ ws) = 32 ∷ w ++ spaced ws
 
-no_feed : (w : List ℕ) → Each is_separator w → Each (λ b. b == 10) w
-no_feed [] e = none
-no_feed (b ∷ bs) (more _ _ is e) = more b bs (grind (arith, nat_tests)) (no_feed bs e)
-
 after_line : (ws : List (List ℕ)) (rest : List ℕ) → ArePlain ws
     → lines_of (after_word ws rest) ≡ spaced ws ∷ lines_of rest
 after_line [] rest plain = refl
 after_line (w ∷ ws) rest (one_more _ _ p plain) =
-    grind (arith, split-append, after_word, no_feed, after_line ws rest plain)
+    grind (arith, split-append, after_word, Each-feed, after_line ws rest plain)
 
 split_spaced : (ws : List (List ℕ)) → ArePlain ws → slice_split is_separator (spaced ws) ≡ [] ∷ ws
 split_spaced [] plain = refl
@@ -58,7 +54,7 @@ line_words (b ∷ bs) ws rest no_comment p plain =
     let w : List ℕ = b ∷ bs in
     let cut : lines_of (words_line (w ∷ ws) ++ rest) ≡ (w ++ spaced ws) ∷ lines_of rest =
     ap lines_of (words_line-cons w ws rest) ∙ split-append (λ b. b == 10) w (after_word ws rest)
-    (spaced ws) (lines_of rest) (no_feed w p.each) (after_line ws rest plain) in
+    (spaced ws) (lines_of rest) (Each-feed w p.each) (after_line ws rest plain) in
     let words : words_in (w ++ spaced ws) ≡ w ∷ ws = ap (filter is_word) (split_first w ws p plain)
     ∙ kept_words (w ∷ ws) (one_more w ws p plain) in
     rw (cut, no_comment, words) refl
@@ -70,8 +66,7 @@ literals_plain : (greatest : ℕ) (ls : List Literal) (last : List (List ℕ)) �
     → ArePlain (map literal_text ls ++ last)
 literals_plain greatest [] last small are plain = plain
 literals_plain greatest (l ∷ ls) last small are plain =
-    let r = both (is_literal greatest l) (list_all (is_literal greatest) ls) are in
-    one_more _ _ (literal_plain greatest l small r.0) (literals_plain greatest ls last small r.1 plain)
+    grind (arith, both, one_more, literal_plain, literals_plain greatest ls last)
 
 ended : ArePlain (codes "0" ∷ [])
 ended = one_more _ _ zero_plain no_words

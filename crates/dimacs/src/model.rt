@@ -7,7 +7,7 @@ ghost use Rattle.dimacs.specs.Claim.{IsConsistent};
 use cnf_base::{Lit, OutOfMemory};
 use std::alloc::Global;
 use std::marker;
-use tables::{Table, key};
+use tables::{ByKey, key};
 
 /// The literals that a solver's output lists as true. No other literal is true, and none is listed
 /// with its complement.
@@ -16,15 +16,15 @@ use tables::{Table, key};
 #[derive(Drop)]
 pub struct Model {
     lits: Vec<Lit>,
-    listed: Table<()>,
+    listed: ByKey<bool>,
 }
 
 impl marker::Model for Model {
-    ghost use Rattle.std.specs.Prelude.{List};
+    ghost use Rattle.std.specs.Prelude.{List, unwrap_or, false};
     ghost use Rattle.cnf_base.specs.Literals.{Literal};
     ghost use Rattle.dimacs.specs.Claim.{IsConsistent};
     ghost use Rattle.dimacs.specs.Code.Models.{IsListed};
-    ghost use Rattle.tables.specs.Table.{at};
+    ghost use Rattle.tables.specs.ByKey.{at};
 
     ghost Value = { List Literal };
 
@@ -32,7 +32,7 @@ impl marker::Model for Model {
     ghost view = { λ record { lits = lits; listed = _ }. lits.items };
 
     ghost invariant = { λ m.
-        IsConsistent m.lits.items × IsListed (at m.listed) m.lits.items };
+        IsConsistent m.lits.items × IsListed (λ l. unwrap_or (at m.listed l) false) m.lits.items };
 }
 
 impl Model {
@@ -42,7 +42,7 @@ impl Model {
     pub fn holds(&self, lit: Lit) -> bool
         ensures { result ≡ has self.now lit }
     {
-        self.listed.get(key(lit)).is_some()
+        self.listed.get_or(key(lit), false)
     }
 
     /// No literal is listed. It takes no memory.
@@ -51,7 +51,7 @@ impl Model {
     {
         Model {
             lits: Vec::new(alloc),
-            listed: Table::new(alloc),
+            listed: ByKey::new(alloc),
         }
     }
 
@@ -64,7 +64,8 @@ impl Model {
     {
         if !self.holds(lit) {
             self.lits.reserve(1)?;
-            self.listed.reserve(key(lit), ())?;
+            self.listed.reserve(key(lit), false)?;
+            self.listed.set(key(lit), true);
             self.lits.push_reserved(lit);
         }
         Ok(())

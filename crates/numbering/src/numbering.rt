@@ -11,14 +11,14 @@ ghost use Rattle.theory.specs.Renaming.{renamed};
 ghost use Rattle.numbering.specs.Names.{number_in, with_name, with_names};
 ghost use Rattle.numbering.specs.Code.Numbers.{number_at};
 ghost use Rattle.numbering.specs.Code.Recents.{AreRecent};
-ghost use Rattle.tables.specs.Filled.{at};
+ghost use Rattle.tables.specs.ByKey.{at};
 
 use crate::recent::Recents;
 use cnf_base::{Lit, Number, OutOfMemory};
 use std::alloc::Global;
 use std::marker::Model;
 use std::mem;
-use tables::Filled;
+use tables::ByKey;
 
 /// Variables under numbers from 1, in the order in which they are met.
 ///
@@ -30,7 +30,7 @@ use tables::Filled;
 #[derive(Drop)]
 pub struct Numbering {
     /// The number of each variable that was met, 0 for others.
-    numbers: Filled<u32>,
+    numbers: ByKey<u32>,
     /// How many variables were met.
     count: u32,
     /// Far variables that were looked up last, with the numbers that they have in `numbers`.
@@ -74,7 +74,7 @@ fn number_among(numbers: &[u32], name: u32) -> u32
 }
 
 /// Makes room for the number of a variable, and where it is far, for one that is looked up.
-fn reserve(numbers: &mut Filled<u32>, recent: &mut Recents, name: u32) -> Result<(), OutOfMemory>
+fn reserve(numbers: &mut ByKey<u32>, recent: &mut Recents, name: u32) -> Result<(), OutOfMemory>
     ensures room { OnOk result (IsSome (at numbers.new name)) }
     ensures same { (v : ℕ) → number_at numbers.new v ≡ number_at numbers.old v }
     ensures recent { (number : ℕ → ℕ) → AreRecent number recent.old →
@@ -88,7 +88,7 @@ fn reserve(numbers: &mut Filled<u32>, recent: &mut Recents, name: u32) -> Result
 }
 
 /// Notes the number of a variable where it is far.
-fn note(numbers: &Filled<u32>, recent: &mut Recents, name: u32, number: u32)
+fn note(numbers: &ByKey<u32>, recent: &mut Recents, name: u32, number: u32)
     ensures { (of : ℕ → ℕ) → AreRecent of recent.old → number ≢ 0 → of name ≡ number →
         AreRecent of recent.new }
 {
@@ -103,7 +103,7 @@ impl Numbering {
         ensures { result ≡ [] }
     {
         Numbering {
-            numbers: Filled::new(alloc),
+            numbers: ByKey::new(alloc),
             count: 0,
             recent: Recents::new(alloc),
         }

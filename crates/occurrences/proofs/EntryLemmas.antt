@@ -1,13 +1,13 @@
 -- Entries of lists, and the slots that occur.
 use Rattle.std.proofs.Common.{◌≡◌, ◌≢◌, ℕ, ◌+◌, ◌≤◌, true, false, ◌&&◌, ◌||◌, not, cond, eqb}
-use Rattle.std.proofs.Common.{eq-eqb, eqb-true, is_some, unwrap_or, Some, None, ◌<◌, rules}
-use Rattle.std.proofs.Common.{List, [], ◌++◌, filter, map, Result, OnOk, OnErr, ◌∙◌, arith, ◌∷◌}
+use Rattle.std.proofs.Common.{eq-eqb, eqb-true, is_some, Some, None, ◌<◌, rules}
+use Rattle.std.proofs.Common.{List, [], ◌++◌, filter, map, ◌∙◌, arith, ◌∷◌}
 use Rattle.std.proofs.lemmas.Grind.{get_or_default_zero}
 use Rattle.std.proofs.lemmas.List.Folds.{list_any-append, list_all-append, list_any_at}
 use Rattle.std.proofs.lemmas.List.Kept.{Contains-dedup_nat, Contains-from_dedup}
 use Rattle.std.specs.List.{list_any, list_all, Contains, dedup}
 use Rattle.cnf_base.{specs.Literals.has, proofs.MemberLemmas.place_of, proofs.SetLemmas.both_pass}
-use Rattle.tables.specs.{Table.at, declared.table.Table.Table}
+use Rattle.tables.specs.{ByKey.at, declared.by_key.ByKey.ByKey}
 use Rattle.occurrences.specs.Entries.{births_of, counts, is_of}
 use Rattle.occurrences.specs.Code.Known.{is_known, AreAlike}
 use Rattle.occurrences.specs.declared.occurrence.Occurrence.{Occurrence}
@@ -15,12 +15,12 @@ use Rattle.occurrences.proofs.TestLemmas.{any_filter, all_left, any_alike, any_a
 
 -- ---- Lists in the place of others
 
-pub alike_cleaned : (births : Table ℕ) (xs : List Occurrence)
+pub alike_cleaned : (births : ByKey ℕ) (xs : List Occurrence)
     → AreAlike births xs (filter (counts births) xs)
 alike_cleaned births xs = grind (arith, any_filter, all_left)
 
 -- with one entry more
-pub alike_push : (births : Table ℕ) (xs ys : List Occurrence) (e : Occurrence)
+pub alike_push : (births : ByKey ℕ) (xs ys : List Occurrence) (e : Occurrence)
     → AreAlike births xs ys → AreAlike births (xs ++ e ∷ []) (ys ++ e ∷ [])
 alike_push births xs ys e alike = grind (arith, list_any-append, list_all-append)
 
@@ -36,7 +36,7 @@ pub put_beyond : (before after : ℕ → List Occurrence) (key most : ℕ) (list
 put_beyond before after key most list low put none k past = grind arith
 
 -- one entry more at a key
-pub push_occurs : (births : Table ℕ) (before after : ℕ → List Occurrence) (key slot : ℕ)
+pub push_occurs : (births : ByKey ℕ) (before after : ℕ → List Occurrence) (key slot : ℕ)
     (e : Occurrence) → e.slot ≡ slot → counts births e ≡ true
     → AreAlike births (before key ++ e ∷ []) (after key) → ((k : ℕ) → k ≢ key → after k ≡ before k)
     → (k s : ℕ) → list_any (is_of births s) (after k)
@@ -45,7 +45,7 @@ push_occurs births before after key slot e slot_is alive alike others k s =
     grind (arith, list_any-append)
 
 -- a list in the place of one that is alike
-pub put_alike : (births : Table ℕ) (before taken after : ℕ → List Occurrence) (key : ℕ)
+pub put_alike : (births : ByKey ℕ) (before taken after : ℕ → List Occurrence) (key : ℕ)
     (list : List Occurrence) → ((k : ℕ) → taken k ≡ cond (eqb k key) [] (before k))
     → ((k : ℕ) → after k ≡ cond (eqb k key) list (taken k)) → AreAlike births (before key) list
     → (k : ℕ) → AreAlike births (before k) (after k)
@@ -53,10 +53,10 @@ put_alike births before taken after key list took put alike k = grind arith
 
 -- ---- A slot that is forgotten
 
-pub written_others : (old new : Table ℕ) (slot m : ℕ) → ((k : ℕ) → at new k ≡ cond (eqb k slot) (Some m) (at old k)) → (k : ℕ) → k ≢ slot → at new k ≡ at old k
+pub written_others : (old new : ByKey ℕ) (slot m : ℕ) → ((k : ℕ) → at new k ≡ cond (eqb k slot) (Some m) (at old k)) → (k : ℕ) → k ≢ slot → at new k ≡ at old k
 written_others old new slot m is k ne = grind arith
 
-module _ (old new : Table ℕ) (slot : ℕ) (others : (k : ℕ) → k ≢ slot → at new k ≡ at old k) where
+module _ (old new : ByKey ℕ) (slot : ℕ) (others : (k : ℕ) → k ≢ slot → at new k ≡ at old k) where
   -- the entries of the slot count no longer
   pub forgotten : ((e : Occurrence) → is_known old e ≡ true → e.slot ≡ slot → counts new e ≡ false)
       → (xs : List Occurrence) → list_all (is_known old) xs ≡ true → (s : ℕ)
@@ -89,7 +89,7 @@ pub rid_lists : (before after : ℕ → List Occurrence) (slot most : ℕ)
 rid_lists before after slot most done left none k = grind arith
 
 -- one number more is noted
-module _ (old new : Table ℕ) (slot n m : ℕ) (was : at old slot ≡ Some n) (more : m ≡ n + 1) (is : (k : ℕ) → at new k ≡ cond (eqb k slot) (Some m) (at old k)) where
+module _ (old new : ByKey ℕ) (slot n m : ℕ) (was : at old slot ≡ Some n) (more : m ≡ n + 1) (is : (k : ℕ) → at new k ≡ cond (eqb k slot) (Some m) (at old k)) where
   here : at new slot ≡ Some m
   here = grind arith
 
@@ -103,19 +103,13 @@ module _ (old new : Table ℕ) (slot n m : ℕ) (was : at old slot ≡ Some n) (
   noted_never e h same = grind arith
 
 -- no number is noted
-pub none_never : (births : Table ℕ) (slot : ℕ) → at births slot ≡ None → (e : Occurrence)
+pub none_never : (births : ByKey ℕ) (slot : ℕ) → at births slot ≡ None → (e : Occurrence)
     → is_known births e ≡ true → e.slot ≡ slot → counts births e ≡ false
 none_never births slot none e h same = grind arith
 
 -- ---- A slot that is noted
 
-pub reserved : {R E : Type 0} (old new : Table ℕ) (slot : ℕ) (r : Result R E)
-    → OnOk r ((k : ℕ) → at new k ≡ cond (eqb k slot) (Some (unwrap_or (at old slot) 0)) (at old k))
-    → OnErr r ((k : ℕ) → at new k ≡ at old k) → (k : ℕ) → (births_of new k ≡ births_of old k)
-    × (is_some (at old k) ≡ true → is_some (at new k) ≡ true)
-reserved old new slot r ok err k = grind arith
-
-module _ (old new : Table ℕ) (same : (k : ℕ) → (births_of new k ≡ births_of old k) × (is_some (at old k) ≡ true → is_some (at new k) ≡ true)) where
+module _ (old new : ByKey ℕ) (same : (k : ℕ) → births_of new k ≡ births_of old k) (kept : (k : ℕ) → is_some (at old k) ≡ true → is_some (at new k) ≡ true) where
   pub reserved_known : (e : Occurrence) → is_known old e ≡ true → is_known new e ≡ true
   reserved_known e h = grind arith
 
@@ -125,7 +119,7 @@ module _ (old new : Table ℕ) (same : (k : ℕ) → (births_of new k ≡ births
 
 -- ---- Slots that are gathered
 
-pub gathered : (births : Table ℕ) (all list : List Occurrence) → list ≡ filter (counts births) all
+pub gathered : (births : ByKey ℕ) (all list : List Occurrence) → list ≡ filter (counts births) all
     → (xs ys : List ℕ) → ys ≡ xs ++ map (λ e. e.slot) list → (s : ℕ)
     → has ys s ≡ (has xs s || list_any (is_of births s) all)
 gathered births all list cleaned xs ys is s = grind (arith, list_any-append, any_map, any_filter)

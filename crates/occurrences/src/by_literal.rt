@@ -7,13 +7,13 @@ ghost use Rattle.std.specs.List.{list_any, list_all};
 ghost use Rattle.std.specs.List.Sorted.{IsStrictlyIncreasing};
 ghost use Rattle.cnf_base.specs.Literals.{complement, has};
 ghost use Rattle.tables.specs.Lists.{list_at};
-ghost use Rattle.tables.specs.Table.{at};
+ghost use Rattle.tables.specs.ByKey.{at};
 ghost use Rattle.occurrences.specs.Code.Known.{is_known};
 
 use crate::occurrence::{Occurrence, add, births_at, clean, rid_all};
 use cnf_base::{Lit, OutOfMemory};
 use std::alloc::Global;
-use tables::{Lists, Table, key};
+use tables::{ByKey, Lists, key};
 
 /// By literal the slots of the clauses that have it.
 ///
@@ -22,7 +22,7 @@ use tables::{Lists, Table, key};
 #[derive(Drop)]
 pub struct Occurrences {
     /// By slot how often it was forgotten.
-    births: Table<u32>,
+    births: ByKey<u32>,
     lists: Lists<Occurrence>,
     ghost low: { (l : ℕ) → 4294967296 ≤ l → list_at lists l ≡ [] },
     ghost known: { (l : ℕ) → list_all (is_known births) (list_at lists l) ≡ true },
@@ -37,7 +37,7 @@ impl Occurrences {
         ensures { (l s : ℕ) → occurs result l s ≡ false }
     {
         Occurrences {
-            births: Table::new(alloc),
+            births: ByKey::new(alloc),
             lists: Lists::new(alloc),
         }
     }

@@ -8,7 +8,7 @@ ghost use Rattle.occurrences.specs.Entries.{births_of, counts};
 ghost use Rattle.occurrences.specs.Code.Known.{AreAlike};
 
 use cnf_base::OutOfMemory;
-use tables::{Lists, Table};
+use tables::{ByKey, Lists};
 
 /// An entry in the list of a literal: a slot whose clause has it, where the slot is still as it was
 /// when the entry was made.
@@ -25,21 +25,21 @@ pub struct Occurrence {
 const LEAST: usize = 2;
 
 /// How often the slot was forgotten.
-pub(crate) fn births_at(births: &Table<u32>, slot: u32) -> u32
+pub(crate) fn births_at(births: &ByKey<u32>, slot: u32) -> u32
     ensures { result ≡ births_of births.now slot }
 {
-    births.get(slot).unwrap_or(0)
+    births.get_or(slot, 0)
 }
 
 /// Whether the slot wasn't forgotten since the entry was made.
-fn is_alive(births: &Table<u32>, entry: &Occurrence) -> bool
+fn is_alive(births: &ByKey<u32>, entry: &Occurrence) -> bool
     ensures { result ≡ counts births.now entry.now }
 {
     births_at(births, entry.slot) == entry.birth
 }
 
 /// Takes out the entries of slots that were forgotten.
-pub(crate) fn clean(list: &mut Vec<Occurrence>, births: &Table<u32>)
+pub(crate) fn clean(list: &mut Vec<Occurrence>, births: &ByKey<u32>)
     ensures items { list.new.items ≡ filter (counts births.now) list.old.items }
     ensures capacity { vec_capacity list.new ≡ vec_capacity list.old }
 {
@@ -60,7 +60,7 @@ fn grow(list: &mut Vec<Occurrence>) -> Result<(), OutOfMemory>
 /// Makes room in a list. A full one is cleaned first, and grows only where half of its entries or
 /// more still count.
 #[tactic(auto, using(crate::proofs::EntryLemmas::alike_cleaned))]
-fn make_room(list: &mut Vec<Occurrence>, births: &Table<u32>) -> Result<(), OutOfMemory>
+fn make_room(list: &mut Vec<Occurrence>, births: &ByKey<u32>) -> Result<(), OutOfMemory>
     ensures alike { AreAlike births.now list.old.items list.new.items }
     ensures room { OnOk result (vec_len list.new < vec_capacity list.new) }
 {
@@ -75,7 +75,7 @@ fn make_room(list: &mut Vec<Occurrence>, births: &Table<u32>) -> Result<(), OutO
 #[tactic(auto, using(crate::proofs::EntryLemmas::alike_push))]
 pub(crate) fn add(
     list: &mut Vec<Occurrence>,
-    births: &Table<u32>,
+    births: &ByKey<u32>,
     entry: Occurrence,
 ) -> Result<(), OutOfMemory>
     ensures ok { OnOk result (AreAlike births.now (list.old.items ++ entry ∷ []) list.new.items) }

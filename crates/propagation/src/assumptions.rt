@@ -10,7 +10,7 @@ ghost use Rattle.cnf_base.specs.Literals.{Literal, complement, complements, has}
 ghost use Rattle.propagation.specs.Assumptions.{Assumption, MayAssume, assumed_by, roots_in};
 ghost use Rattle.propagation.specs.Code.Levels.{Notes};
 ghost use Rattle.trail.specs.Numbers.{number_at};
-ghost use Rattle.tables.specs.Filled.{at};
+ghost use Rattle.tables.specs.ByKey.{at};
 ghost use Rattle.trail.specs.Trail.{HasRoom};
 ghost use Rattle.theory.specs.Sets.{SameSet, conflicts};
 ghost use Rattle.propagation.specs.declared.answer.Answer.TheVariants.{Clash};
@@ -20,7 +20,7 @@ use crate::levels::{Level, Levels};
 use cnf_base::{Lit, OutOfMemory};
 use std::alloc::Global;
 use std::marker::Model;
-use tables::Filled;
+use tables::ByKey;
 use trail::{Part, Trail};
 
 /// At most two assumptions that stand, the second on the first, and the literals that are true:
@@ -33,7 +33,7 @@ pub struct Assumptions {
     trail: Trail,
     /// By variable the number of the last assumption that has a literal of it. Those of assumptions
     /// that are taken back stay, and say nothing.
-    numbers: Filled<u64>,
+    numbers: ByKey<u64>,
     /// How many assumptions were made, which is the number of the last one.
     made: u64,
     levels: Levels,
@@ -60,7 +60,7 @@ impl Model for Assumptions {
 }
 
 /// Makes room for the variable of a literal.
-fn reserve_variable(trail: &mut Trail, numbers: &mut Filled<u64>, l: Lit) -> Result<(), OutOfMemory>
+fn reserve_variable(trail: &mut Trail, numbers: &mut ByKey<u64>, l: Lit) -> Result<(), OutOfMemory>
     requires known { (v : ℕ) → IsTrue (has trail.old.reserved v) → IsSome (at numbers.old v) }
     ensures room { OnOk result (IsTrue (has trail.new.reserved (l / 2))) }
     ensures reserved { (v : ℕ) → IsTrue (has trail.old.reserved v) →
@@ -77,7 +77,7 @@ fn reserve_variable(trail: &mut Trail, numbers: &mut Filled<u64>, l: Lit) -> Res
 /// Makes room for the variables of the literals.
 fn reserve_variables(
     trail: &mut Trail,
-    numbers: &mut Filled<u64>,
+    numbers: &mut ByKey<u64>,
     lits: &[Lit],
 ) -> Result<(), OutOfMemory>
     requires known { (v : ℕ) → IsTrue (has trail.old.reserved v) → IsSome (at numbers.old v) }
@@ -97,7 +97,7 @@ fn reserve_variables(
 }
 
 /// Notes the variable with the number, unless the first assumption noted it.
-fn note(numbers: &mut Filled<u64>, var: u32, first: u64, number: u64)
+fn note(numbers: &mut ByKey<u64>, var: u32, first: u64, number: u64)
     requires { IsSome (at numbers.old var) }
     ensures other { (v : ℕ) → v ≢ var →
         number_at numbers.new v ≡ number_at numbers.old v }
@@ -112,7 +112,7 @@ fn note(numbers: &mut Filled<u64>, var: u32, first: u64, number: u64)
 
 /// Notes the variables of a part of a clause with the number, but for those that the first
 /// assumption noted.
-fn note_all<P: Part>(numbers: &mut Filled<u64>, clause: &[Lit], part: &P, first: u64, number: u64)
+fn note_all<P: Part>(numbers: &mut ByKey<u64>, clause: &[Lit], part: &P, first: u64, number: u64)
     requires known { (l : Literal) → IsTrue (has clause.now l) →
         IsSome (at numbers.old (l / 2)) }
     ensures notes { Notes first number (filter (P.keeps part.now) clause.now)
@@ -135,7 +135,7 @@ impl Assumptions {
     {
         Ok(Assumptions {
             trail: Trail::new(alloc)?,
-            numbers: Filled::new(alloc),
+            numbers: ByKey::new(alloc),
             made: 0,
             levels: Levels::Nothing,
         })
@@ -201,16 +201,16 @@ impl Assumptions {
     pub fn assume<P: Part>(&mut self, clause: &[Lit], part: &P) -> Result<bool, OutOfMemory>
         requires may { MayAssume self.old.assumptions }
         requires room { HasRoom self.old.trail.reserved clause.now }
-        ensures conflict { IfOk result (λ is_clash.
-            is_clash ≡ conflicts
+        ensures conflict { IfOk result (λ is_conflict.
+            is_conflict ≡ conflicts
             (self.old.trail.lits ++ complements (filter (P.keeps part.now) clause.now))) }
-        ensures added { IfOk result (λ is_clash.
-            OnFalse is_clash (SameSet self.new.trail.lits
+        ensures added { IfOk result (λ is_conflict.
+            OnFalse is_conflict (SameSet self.new.trail.lits
             (self.old.trail.lits ++ complements (filter (P.keeps part.now) clause.now)))) }
-        ensures assumed { IfOk result (λ is_clash. (all : List Literal) ×
+        ensures assumed { IfOk result (λ is_conflict. (all : List Literal) ×
             (self.new.assumptions ≡
             record { answer = Clash; assumed = all } ∷ self.old.assumptions)
-            × OnFalse is_clash (SameSet all
+            × OnFalse is_conflict (SameSet all
             (assumed_by self.old.assumptions
             ++ complements (filter (P.keeps part.now) clause.now)))) }
         ensures starts { OnOk result (self.new.starts ≡

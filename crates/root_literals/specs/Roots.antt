@@ -6,7 +6,7 @@ use Rattle.std.specs.Ordering.{nat_cmp}
 use Rattle.std.specs.Prelude.{◌≡◌, ◌≢◌, ℕ, Bool, Option, Some, List, IsTrue, IsSome, ◌≤◌, [], take}
 use Rattle.std.specs.Prelude.{length, true, false, ◌∷◌, ⊤, ◌<◌, slice_index, IsFalse, if◌then◌else◌}
 use Rattle.cnf_base.specs.Literals.{Literal, Clause, has, complement}
-use Rattle.tables.specs.Filled.{at}
+use Rattle.tables.specs.ByKey.{at}
 use Rattle.theory.specs.Propagation.{Live}
 use Rattle.trail.specs.declared.left.Left.TheVariants.{Nothing, One, More}
 use Rattle.trail.specs.declared.left.Left.{Left}
@@ -15,7 +15,7 @@ use Rattle.root_literals.specs.History.{IsHistory, sure_of, visits}
 use Rattle.root_literals.specs.Order.{each_in_order}
 use Rattle.root_literals.specs.Uses.{AreCounted}
 use Rattle.root_literals.specs.Watched.{HasUnit, IsWatched}
-use Rattle.root_literals.specs.declared.kept.Kept.TheVariants.{WithoutUnits, WithUnits, All, Clash}
+use Rattle.root_literals.specs.declared.kept.Kept.TheVariants.{WithoutUnits, WithUnits, All, Conflict}
 use Rattle.root_literals.specs.declared.kept.Kept.{Kept}
 use Rattle.root_literals.specs.declared.roots.Roots.{Roots}
 
@@ -72,28 +72,28 @@ abbrev pub IsKnown : FinMap nat_cmp Clause → Kept → List Literal → Type 0
 IsKnown live WithoutUnits roots = ⊤
 IsKnown live WithUnits roots = HaveUnits (maps.get live) roots
 IsKnown live All roots = IsWatched (maps.get live) roots roots × HaveUnits (maps.get live) roots
-IsKnown live (Clash slot) roots = IsFalseAt (maps.get (each_in_order live)) slot roots
+IsKnown live (Conflict slot) roots = IsFalseAt (maps.get (each_in_order live)) slot roots
 
--- whether all that follows with nothing assumed is kept, or a clash
+-- whether all that follows with nothing assumed is kept, or a conflict
 abbrev pub is_up_to_date : Kept → Bool
 is_up_to_date WithoutUnits = false
 is_up_to_date WithUnits = false
 is_up_to_date All = true
-is_up_to_date (Clash slot) = true
+is_up_to_date (Conflict slot) = true
 
--- whether a clash is kept
-abbrev pub has_clash : Kept → Bool
-has_clash WithoutUnits = false
-has_clash WithUnits = false
-has_clash All = false
-has_clash (Clash slot) = true
+-- whether a conflict is kept
+abbrev pub has_conflict : Kept → Bool
+has_conflict WithoutUnits = false
+has_conflict WithUnits = false
+has_conflict All = false
+has_conflict (Conflict slot) = true
 
 -- whether literals of unit clauses may be missing
 abbrev pub lacks_units : Kept → Bool
 lacks_units WithoutUnits = true
 lacks_units WithUnits = false
 lacks_units All = false
-lacks_units (Clash slot) = false
+lacks_units (Conflict slot) = false
 
 -- the clauses that those literals are propagated to which were visited: after a cut none that are
 -- doubtful
@@ -102,14 +102,14 @@ seen_of roots live =
     sure_of (if lacks_units roots.kept then roots.history.doubts.items else []) live
 
 -- the kept literals follow from their reasons, which are counted, what is said of them is so, and
--- those that were visited are propagated, unless a clash was found
+-- those that were visited are propagated, unless a conflict was found
 pub record IsKept (live : FinMap nat_cmp Clause) (roots : Roots) (lits : List Literal)
     : Type 0 where
   pub noted : AreNoted (maps.get (each_in_order live)) (at roots.reasons)
   pub reasoned : AreReasoned (maps.get (each_in_order live)) (at roots.reasons) lits
   pub known : IsKnown live roots.kept lits
   pub history : IsHistory (sure_of roots.history.doubts.items (maps.get live)) roots.history lits
-  pub visited : has_clash roots.kept ≡ false →
+  pub visited : has_conflict roots.kept ≡ false →
       IsWatched (seen_of roots (maps.get live)) (take (visits roots.history) lits) lits
   pub counted : AreCounted (maps.get live) (at roots.reasons) lits roots.uses
 

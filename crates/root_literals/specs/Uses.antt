@@ -3,7 +3,7 @@
 use Rattle.std.specs.Prelude.{ℕ, ◌+◌, ◌≤◌, Bool, false, Option, Some, None, List, [], ◌∷◌}
 use Rattle.std.specs.Prelude.{if◌then◌else◌, length, take, unwrap_or}
 use Rattle.cnf_base.specs.Literals.{Literal, Clause, has}
-use Rattle.tables.specs.Filled.{at}
+use Rattle.tables.specs.ByKey.{at}
 use Rattle.theory.specs.Propagation.{Live}
 use Rattle.root_literals.specs.declared.uses.Uses.{Uses}
 

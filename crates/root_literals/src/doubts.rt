@@ -2,7 +2,7 @@
 
 ghost use Rattle.std.specs.Prelude.{◌∷◌, [], IsTrue};
 ghost use Rattle.cnf_base.specs.Literals.{Literal, complement, has};
-ghost use Rattle.tables.specs.Filled.{at};
+ghost use Rattle.tables.specs.ByKey.{at};
 ghost use Rattle.root_literals.specs.Watched.{IsMet};
 ghost use Rattle.root_literals.specs.Code.Doubts.{IsLooked};
 ghost use Rattle.root_literals.specs.Code.Propagated.{CanSet, PropagatesTo};
@@ -11,7 +11,7 @@ use crate::roots::set_by;
 use clause_db::Store;
 use cnf_base::Lit;
 use propagation::Assumptions;
-use tables::Filled;
+use tables::ByKey;
 use trail::{Left, Trail};
 
 /// What looks at clauses tell.
@@ -20,7 +20,7 @@ pub(crate) enum Looked {
     /// Each watches no literal that was false, or has a true one.
     Settled,
     /// All literals of the clause in this slot are false.
-    Clash(u32),
+    Conflict(u32),
     /// One watches a literal that is false, and more than one of its literals are not.
     Open,
 }
@@ -41,12 +41,7 @@ fn is_met(trail: &Trail, clause: &[Lit]) -> bool
 /// Looks at the clause in the slot, if there is one, and makes its literal true that is left where
 /// all others are false. It takes no memory.
 #[tactic(auto, using(crate::proofs::RootLemmas::Steps::left_steps))]
-fn look(
-    store: &Store,
-    slot: u32,
-    assumptions: &mut Assumptions,
-    reasons: &mut Filled<u32>,
-) -> Looked
+fn look(store: &Store, slot: u32, assumptions: &mut Assumptions, reasons: &mut ByKey<u32>) -> Looked
     requires { CanSet store.now.live assumptions.old (at reasons.old) }
     ensures looked { IsLooked store.now.live (slot ∷ []) assumptions.old.trail.lits
         assumptions.new.trail.lits result }
@@ -61,7 +56,7 @@ fn look(
     }
     match assumptions.trail().left(clause) {
         Left::More => Looked::Open,
-        Left::Nothing => Looked::Clash(slot),
+        Left::Nothing => Looked::Conflict(slot),
         Left::One(l) => {
             set_by(assumptions, reasons, l, slot);
             Looked::Settled
@@ -74,7 +69,7 @@ pub(crate) fn look_at(
     store: &Store,
     slots: &[u32],
     assumptions: &mut Assumptions,
-    reasons: &mut Filled<u32>,
+    reasons: &mut ByKey<u32>,
 ) -> Looked
     requires { CanSet store.now.live assumptions.old (at reasons.old) }
     ensures looked { IsLooked store.now.live slots.now assumptions.old.trail.lits
@@ -85,7 +80,7 @@ pub(crate) fn look_at(
     for place in 0..slots.len() {
         match look(store, slots[place], assumptions, reasons) {
             Looked::Settled => {}
-            Looked::Clash(slot) => return Looked::Clash(slot),
+            Looked::Conflict(slot) => return Looked::Conflict(slot),
             Looked::Open => return Looked::Open,
         }
     }

@@ -15,11 +15,11 @@ pub enum Kept {
     /// All are kept.
     All,
     /// All literals of the clause in this slot are false.
-    Clash(u32),
+    Conflict(u32),
 }
 
 impl Kept {
-    /// With one more literal that is kept, where no clash is.
+    /// With one more literal that is kept, where no conflict is.
     pub(crate) fn with_more(self) -> Self
         ensures { result ≡ (if lacks_units self then WithoutUnits else WithUnits) }
     {

@@ -2,14 +2,14 @@
 
 ghost use Rattle.std.specs.Prelude.{◌≡◌, ◌≢◌, Some, IsTrue, IsFalse, IfSome, IfNone};
 ghost use Rattle.cnf_base.specs.Literals.{Literal, has};
-ghost use Rattle.tables.specs.Filled.{at};
+ghost use Rattle.tables.specs.ByKey.{at};
 
 use cnf_base::Lit;
-use tables::{Filled, key};
+use tables::{ByKey, key};
 use trail::Trail;
 
 /// Whether the clause in the slot is the reason of a literal.
-pub(crate) fn is_reason(reasons: &Filled<u32>, l: Lit, slot: usize) -> bool
+pub(crate) fn is_reason(reasons: &ByKey<u32>, l: Lit, slot: usize) -> bool
     ensures yes { IsTrue result → at reasons.now l ≡ Some slot }
     ensures no { IsFalse result → at reasons.now l ≢ Some slot }
 {
@@ -21,7 +21,7 @@ pub(crate) fn is_reason(reasons: &Filled<u32>, l: Lit, slot: usize) -> bool
 
 /// The literal that is true by the clause in the slot, which has these literals.
 pub(crate) fn made_true_by(
-    reasons: &Filled<u32>,
+    reasons: &ByKey<u32>,
     trail: &Trail,
     clause: &[Lit],
     slot: usize,

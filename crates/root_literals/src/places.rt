@@ -5,7 +5,7 @@ ghost use Rattle.cnf_base.specs.Literals.{has};
 
 use cnf_base::{Lit, OutOfMemory};
 use std::alloc::Global;
-use tables::Filled;
+use tables::ByKey;
 
 /// The place of a literal, sought from both ends.
 #[tactic(auto, using(crate::proofs::RootLemmas::Steps::place_steps))]
@@ -35,7 +35,7 @@ pub(crate) fn place_of(lits: &[Lit], l: Lit) -> usize
 /// Places are noted where they are asked for, and not when a literal is set: most never are.
 #[derive(Drop)]
 pub(crate) struct Places {
-    by_variable: Filled<u32>,
+    by_variable: ByKey<u32>,
     /// The places from this one on are yet to be noted.
     noted: usize,
 }
@@ -44,7 +44,7 @@ impl Places {
     /// None is noted.
     pub(crate) fn new(alloc: Global) -> Self {
         Places {
-            by_variable: Filled::new(alloc),
+            by_variable: ByKey::new(alloc),
             noted: 0,
         }
     }

@@ -36,7 +36,7 @@ pub fn is_reason_at_root(
     ensures closure { IsClosure (maps.get (each_in_order store.old.live)) closure.new }
     ensures same { store.new ≡ store.old }
 {
-    if roots.has_clash() {
+    if roots.has_conflict() {
         return closure.is_root_reason(store, slot);
     }
     store.recall_invariant();

@@ -1,6 +1,6 @@
 //! The root-level literals that are kept, each with its reason, the clause that made it true.
 //!
-//! The removal of a clause that is no reason, nor the clause of a kept clash, changes nothing.
+//! The removal of a clause that is no reason, nor the clause of a kept conflict, changes nothing.
 //! Where a reason is removed, another clause takes its place if there is one by literals before its
 //! own: a copy, where it is a unit clause, so that copies may be deleted one after the other. Else
 //! the literal goes alone where nothing needs it, and otherwise the kept literals are cut back to
@@ -17,16 +17,16 @@ ghost use Rattle.std.specs.Prelude.{false, length, take, if◌then◌else◌, So
 ghost use Rattle.std.specs.Prelude.{IsSome, IfSome, IfNone, OnOk};
 ghost use Rattle.std.specs.FinMap as maps;
 ghost use Rattle.cnf_base.specs.Literals.{Literal, Clause, complement, has};
-ghost use Rattle.tables.specs.Filled.{at};
+ghost use Rattle.tables.specs.ByKey.{at};
 ghost use Rattle.trail.specs.Trail.{HasRoom};
 ghost use Rattle.theory.specs.Sets.{SameSet};
 ghost use Rattle.root_literals.specs.History.{IsRewound};
-ghost use Rattle.root_literals.specs.Roots.{HasReasons, IsArranged, IsKept, has_clash};
+ghost use Rattle.root_literals.specs.Roots.{HasReasons, IsArranged, IsKept, has_conflict};
 ghost use Rattle.root_literals.specs.Roots.{is_up_to_date};
 ghost use Rattle.root_literals.specs.Uses.{AreCounted, times};
 ghost use Rattle.watch_lists.specs.Watched.{AreUnchanged};
 ghost use Rattle.trail.specs.declared.left.Left.TheVariants.{More};
-ghost use Rattle.root_literals.specs.declared.kept.Kept.TheVariants.{Clash, WithoutUnits};
+ghost use Rattle.root_literals.specs.declared.kept.Kept.TheVariants.{Conflict, WithoutUnits};
 
 use crate::history::History;
 use crate::kept::Kept;
@@ -39,7 +39,7 @@ use clause_db::{Slot, Store};
 use cnf_base::{Lit, OutOfMemory};
 use propagation::Assumptions;
 use std::alloc::Global;
-use tables::{Filled, key};
+use tables::{ByKey, key};
 use trail::{Left, Trail};
 use watch_lists::WatchLists;
 
@@ -51,7 +51,7 @@ pub struct Roots {
     /// When they were propagated.
     pub history: History,
     /// By literal the slot of its reason.
-    pub reasons: Filled<u32>,
+    pub reasons: ByKey<u32>,
     /// How many of them have a reason with each literal.
     uses: Uses,
     places: Places,
@@ -62,7 +62,7 @@ pub struct Roots {
 /// Sets a literal that is not false by the clause in a slot, unless it is true already. Tells
 /// whether it was open. It takes no memory.
 #[inline(always)]
-pub fn set_by(assumptions: &mut Assumptions, reasons: &mut Filled<u32>, l: Lit, slot: u32) -> bool
+pub fn set_by(assumptions: &mut Assumptions, reasons: &mut ByKey<u32>, l: Lit, slot: u32) -> bool
     requires reserved { IsTrue (has assumptions.old.trail.reserved (l / 2)) }
     requires not_false { IsFalse (has assumptions.old.trail.lits (complement l)) }
     requires noted { IsSome (at reasons.old l) }
@@ -102,25 +102,25 @@ impl Roots {
         Roots {
             kept: Kept::WithoutUnits,
             history: History::new(alloc),
-            reasons: Filled::new(alloc),
+            reasons: ByKey::new(alloc),
             uses: Uses::new(alloc),
             places: Places::new(alloc),
             with_room: 0,
         }
     }
 
-    /// Whether all literals that are true with nothing assumed are kept, or a clash of theirs.
+    /// Whether all literals that are true with nothing assumed are kept, or a conflict of theirs.
     pub fn is_up_to_date(&self) -> bool
         ensures { result ≡ is_up_to_date self.now.kept }
     {
-        matches!(self.kept, Kept::All | Kept::Clash(_))
+        matches!(self.kept, Kept::All | Kept::Conflict(_))
     }
 
     /// Whether a clause is known of which all literals are false with nothing assumed.
-    pub fn has_clash(&self) -> bool
-        ensures { result ≡ has_clash self.now.kept }
+    pub fn has_conflict(&self) -> bool
+        ensures { result ≡ has_conflict self.now.kept }
     {
-        matches!(self.kept, Kept::Clash(_))
+        matches!(self.kept, Kept::Conflict(_))
     }
 
     /// Makes room for the reasons of a literal and of its complement.
@@ -186,12 +186,12 @@ impl Roots {
         let number = slot.number() as u32;
         self.history
             .enter(is_doubtful, number, assumptions.trail().len());
-        if self.has_clash() {
+        if self.has_conflict() {
             return;
         }
         match left {
             Left::More => {}
-            Left::Nothing => self.kept = Kept::Clash(number),
+            Left::Nothing => self.kept = Kept::Conflict(number),
             Left::One(l) => {
                 if set_by(assumptions, &mut self.reasons, l, number) {
                     self.kept = self.kept.with_more();
@@ -206,14 +206,14 @@ impl Roots {
     /// literals; none where nothing does.
     fn rests_from(&self, trail: &Trail, clause: &[Lit], slot: usize) -> Option<usize>
         ensures inside { IfSome result (λ place. place ≤ length trail.now.lits) }
-        ensures fewer { IfSome result (λ place. has_clash self.now.kept ≡ false →
+        ensures fewer { IfSome result (λ place. has_conflict self.now.kept ≡ false →
             place < length trail.now.lits) }
-        ensures clash { IfNone result (self.now.kept ≢ Clash slot) }
+        ensures conflict { IfNone result (self.now.kept ≢ Conflict slot) }
         ensures reasons { IfNone result ((l : Literal) → IsTrue (has clause.now l) →
             IsTrue (has trail.now.lits l) → at self.now.reasons l ≢ Some slot) }
     {
         match self.kept {
-            Kept::Clash(number) if number as usize == slot => Some(trail.len()),
+            Kept::Conflict(number) if number as usize == slot => Some(trail.len()),
             _ => {
                 let l = made_true_by(&self.reasons, trail, clause, slot)?;
                 Some(place_of(trail.lits(), l))
@@ -325,7 +325,7 @@ impl Roots {
             return false;
         };
         let is_true = assumptions.trail().is_true(l);
-        if !is_true || self.has_clash() || !is_reason(&self.reasons, l, slot.number()) {
+        if !is_true || self.has_conflict() || !is_reason(&self.reasons, l, slot.number()) {
             return false;
         }
         let lits = assumptions.trail().lits();

@@ -5,7 +5,7 @@ ghost use Rattle.std.specs.FinMap as maps;
 ghost use Rattle.cnf_base.specs.Literals.{Literal};
 ghost use Rattle.trail.specs.Trail.{HasRoomForAll};
 ghost use Rattle.theory.specs.Sets.{SameSet};
-ghost use Rattle.tables.specs.Filled.{at};
+ghost use Rattle.tables.specs.ByKey.{at};
 ghost use Rattle.watch_lists.specs.Watched.{IsUnitList};
 ghost use Rattle.root_literals.specs.Order.{each_in_order};
 ghost use Rattle.root_literals.specs.History.{HasGrown, visits};
@@ -32,7 +32,7 @@ fn settle(store: &Store, assumptions: &mut Assumptions, roots: &mut Roots) -> Op
     requires cut { roots.old.kept ≡ WithoutUnits }
     ensures kept { IsKept store.now.live roots.new assumptions.new.trail.lits }
     ensures cut { roots.new.kept ≡ WithoutUnits }
-    ensures clash { IfSome result (λ s.
+    ensures conflict { IfSome result (λ s.
         IsFalseAt (maps.get (each_in_order store.now.live)) s assumptions.new.trail.lits) }
     ensures sure { IfNone result (IsWatched (maps.get store.now.live)
         (take (visits roots.new.history) assumptions.new.trail.lits)
@@ -48,7 +48,7 @@ fn settle(store: &Store, assumptions: &mut Assumptions, roots: &mut Roots) -> Op
     let slots = roots.history.doubts.as_slice();
     match look_at(store, slots, assumptions, &mut roots.reasons) {
         Looked::Settled => None,
-        Looked::Clash(slot) => Some(slot),
+        Looked::Conflict(slot) => Some(slot),
         Looked::Open => {
             roots.cut(store, assumptions, 0);
             None
@@ -77,11 +77,11 @@ pub fn start(store: &Store, units: &SlotList, assumptions: &mut Assumptions, roo
 {
     if let Kept::WithoutUnits = roots.kept {
         if let Some(slot) = settle(store, assumptions, roots) {
-            roots.kept = Kept::Clash(slot);
+            roots.kept = Kept::Conflict(slot);
             return;
         }
         match set_units(store, units.slots(), assumptions, &mut roots.reasons) {
-            Some(slot) => roots.kept = Kept::Clash(slot),
+            Some(slot) => roots.kept = Kept::Conflict(slot),
             None => roots.kept = Kept::WithUnits,
         }
     }

@@ -2,7 +2,7 @@
 
 ghost use Rattle.std.specs.Prelude.{◌≡◌, ℕ, ◌∷◌, [], Some, IsTrue, IfSome, IfNone};
 ghost use Rattle.std.specs.FinMap as maps;
-ghost use Rattle.tables.specs.Filled.{at};
+ghost use Rattle.tables.specs.ByKey.{at};
 ghost use Rattle.root_literals.specs.Order.{each_in_order};
 ghost use Rattle.root_literals.specs.Roots.{HaveUnits, IsFalseAt};
 ghost use Rattle.watch_lists.specs.Watched.{IsUnitList, is_unit_or_empty};
@@ -12,7 +12,7 @@ use crate::roots::set_by;
 use clause_db::{Slot, Store};
 use cnf_base::Lit;
 use propagation::Assumptions;
-use tables::Filled;
+use tables::ByKey;
 
 /// The literal of a clause that has one or none.
 fn literal_of(clause: &[Lit]) -> Option<Lit>
@@ -30,11 +30,11 @@ pub(crate) fn set_units(
     store: &Store,
     slots: &[u32],
     assumptions: &mut Assumptions,
-    reasons: &mut Filled<u32>,
+    reasons: &mut ByKey<u32>,
 ) -> Option<u32>
     requires listed { IsUnitList (maps.get store.now.live) slots.now }
     requires can { CanSet store.now.live assumptions.old (at reasons.old) }
-    ensures clash { IfSome result (λ s.
+    ensures conflict { IfSome result (λ s.
         IsFalseAt (maps.get (each_in_order store.now.live)) s assumptions.new.trail.lits) }
     ensures units { IfNone result
         (HaveUnits (maps.get store.now.live) assumptions.new.trail.lits) }

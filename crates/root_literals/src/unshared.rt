@@ -10,12 +10,12 @@ ghost use Rattle.std.specs.Prelude.{◌≡◌, ◌<◌, ◌∷◌, [], length, f
 ghost use Rattle.std.specs.FinMap as maps;
 ghost use Rattle.root_literals.specs.Roots.{IsAbsent, IsUnneeded};
 ghost use Rattle.root_literals.specs.Uses.{AreCounted, clause_in, is_in};
-ghost use Rattle.tables.specs.Filled.{at};
+ghost use Rattle.tables.specs.ByKey.{at};
 
 use crate::uses::{Uses, reason_of};
 use clause_db::{Slot, Store};
 use cnf_base::Lit;
-use tables::Filled;
+use tables::ByKey;
 
 /// The literal of a clause that has no other.
 pub(crate) fn only_literal(clause: &[Lit]) -> Option<Lit>
@@ -44,7 +44,7 @@ pub(crate) fn unshared_literal(store: &Store, slot: Slot) -> Option<Lit>
 }
 
 /// Whether the reason of a literal has the literal `k`.
-fn reason_has(store: &Store, reasons: &Filled<u32>, l: Lit, k: Lit) -> bool
+fn reason_has(store: &Store, reasons: &ByKey<u32>, l: Lit, k: Lit) -> bool
     ensures { result ≡ is_in (clause_in (maps.get store.now.live) (at reasons.now l)) k }
 {
     match reason_of(store, reasons, l) {
@@ -56,7 +56,7 @@ fn reason_has(store: &Store, reasons: &Filled<u32>, l: Lit, k: Lit) -> bool
 /// Whether a literal behind this place, where `l` stands, may rest on `l`. It takes no memory.
 pub(crate) fn is_needed(
     store: &Store,
-    reasons: &Filled<u32>,
+    reasons: &ByKey<u32>,
     uses: &mut Uses,
     lits: &[Lit],
     place: usize,

@@ -14,23 +14,23 @@ ghost use Rattle.std.specs.Prelude.{if◌then◌else◌, length, take, option_ma
 ghost use Rattle.std.specs.FinMap as maps;
 ghost use Rattle.cnf_base.specs.Literals.{Literal, has, size};
 ghost use Rattle.root_literals.specs.Uses.{AreCounted, clause_in, is_in, times};
-ghost use Rattle.tables.specs.Filled.{at};
+ghost use Rattle.tables.specs.ByKey.{at};
 
 use clause_db::Store;
 use cnf_base::{Lit, OutOfMemory};
 use std::alloc::Global;
-use tables::{Filled, key};
+use tables::{ByKey, key};
 
 /// By literal how many of the first kept literals have a reason with it, or a higher number.
 #[derive(Drop)]
 pub struct Uses {
-    counts: Filled<u32>,
+    counts: ByKey<u32>,
     /// The reasons of so many literals are counted.
     counted: usize,
 }
 
 /// Counts a literal once more, if there is room for its count.
-fn count_up(counts: &mut Filled<u32>, l: Lit) -> bool
+fn count_up(counts: &mut ByKey<u32>, l: Lit) -> bool
     ensures { (k : ℕ) → unwrap_or (at counts.old k) 0 + (if result && k == l then 1 else 0) ≡
         unwrap_or (at counts.new k) 0 }
 {
@@ -45,7 +45,7 @@ fn count_up(counts: &mut Filled<u32>, l: Lit) -> bool
 }
 
 /// Counts a literal once less.
-fn count_down(counts: &mut Filled<u32>, l: Lit)
+fn count_down(counts: &mut ByKey<u32>, l: Lit)
     ensures { (k : ℕ) → unwrap_or (at counts.old k) 0 ≤
         unwrap_or (at counts.new k) 0 + (if k == l then 1 else 0) }
 {
@@ -57,7 +57,7 @@ fn count_down(counts: &mut Filled<u32>, l: Lit)
 /// Counts each of the literals once more, or some of them where there is no room for the count of
 /// one.
 #[tactic(auto, using(crate::proofs::RootLemmas::Steps::use_steps))]
-fn count_all(counts: &mut Filled<u32>, lits: &[Lit]) -> bool
+fn count_all(counts: &mut ByKey<u32>, lits: &[Lit]) -> bool
     ensures { (k : ℕ) → unwrap_or (at counts.old k) 0
         + (if result && has lits.now k then 1 else 0) ≤ unwrap_or (at counts.new k) 0 }
 {
@@ -71,7 +71,7 @@ fn count_all(counts: &mut Filled<u32>, lits: &[Lit]) -> bool
 
 /// Counts each of the literals once less, where none is repeated.
 #[tactic(auto, using(clause_db::proofs::StoreLemmas::Counts::met_more))]
-fn release(counts: &mut Filled<u32>, lits: &[Lit])
+fn release(counts: &mut ByKey<u32>, lits: &[Lit])
     requires different { size lits.now ≡ length lits.now }
     ensures { (k : ℕ) → unwrap_or (at counts.old k) 0 ≤
         unwrap_or (at counts.new k) 0 + (if has lits.now k then 1 else 0) }
@@ -82,7 +82,7 @@ fn release(counts: &mut Filled<u32>, lits: &[Lit])
 }
 
 /// The clause that is the reason of a literal, as the table has it.
-pub(crate) fn reason_of<'a>(store: &'a Store, reasons: &Filled<u32>, l: Lit) -> Option<&'a [Lit]>
+pub(crate) fn reason_of<'a>(store: &'a Store, reasons: &ByKey<u32>, l: Lit) -> Option<&'a [Lit]>
     ensures { option_map (λ c. c.now) result ≡
         clause_in (maps.get store.now.live) (at reasons.now l) }
 {
@@ -91,7 +91,7 @@ pub(crate) fn reason_of<'a>(store: &'a Store, reasons: &Filled<u32>, l: Lit) -> 
 }
 
 /// Counts the literals of the reason of a literal once more, if there is room for their counts.
-fn count_reason(counts: &mut Filled<u32>, store: &Store, reasons: &Filled<u32>, l: Lit) -> bool
+fn count_reason(counts: &mut ByKey<u32>, store: &Store, reasons: &ByKey<u32>, l: Lit) -> bool
     ensures { (k : ℕ) → unwrap_or (at counts.old k) 0
         + (if result && is_in (clause_in (maps.get store.now.live) (at reasons.now l)) k
         then 1 else 0) ≤ unwrap_or (at counts.new k) 0 }
@@ -103,7 +103,7 @@ fn count_reason(counts: &mut Filled<u32>, store: &Store, reasons: &Filled<u32>, 
 }
 
 /// Counts the literals of the reason of a literal once less.
-fn release_reason(counts: &mut Filled<u32>, store: &Store, reasons: &Filled<u32>, l: Lit)
+fn release_reason(counts: &mut ByKey<u32>, store: &Store, reasons: &ByKey<u32>, l: Lit)
     ensures { (k : ℕ) → unwrap_or (at counts.old k) 0 ≤ unwrap_or (at counts.new k) 0
         + (if is_in (clause_in (maps.get store.now.live) (at reasons.now l)) k then 1 else 0) }
 {
@@ -119,7 +119,7 @@ impl Uses {
         ensures { result.counted ≡ 0 }
     {
         Uses {
-            counts: Filled::new(alloc),
+            counts: ByKey::new(alloc),
             counted: 0,
         }
     }
@@ -135,7 +135,7 @@ impl Uses {
 
     /// Counts the reasons of the literals that were set since, as long as there is room for their
     /// counts. It takes no memory.
-    pub(crate) fn count(&mut self, store: &Store, reasons: &Filled<u32>, lits: &[Lit])
+    pub(crate) fn count(&mut self, store: &Store, reasons: &ByKey<u32>, lits: &[Lit])
         requires { AreCounted (maps.get store.now.live) (at reasons.now) lits.now self.old }
         ensures { AreCounted (maps.get store.now.live) (at reasons.now) lits.now self.new }
     {
@@ -152,7 +152,7 @@ impl Uses {
     pub(crate) fn is_unused(
         &self,
         store: &Store,
-        reasons: &Filled<u32>,
+        reasons: &ByKey<u32>,
         lits: &[Lit],
         k: Lit,
     ) -> bool
@@ -165,7 +165,7 @@ impl Uses {
 
     /// Only the first so many literals are to be left: the reasons of the others are counted no
     /// longer. It takes no memory.
-    pub(crate) fn cut(&mut self, store: &Store, reasons: &Filled<u32>, lits: &[Lit], len: usize)
+    pub(crate) fn cut(&mut self, store: &Store, reasons: &ByKey<u32>, lits: &[Lit], len: usize)
         ensures counted { AreCounted (maps.get store.now.live) (at reasons.now) lits.now self.old →
             AreCounted (maps.get store.now.live) (at reasons.now) (take len lits.now) self.new }
         ensures inside { self.new.counted ≤ len }

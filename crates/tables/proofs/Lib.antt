@@ -1,2 +1,2 @@
-pub mod FilledLemmas
+pub mod ByKeyLemmas
 pub mod ListsLemmas

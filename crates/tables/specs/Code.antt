@@ -1,3 +1,3 @@
 -- How the parts of the code fit together. No public contract speaks of it.
-pub mod Filled
+pub mod ByKey
 pub mod Lists

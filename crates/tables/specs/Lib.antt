@@ -1,4 +1,3 @@
-pub mod Table
-pub mod Filled
+pub mod ByKey
 pub mod Lists
 pub mod Code

@@ -1,11 +1,9 @@
 //! Values and lists by numbers of 32 bits, such as variables, literals and slots.
 #![tactic(auto)]
 
-mod filled;
+mod by_key;
 mod growth;
 mod lists;
-mod table;
 
-pub use filled::Filled;
+pub use by_key::{ByKey, key};
 pub use lists::Lists;
-pub use table::{Table, key};

@@ -38,8 +38,8 @@ fn total_near<T: Copy + Drop>(lists: &Vec<Vec<T>>) -> u64
     ensures { result ≡ min (total lists.now.items) 18446744073709551615 }
 {
     let mut entries: u64 = 0;
-    for number in 0..lists.len() {
-        entries = entries.saturating_add(lists[number].len() as u64);
+    for list in lists {
+        entries = entries.saturating_add(list.len() as u64);
     }
     entries
 }
@@ -68,23 +68,14 @@ fn add<T: Copy + Drop>(list: &mut Vec<T>, entry: T) -> Result<(), OutOfMemory>
     Ok(())
 }
 
-/// Takes room from a list that has more than it needs. It keeps room for twice as many entries as
-/// it has, so that it isn't moved again at once. Where that is refused, it keeps all.
-#[cold]
-#[inline(never)]
-fn shrink<T: Copy + Drop>(list: &mut Vec<T>)
-    ensures { list.new.items ≡ list.old.items }
-{
-    list.shrink_to(list.len().saturating_mul(2).max(LEAST_KEPT));
-}
-
-/// Takes room from a list that has fallen below a quarter of it.
+/// Takes room from a list that has fallen below a quarter of it. It keeps room for twice as many
+/// entries as it has, so that it isn't moved again at once. Where that is refused, it keeps all.
 #[inline(always)]
 fn give_back<T: Copy + Drop>(list: &mut Vec<T>)
     ensures { list.new.items ≡ list.old.items }
 {
     if list.capacity() > LEAST_KEPT && list.len() < list.capacity() / 4 {
-        shrink(list);
+        list.shrink_to(list.len().saturating_mul(2).max(LEAST_KEPT));
     }
 }
 
@@ -208,15 +199,6 @@ impl<T: Copy + Drop> Lists<T> {
         Ok(())
     }
 
-    /// Makes room for so many more entries in the list of a near key.
-    fn reserve_near(&mut self, key: usize, more: usize) -> Result<(), OutOfMemory>
-        requires near { key < vec_len self.old.near }
-        ensures same { AreSame self.old self.new }
-        ensures len { vec_len self.new.near ≡ vec_len self.old.near }
-    {
-        Ok(self.near[key].reserve_exact(more)?)
-    }
-
     /// Makes room for so many more entries in the lists of the first keys, by key. So lists that
     /// are filled one after the other needn't grow, and have no more room than they need.
     pub fn reserve_each(&mut self, more: &[u16]) -> Result<(), OutOfMemory>
@@ -228,35 +210,24 @@ impl<T: Copy + Drop> Lists<T> {
         }
         self.widen(more.len())?;
         for key in 0..more.len() {
-            self.reserve_near(key, usize::from(more[key]))?;
+            self.near[key].reserve_exact(usize::from(more[key]))?;
         }
         Ok(())
     }
 
-    /// Gives a key that has none a list in `far`.
-    fn add_far(&mut self, key: u32) -> Result<(), OutOfMemory>
-        ensures same { AreSame self.old self.new }
-        ensures known { OnOk result (IsTrue (has_list_at self.new key)) }
-    {
-        if !self.far.contains_key(&key) {
-            self.far.insert(key, Vec::new(self.alloc))?;
-        }
-        Ok(())
-    }
-
-    /// Gives a key a list where it has none. A list in `far` comes to `near` where its key is near
-    /// by now.
+    /// Gives a key a list where it has none.
     fn make_list(&mut self, key: u32) -> Result<(), OutOfMemory>
         ensures same { AreSame self.old self.new }
         ensures known { OnOk result (IsTrue (has_list_at self.new key)) }
     {
-        if (key as usize) < self.near.len() {
+        if self.has_list(key) {
             return Ok(());
         }
-        match len_for(key, self.near.len(), self.far.len()) {
-            Some(len) => self.widen(len),
-            None => self.add_far(key),
+        if let Some(len) = len_for(key, self.near.len(), self.far.len()) {
+            return self.widen(len);
         }
+        self.far.insert(key, Vec::new(self.alloc))?;
+        Ok(())
     }
 
     /// Puts an entry at the end of the list of a key.

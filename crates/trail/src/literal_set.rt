@@ -6,11 +6,11 @@ ghost use Rattle.std.specs.List.{list_any};
 ghost use Rattle.cnf_base.specs.Literals.{complement, has};
 ghost use Rattle.trail.specs.Reduced.{is_reduced};
 ghost use Rattle.trail.specs.Numbers.{number_at};
-ghost use Rattle.tables.specs.Filled.{at};
+ghost use Rattle.tables.specs.ByKey.{at};
 
 use cnf_base::{Lit, OutOfMemory};
 use std::alloc::Global;
-use tables::{Filled, key};
+use tables::{ByKey, key};
 
 /// A set of literals. It is filled again and again, and keeps its room.
 ///
@@ -19,14 +19,14 @@ use tables::{Filled, key};
 #[derive(Drop)]
 pub struct LiteralSet {
     alloc: Global,
-    numbers: Filled<u64>,
+    numbers: ByKey<u64>,
     /// The number of the last filling.
     last: u64,
     ghost few: { (l : ℕ) → number_at numbers l ≤ last },
 }
 
 /// Makes room for the literals.
-fn reserve_literals(numbers: &mut Filled<u64>, lits: &[Lit]) -> Result<(), OutOfMemory>
+fn reserve_literals(numbers: &mut ByKey<u64>, lits: &[Lit]) -> Result<(), OutOfMemory>
     ensures known { OnOk result
         ((l : ℕ) → IsTrue (has lits.now l) → IsSome (at numbers.new l)) }
     ensures numbers { (l : ℕ) → number_at numbers.new l ≡ number_at numbers.old l }
@@ -38,7 +38,7 @@ fn reserve_literals(numbers: &mut Filled<u64>, lits: &[Lit]) -> Result<(), OutOf
 }
 
 /// Notes the literals with the number.
-fn number_literals(numbers: &mut Filled<u64>, lits: &[Lit], number: u64)
+fn number_literals(numbers: &mut ByKey<u64>, lits: &[Lit], number: u64)
     requires known { (l : ℕ) → IsTrue (has lits.now l) → IsSome (at numbers.old l) }
     ensures numbers { (l : ℕ) → number_at numbers.new l ≡
         (if has lits.now l then number else number_at numbers.old l) }
@@ -58,7 +58,7 @@ impl LiteralSet {
     {
         LiteralSet {
             alloc,
-            numbers: Filled::new(alloc),
+            numbers: ByKey::new(alloc),
             last: 1,
         }
     }

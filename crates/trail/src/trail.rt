@@ -27,7 +27,7 @@ use crate::value::Value;
 use cnf_base::{Lit, OutOfMemory};
 use std::alloc::Global;
 use std::marker::Model;
-use tables::{Filled, Table, key};
+use tables::{ByKey, key};
 
 /// The literals that are true, in the order in which they were set. No two are of one variable.
 ///
@@ -41,22 +41,21 @@ pub struct Trail {
     /// It has room for one literal of each variable that was reserved.
     lits: Vec<Lit>,
     /// The variables that were reserved.
-    seen: Table<()>,
+    seen: ByKey<bool>,
     /// These are all up to this one: to look each up would be a load that no cache has.
     dense: u32,
     /// How many these are.
     count: usize,
     /// By literal, for both literals of each variable that was reserved.
-    values: Filled<Value>,
+    values: ByKey<Value>,
 }
 
 impl Model for Trail {
     ghost use Rattle.std.specs.Prelude.{vec_capacity};
-    ghost use Rattle.std.specs.Prelude.{◌≡◌, ◌<◌, ◌≤◌, ℕ, IsSome, length};
+    ghost use Rattle.std.specs.Prelude.{◌≡◌, ◌<◌, ◌≤◌, ℕ, IsTrue, length};
     ghost use Rattle.trail.specs.Trail.{TrailState};
-    ghost use Rattle.trail.specs.Code.Values.{IsTrail, reserved_in};
-    ghost use Rattle.tables.specs.Filled as filled;
-    ghost use Rattle.tables.specs.Table.{at};
+    ghost use Rattle.trail.specs.Code.Values.{IsTrail, reserved_in, seen_in};
+    ghost use Rattle.tables.specs.ByKey.{at};
 
     ghost Value = { TrailState };
 
@@ -64,13 +63,13 @@ impl Model for Trail {
     // variable and by literal have entries only for variables that were met.
     ghost view = { λ record { lits = lits; seen = seen; dense = _; count = _; values = _ }. record {
       lits = lits.items;
-      reserved = reserved_in (at seen);
+      reserved = reserved_in (seen_in seen);
     } };
 
     ghost invariant = { λ t.
-        IsTrail t.lits.items (reserved_in (at t.seen)) (vec_capacity t.lits) (at t.seen)
-        (filled.at t.values) × (t.count ≡ length (reserved_in (at t.seen)))
-        × ((v : ℕ) → 0 < v → v ≤ t.dense → IsSome (at t.seen v)) };
+        IsTrail t.lits.items (reserved_in (seen_in t.seen)) (vec_capacity t.lits) (seen_in t.seen)
+        (at t.values) × (t.count ≡ length (reserved_in (seen_in t.seen)))
+        × ((v : ℕ) → 0 < v → v ≤ t.dense → IsTrue (seen_in t.seen v)) };
 }
 
 /// The literal that says that the variable is true; none for 0 and past the greatest variable.
@@ -121,10 +120,10 @@ impl Trail {
     {
         Ok(Trail {
             lits: Vec::new(alloc),
-            seen: Table::new(alloc),
+            seen: ByKey::new(alloc),
             dense: 0,
             count: 0,
-            values: Filled::new(alloc),
+            values: ByKey::new(alloc),
         })
     }
 
@@ -152,7 +151,7 @@ impl Trail {
     pub fn has_room(&self, var: u32) -> bool
         ensures { result ≡ has self.now.reserved var }
     {
-        var.wrapping_sub(1) < self.dense || self.seen.get(var).is_some()
+        var.wrapping_sub(1) < self.dense || self.seen.get_or(var, false)
     }
 
     /// Makes room for a variable for which there is none.
@@ -170,7 +169,8 @@ impl Trail {
         };
         self.lits.reserve(self.count + 1)?;
         reserve_both(&mut self.values, lit)?;
-        self.seen.reserve(var, ())?;
+        self.seen.reserve(var, false)?;
+        self.seen.set(var, true);
         self.count += 1;
         self.dense = dense_with(self.dense, var);
         Ok(())
@@ -284,7 +284,7 @@ impl Trail {
         let near = self.seen.near();
         for l in clause {
             match near.get(l.var() as usize) {
-                Some(Some(())) => {}
+                Some(true) => {}
                 _ => return false,
             }
         }

@@ -19,4 +19,4 @@ pub record WatchState : Type 0 where
   pub roots : List Literal
   pub is_loading : Bool
   pub is_up_to_date : Bool
-  pub has_clash : Bool
+  pub has_conflict : Bool

@@ -44,7 +44,7 @@ pub(crate) fn assume_part<P: Part>(
     if assume_from(store, assumptions, source, part)? {
         return Ok(Answer::Clash);
     }
-    if roots.has_clash() {
+    if roots.has_conflict() {
         return Ok(Answer::Clash);
     }
     match run(store, lists, assumptions, &mut roots.reasons, from) {

@@ -7,7 +7,7 @@ ghost use Rattle.cnf_base.specs.Literals.{Literal, complements, has};
 ghost use Rattle.propagation.specs.Assumptions.{Assumption, IsThere, MayAssume, assumed_by};
 ghost use Rattle.trail.specs.Trail.{HasRoom};
 ghost use Rattle.theory.specs.Sets.{SameSet, conflicts};
-ghost use Rattle.tables.specs.Filled.{at};
+ghost use Rattle.tables.specs.ByKey.{at};
 ghost use Rattle.watch.specs.Code.ClauseSource.{HasRoomGiven, clause_of};
 ghost use Rattle.watch.specs.Code.State.{AddsRoom, HaveReasons};
 ghost use Rattle.propagation.specs.declared.answer.Answer.TheVariants.{Clash};
@@ -52,16 +52,16 @@ pub(crate) fn assume_from<P: Part>(
     requires may { MayAssume assumptions.old.assumptions }
     requires alive { IsThere store.now.live source.now }
     requires room { HasRoom assumptions.old.trail.reserved (clause_of store.now.live source.now) }
-    ensures conflict { IfOk result (λ is_clash. is_clash ≡ conflicts
+    ensures conflict { IfOk result (λ is_conflict. is_conflict ≡ conflicts
         (assumptions.old.trail.lits
         ++ complements (filter (P.keeps part.now) (clause_of store.now.live source.now)))) }
-    ensures added { IfOk result (λ is_clash.
-        OnFalse is_clash (SameSet assumptions.new.trail.lits (assumptions.old.trail.lits
+    ensures added { IfOk result (λ is_conflict.
+        OnFalse is_conflict (SameSet assumptions.new.trail.lits (assumptions.old.trail.lits
         ++ complements (filter (P.keeps part.now) (clause_of store.now.live source.now))))) }
-    ensures assumed { IfOk result (λ is_clash. (all : List Literal) ×
+    ensures assumed { IfOk result (λ is_conflict. (all : List Literal) ×
         (assumptions.new.assumptions ≡
         record { answer = Clash; assumed = all } ∷ assumptions.old.assumptions)
-        × OnFalse is_clash (SameSet all (assumed_by assumptions.old.assumptions
+        × OnFalse is_conflict (SameSet all (assumed_by assumptions.old.assumptions
         ++ complements (filter (P.keeps part.now) (clause_of store.now.live source.now))))) }
     ensures starts { OnOk result (assumptions.new.starts ≡
         length assumptions.old.trail.lits ∷ assumptions.old.starts) }

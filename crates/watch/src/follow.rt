@@ -24,14 +24,14 @@ ghost use Rattle.watch.specs.Code.Visits.{AreMet, CanFollow, CanLook, CanVisit, 
 ghost use Rattle.watch.specs.Code.Visits.{HasRoomForBlocking, IsExchangeAt, IsFoundAfter};
 ghost use Rattle.watch.specs.Code.Visits.{IsFoundNext, IsInHand, IsNextSlot, Visited, VisitsUnder};
 ghost use Rattle.watch.specs.Code.Visits.{entries_left};
-ghost use Rattle.tables.specs.Filled.{at};
+ghost use Rattle.tables.specs.ByKey.{at};
 
 use crate::visit::{Exchange, Visit, look_at};
 use clause_db::{Slot, Store};
 use cnf_base::{Lit, OutOfMemory};
 use propagation::Assumptions;
 use root_literals::set_by;
-use tables::Filled;
+use tables::ByKey;
 use trail::{Assignment, Trail, is_true_under};
 use watch_lists::{Cursor, WatchLists, Watcher};
 
@@ -83,7 +83,7 @@ pub(crate) enum Found {
     /// This literal alone isn't false.
     Unit(Lit),
     /// All literals are false.
-    Clash,
+    Conflict,
 }
 
 /// An entry of whose clause something is found.
@@ -128,7 +128,7 @@ fn visit<A: Assignment>(
             Ok(None)
         }
         Visit::Unit(m) => Ok(Some(Found::Unit(m))),
-        Visit::Clash => Ok(Some(Found::Clash)),
+        Visit::Conflict => Ok(Some(Found::Conflict)),
     }
 }
 
@@ -211,14 +211,14 @@ fn visit_all(
     store: &mut Store,
     lists: &mut WatchLists,
     assumptions: &mut Assumptions,
-    reasons: &mut Filled<u32>,
+    reasons: &mut ByKey<u32>,
     cursor: &mut Cursor,
     l: Lit,
 ) -> Result<Option<u32>, OutOfMemory>
     requires front { cursor.old.visited ≡ 0 }
     requires can { CanVisit store.old.live lists.old cursor.old.entries assumptions.old
         (at reasons.old) l }
-    ensures clash { IfOk result (λ found. IfSome found (λ s.
+    ensures conflict { IfOk result (λ found. IfSome found (λ s.
         IsFalseAt (maps.get (each_in_order store.new.live)) s assumptions.new.trail.lits)) }
     ensures met { IfOk result (λ found. IfNone found ((s : ℕ) (c : Clause) →
         maps.get store.new.live s ≡ Some c → IsMet c l assumptions.new.trail.lits)) }
@@ -235,7 +235,7 @@ fn visit_all(
                 set_by(assumptions, reasons, m, entry.slot());
                 cursor.keep(entry);
             }
-            Found::Clash => return Ok(Some(entry.slot())),
+            Found::Conflict => return Ok(Some(entry.slot())),
         }
     }
     Ok(None)
@@ -248,12 +248,12 @@ pub(crate) fn visit_list(
     store: &mut Store,
     lists: &mut WatchLists,
     assumptions: &mut Assumptions,
-    reasons: &mut Filled<u32>,
+    reasons: &mut ByKey<u32>,
     l: Lit,
     list: Vec<Watcher>,
 ) -> Result<Option<u32>, OutOfMemory>
     requires can { CanVisit store.old.live lists.old list.items assumptions.old (at reasons.old) l }
-    ensures clash { IfOk result (λ found. IfSome found (λ s.
+    ensures conflict { IfOk result (λ found. IfSome found (λ s.
         IsFalseAt (maps.get (each_in_order store.new.live)) s assumptions.new.trail.lits)) }
     ensures met { IfOk result (λ found. IfNone found ((s : ℕ) (c : Clause) →
         maps.get store.new.live s ≡ Some c → IsMet c l assumptions.new.trail.lits)) }
@@ -277,12 +277,12 @@ pub(crate) fn follow(
     store: &mut Store,
     lists: &mut WatchLists,
     assumptions: &mut Assumptions,
-    reasons: &mut Filled<u32>,
+    reasons: &mut ByKey<u32>,
     l: Lit,
 ) -> Result<Option<u32>, OutOfMemory>
     requires can { CanFollow store.old.live lists.old assumptions.old (at reasons.old) }
     requires is_false { IsTrue (has assumptions.old.trail.lits (complement l)) }
-    ensures clash { IfOk result (λ found. IfSome found (λ s.
+    ensures conflict { IfOk result (λ found. IfSome found (λ s.
         IsFalseAt (maps.get (each_in_order store.new.live)) s assumptions.new.trail.lits)) }
     ensures met { IfOk result (λ found. IfNone found ((s : ℕ) (c : Clause) →
         maps.get store.new.live s ≡ Some c → IsMet c l assumptions.new.trail.lits)) }

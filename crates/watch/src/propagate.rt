@@ -11,13 +11,13 @@ ghost use Rattle.root_literals.specs.Watched.{IsMet, IsWatched};
 ghost use Rattle.root_literals.specs.Roots.{IsFalseAt};
 ghost use Rattle.watch.specs.Code.Visits.{CanFollow, Followed};
 ghost use Rattle.watch_lists.specs.Waiting.{count_of, waits};
-ghost use Rattle.tables.specs.Filled.{at};
+ghost use Rattle.tables.specs.ByKey.{at};
 
 use crate::follow::{follow, visit_list};
 use clause_db::Store;
 use cnf_base::{Lit, OutOfMemory};
 use propagation::Assumptions;
-use tables::Filled;
+use tables::ByKey;
 use watch_lists::{Waiting, WatchLists};
 
 /// Visits all clauses that watch a literal which became false, up to one that is false: its slot.
@@ -27,13 +27,13 @@ fn follow_or_wait(
     store: &mut Store,
     lists: &mut WatchLists,
     assumptions: &mut Assumptions,
-    reasons: &mut Filled<u32>,
+    reasons: &mut ByKey<u32>,
     waiting: &mut Waiting,
     l: Lit,
 ) -> Result<Option<u32>, OutOfMemory>
     requires can { CanFollow store.old.live lists.old assumptions.old (at reasons.old) }
     requires is_false { IsTrue (has assumptions.old.trail.lits (complement l)) }
-    ensures clash { IfOk result (λ found. IfSome found (λ s.
+    ensures conflict { IfOk result (λ found. IfSome found (λ s.
         IsFalseAt (maps.get (each_in_order store.new.live)) s assumptions.new.trail.lits)) }
     ensures met { IfOk result (λ found. IfNone found (IsFalse (waits waiting.new l) →
         (s : ℕ) (c : Clause) → maps.get store.new.live s ≡ Some c →
@@ -61,14 +61,14 @@ pub(crate) fn propagate(
     store: &mut Store,
     lists: &mut WatchLists,
     assumptions: &mut Assumptions,
-    reasons: &mut Filled<u32>,
+    reasons: &mut ByKey<u32>,
     from: usize,
 ) -> Result<Option<u32>, OutOfMemory>
     requires from { from ≤ length assumptions.old.trail.lits }
     requires can { CanFollow store.old.live lists.old assumptions.old (at reasons.old) }
     requires watched { IsWatched (maps.get store.old.live)
         (take from assumptions.old.trail.lits) assumptions.old.trail.lits }
-    ensures clash { IfOk result (λ found. IfSome found (λ s.
+    ensures conflict { IfOk result (λ found. IfSome found (λ s.
         IsFalseAt (maps.get (each_in_order store.new.live)) s assumptions.new.trail.lits)) }
     ensures watched { IfOk result (λ found. IfNone found (IsWatched (maps.get store.new.live)
         assumptions.new.trail.lits assumptions.new.trail.lits)) }

@@ -9,7 +9,7 @@ ghost use Rattle.root_literals.specs.Roots.{IsKept, lacks_units, is_up_to_date};
 ghost use Rattle.root_literals.specs.Watched.{IsWatched};
 ghost use Rattle.watch.specs.Code.State.{IsWatch};
 ghost use Rattle.watch.specs.Code.Visits.{CanFollow, Followed};
-ghost use Rattle.tables.specs.Filled.{at};
+ghost use Rattle.tables.specs.ByKey.{at};
 
 use crate::follow::follow;
 use clause_db::Store;
@@ -18,8 +18,8 @@ use propagation::Assumptions;
 use root_literals::{Kept, Roots, start};
 use watch_lists::{SlotList, WatchLists};
 
-/// Propagates the literals that are kept and were not propagated yet, up to a clash. It notes how
-/// many literals were true when each visit began, and of the first how many were when the ones
+/// Propagates the literals that are kept and were not propagated yet, up to a conflict. It notes
+/// how many literals were true when each visit began, and of the first how many were when the ones
 /// before were over: a cut goes back to the last one that began with no more than it keeps.
 ///
 /// # Errors
@@ -55,7 +55,7 @@ fn catch_up(
         roots.history.begin(trues.max(done + 1))?;
         match follow(store, lists, assumptions, &mut roots.reasons, l)? {
             Some(slot) => {
-                roots.kept = Kept::Clash(slot);
+                roots.kept = Kept::Conflict(slot);
                 return Ok(());
             }
             None => done += 1,

@@ -5,7 +5,7 @@
 
 ghost use Rattle.std.specs.Prelude.{◌≡◌, ◌/◌, ℕ, IsTrue, IsSome, OnOk};
 ghost use Rattle.cnf_base.specs.Literals.{Literal, has};
-ghost use Rattle.tables.specs.Filled.{at};
+ghost use Rattle.tables.specs.ByKey.{at};
 ghost use Rattle.trail.specs.Trail.{HasRoom};
 ghost use Rattle.watch.specs.Code.State.{AddsRoom, HaveReasons};
 

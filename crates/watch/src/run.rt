@@ -3,7 +3,7 @@
 ghost use Rattle.std.specs.Prelude.{◌≡◌, ◌≤◌, length, take, IfOk};
 ghost use Rattle.std.specs.FinMap as maps;
 ghost use Rattle.cnf_base.specs.Literals.{has};
-ghost use Rattle.tables.specs.Filled.{at};
+ghost use Rattle.tables.specs.ByKey.{at};
 ghost use Rattle.propagation.specs.Assumptions.{IsAnswer};
 ghost use Rattle.root_literals.specs.Order.{each_in_order};
 ghost use Rattle.root_literals.specs.Roots.{HaveUnits};
@@ -16,16 +16,16 @@ use crate::propagate::propagate;
 use clause_db::Store;
 use cnf_base::OutOfMemory;
 use propagation::{Answer, Assumptions};
-use tables::Filled;
+use tables::ByKey;
 use watch_lists::WatchLists;
 
-/// Sets all that follows from the literals that are true, or stops at a clash. Those before the
+/// Sets all that follows from the literals that are true, or stops at a conflict. Those before the
 /// place `from` are propagated.
 pub(crate) fn run(
     store: &mut Store,
     lists: &mut WatchLists,
     assumptions: &mut Assumptions,
-    reasons: &mut Filled<u32>,
+    reasons: &mut ByKey<u32>,
     from: usize,
 ) -> Result<Answer, OutOfMemory>
     requires from { from ≤ length assumptions.old.trail.lits }

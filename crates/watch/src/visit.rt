@@ -34,7 +34,7 @@ pub(crate) enum Visit {
     /// All its other literals are false.
     Unit(Lit),
     /// All its literals are false.
-    Clash,
+    Conflict,
 }
 
 /// The other literal that the clause watches.
@@ -72,7 +72,7 @@ fn look<A: Assignment>(assignment: &A, clause: &[Lit], l: Lit) -> Visit
         }),
         // Asked again, since it would be carried through the search for a non-false literal.
         None => match assignment.value_of(other) {
-            Value::False => Visit::Clash,
+            Value::False => Visit::Conflict,
             _ => Visit::Unit(other),
         },
     }
@@ -98,7 +98,7 @@ pub(crate) fn look_at<A: Assignment>(store: &Store, assignment: &A, entry: Watch
     }
     let other = entry.blocking();
     match assignment.value_of(other) {
-        Value::False => Visit::Clash,
+        Value::False => Visit::Conflict,
         _ => Visit::Unit(other),
     }
 }

@@ -46,7 +46,7 @@ pub struct Watch {
     assumptions: Assumptions,
     /// What is known of the literals that are true with nothing assumed.
     roots: Roots,
-    /// All that follows with nothing assumed, from when it is first asked for past a clash.
+    /// All that follows with nothing assumed, from when it is first asked for past a conflict.
     closure: Closure,
     has_refused: bool,
     /// Whether the lists are still to be made. Until then they have no entries.
@@ -64,7 +64,7 @@ impl Model for Watch {
     ghost use Rattle.propagation.specs.Assumptions.{roots_in};
     ghost use Rattle.propagation.specs.Closure.{IsClosure};
     ghost use Rattle.std.specs.FinMap as maps;
-    ghost use Rattle.root_literals.specs.Roots.{has_clash, is_up_to_date};
+    ghost use Rattle.root_literals.specs.Roots.{has_conflict, is_up_to_date};
     ghost use Rattle.watch_lists.specs.Watched.{IsTautologyList};
     ghost use Rattle.watch.specs.Code.State.{IsWatch, variables_in, watch_code};
     ghost use Rattle.watch.specs.State.{WatchState};
@@ -112,7 +112,7 @@ impl Model for Watch {
       roots = roots_in assumptions.trail.lits assumptions.assumptions assumptions.starts;
       is_loading = is_loading;
       is_up_to_date = is_up_to_date kept;
-      has_clash = has_clash kept;
+      has_conflict = has_conflict kept;
     } };
 
     ghost invariant = { λ w.
@@ -261,7 +261,7 @@ impl Watch {
         ensures refused { self.new.propagation.has_refused ≡ self.old.propagation.has_refused }
         ensures up_to_date { self.new.is_up_to_date ≡ true }
         ensures roots { self.new.roots ≡ self.old.roots }
-        ensures clash { self.new.has_clash ≡ self.old.has_clash }
+        ensures conflict { self.new.has_conflict ≡ self.old.has_conflict }
         ensures slots { self.new.slots ≡ self.old.slots }
     {
         self.assumptions.undo();

@@ -26,10 +26,10 @@ use crate::watcher::Watcher;
 use clause_db::Store;
 use cnf_base::{Lit, OutOfMemory};
 use std::alloc::Global;
-use tables::{Filled, key};
+use tables::{ByKey, key};
 
 /// Counts a literal, up to the greatest number.
-fn count(counts: &mut Filled<u16>, l: Lit) -> Result<(), OutOfMemory> {
+fn count(counts: &mut ByKey<u16>, l: Lit) -> Result<(), OutOfMemory> {
     counts.reserve(key(l), 0)?;
     let so_far = counts.get_or(key(l), 0);
     counts.set(key(l), so_far.saturating_add(1));
@@ -49,8 +49,8 @@ fn count_all(
     alloc: Global,
     store: &Store,
     tautologies: &SlotList,
-) -> Result<Filled<u16>, OutOfMemory> {
-    let mut counts = Filled::new(alloc);
+) -> Result<ByKey<u16>, OutOfMemory> {
+    let mut counts = ByKey::new(alloc);
     for slot in 0..store.end() {
         if let Some([first, second, ..]) = store.at(slot)
             && !is_among(tautologies, slot)

@@ -10,20 +10,20 @@ ghost use Rattle.watch_lists.specs.Lists.{times_in};
 use cnf_base::OutOfMemory;
 use std::alloc::Global;
 use std::marker::Model;
-use tables::Table;
+use tables::ByKey;
 
 /// Slots, none of them twice. One is taken out without a walk.
 #[derive(Drop)]
 pub struct SlotList {
     slots: Vec<u32>,
     /// By slot its place.
-    places: Table<u32>,
+    places: ByKey<u32>,
 }
 
 impl Model for SlotList {
     ghost use Rattle.std.specs.Prelude.{List, ℕ};
     ghost use Rattle.std.specs.Coded.{coded_list, coded_ℕ};
-    ghost use Rattle.tables.specs.Table.{at};
+    ghost use Rattle.tables.specs.ByKey.{at};
     ghost use Rattle.watch_lists.specs.Code.SlotList.{IsPlaced};
 
     ghost Value = { List ℕ };
@@ -43,7 +43,7 @@ impl SlotList {
     {
         SlotList {
             slots: Vec::new(alloc),
-            places: Table::new(alloc),
+            places: ByKey::new(alloc),
         }
     }
 

@@ -3,7 +3,7 @@
 //! The order is free. What follows from short lists makes literals true that long ones have for
 //! blocking literals, and often there is a conflict before a long list is visited.
 
-ghost use Rattle.std.specs.Prelude.{◌≡◌, ◌≢◌, ◌+◌, ◌<◌, length, if◌then◌else◌, true, false};
+ghost use Rattle.std.specs.Prelude.{◌≡◌, ◌≢◌, ◌↔◌, ◌+◌, ◌<◌, ◌≤◌, length, if◌then◌else◌, true, false};
 ghost use Rattle.std.specs.Prelude.{IfSome, IfNone, IsTrue, IsFalse};
 ghost use Rattle.cnf_base.specs.Literals.{Literal};
 ghost use Rattle.watch_lists.specs.Waiting.{count_of, waits};
@@ -58,6 +58,7 @@ impl Waiting {
     /// tells whether it does.
     #[inline(always)]
     pub fn put(&mut self, l: Lit, entries: usize) -> bool
+        ensures told { IsTrue result ↔ ((64 ≤ entries) × (count_of self.old < 16)) }
         ensures waits { result ≡ true → IsTrue (waits self.new l) }
         ensures others { (k : Literal) → k ≢ l → waits self.new k ≡ waits self.old k }
         ensures none { result ≡ false → self.new ≡ self.old }
@@ -70,6 +71,7 @@ impl Waiting {
     #[cold]
     #[inline(never)]
     fn add(&mut self, waiter: Waiter) -> bool
+        ensures told { IsTrue result ↔ (count_of self.old < 16) }
         ensures waits { result ≡ true → IsTrue (waits self.new waiter.l) }
         ensures others { (k : Literal) → k ≢ waiter.l → waits self.new k ≡ waits self.old k }
         ensures none { result ≡ false → self.new ≡ self.old }

@@ -1,5 +1,5 @@
 -- The clauses in the slots below a number, as they are passed one after the other.
-use Rattle.std.proofs.Common.{◌≡◌, ◌≢◌, ℕ, ◌+◌, ◌<◌, ◌≤◌, cond, Some, None, IsSome, nat_lt, sym}
+use Rattle.std.proofs.Common.{◌≡◌, ◌≢◌, ℕ, ◌+◌, ◌<◌, ◌≤◌, cond, Some, None, IsSome, nat_lt}
 use Rattle.std.proofs.Common.{◌∙◌, arith, nat_cmp, lt-ltb}
 use Rattle.std.{specs.FinMap.FinMap, proofs.lemmas.Bool.cases_lt}
 use Rattle.std.specs.FinMap as maps
@@ -21,7 +21,7 @@ gone n m s high = grind (arith, below_get)
 
 -- none is below the first one, and all are below a number that is above them
 pub below_none : (m : FinMap nat_cmp Clause) → below 0 m ≡ maps.empty
-below_none m = same_maps _ _ (λ s. gone 0 m s (omega arith) ∙ sym (maps.get-empty nat_cmp s))
+below_none m = grind (arith, same_maps, gone, maps.get-empty)
 
 pub below_all : (n : ℕ) (m : FinMap nat_cmp Clause) → ((s : ℕ) → IsSome (maps.get m s) → s < n)
     → below n m ≡ m

@@ -1,8 +1,8 @@
 -- How many of the clauses have a literal: through a change of the clauses, and so far in a walk.
 use Rattle.cnf_base.proofs.WalkLemmas.{is_in}
 use Rattle.std.proofs.Common.{◌≡◌, ℕ, ◌+◌, ◌<◌, ◌≤◌, Bool, true, false, cond, eqb, eqb-true, Option}
-use Rattle.std.proofs.Common.{Some, None, is_some, ◌||◌, length, take, get_or, refl, sym, ap, ◌∙◌}
-use Rattle.std.proofs.{Common.arith, lemmas.Bool.true≢false}
+use Rattle.std.proofs.Common.{Some, None, is_some, length, take, get_or, refl, sym, ◌∙◌}
+use Rattle.std.proofs.{Common.arith}
 use Rattle.std.specs.{Ordering.nat_cmp, FinMap.FinMap}
 use Rattle.std.specs.FinMap as maps
 use Rattle.cnf_base.specs.Literals.{Literal, Clause, has, size}
@@ -12,22 +12,17 @@ use Rattle.cnf_base.proofs.MapLemmas.{sum_insert, sum_remove, sum_replace}
 use Rattle.clause_db.specs.Store.{copies_with}
 use Rattle.clause_db.specs.Code.{Counts.AreCounted, Counts.count_of, Kept.has_in}
 use Rattle.clause_db.proofs.StoreLemmas.Marks.{eqb_turn, new_here, size_more}
-use Rattle.tables.specs.{Filled.at, declared.filled.Filled.Filled}
+use Rattle.tables.specs.{ByKey.at, declared.by_key.ByKey.ByKey}
 
 abbrev with_literal : ℕ → Clause → ℕ
 with_literal l c = cond (has c l) 1 0
 
 pub copies_few : (live : FinMap nat_cmp Clause) (l : Literal) → copies_with live l ≤ maps.len live
-copies_few live l =
-    grind (arith, sum_bound (with_literal l) 1 live (λ s c is. at_most_one (has c l)))
-  where
-    at_most_one : (b : Bool) → cond b 1 0 ≤ 1
-    at_most_one true = omega arith
-    at_most_one false = omega arith
+copies_few live l = grind (arith, sum_bound (with_literal l) 1 live)
 
 -- ---- Through a change of the clauses
 
-module _ (old new : Filled ℕ) (live : FinMap nat_cmp Clause) (k : ℕ) (c : Clause) (are : AreCounted (Some old) live) where
+module _ (old new : ByKey ℕ) (live : FinMap nat_cmp Clause) (k : ℕ) (c : Clause) (are : AreCounted (Some old) live) where
   pub counted_with : maps.get live k ≡ None
       → ((l : ℕ) → count_of (at new l) ≡ count_of (at old l) + cond (has c l) 1 0)
       → AreCounted (Some new) (maps.insert live k c)
@@ -39,14 +34,14 @@ module _ (old new : Filled ℕ) (live : FinMap nat_cmp Clause) (k : ℕ) (c : Cl
   counted_without here counts l = grind (arith, sum_remove)
 
 -- a literal of a clause is counted
-pub counted_here : (counts : Filled ℕ) (live : FinMap nat_cmp Clause) (k : ℕ) (c : Clause)
+pub counted_here : (counts : ByKey ℕ) (live : FinMap nat_cmp Clause) (k : ℕ) (c : Clause)
     → AreCounted (Some counts) live → maps.get live k ≡ Some c → (l : ℕ) → has c l ≡ true
     → 0 < count_of (at counts l)
 counted_here counts live k c are here l member =
     grind (arith, sum_remove (with_literal l) live k c here)
 
 -- a clause in the place of one with the same literals
-pub counted_replaced : (counts : Option (Filled ℕ)) (live : FinMap nat_cmp Clause) (k : ℕ)
+pub counted_replaced : (counts : Option (ByKey ℕ)) (live : FinMap nat_cmp Clause) (k : ℕ)
     (c d : Clause) → maps.get live k ≡ Some c → ((l : ℕ) → has d l ≡ has c l)
     → AreCounted counts live → AreCounted counts (maps.insert live k d)
 counted_replaced counts live k c d here alike are = grind (arith, sum_replace)
@@ -57,14 +52,7 @@ module _ (c : Clause) (i : ℕ) (inside : i < length c) (x : Literal) (is : x �
   pub met_more : (k : Literal) → cond {A = ℕ} (has (take (i + 1) c) k) 1 0
       ≡ cond (has (take i c) k) 1 0 + cond (eqb k x) 1 0
   met_more k =
-      cc (has_more c i inside x is k, by_tests (eqb x k) (has (take i c) k) (λ e. sym (ap (has (take i c)) (eqb-true x k e)) ∙ new_here c i inside x is different), eqb_turn x k)
-    where
-      by_tests : (e h : Bool) → (e ≡ true → h ≡ false)
-          → cond {A = ℕ} (h || e) 1 0 ≡ cond h 1 0 + cond e 1 0
-      by_tests true true new = absurd (true≢false (new refl))
-      by_tests true false new = omega arith
-      by_tests false true new = omega arith
-      by_tests false false new = omega arith
+      grind (arith, has_more c i inside x is k, new_here c i inside x is different, eqb-true)
 
 -- ---- A walk over the slots
 

@@ -10,15 +10,15 @@ use Rattle.cnf_base.proofs.SizeLemmas.{size_same}
 use Rattle.cnf_base.proofs.MapLemmas.{after_insert, after_remove, sum_alike, sum_bound, sum_empty}
 use Rattle.cnf_base.proofs.MapLemmas.{sum_insert, sum_remove, sum_replace}
 use Rattle.clause_db.specs.{Store.literals_in, Code.LiteralMarks.is_marked, Code.Fields.IsStore}
-use Rattle.tables.specs.{Filled.at, declared.filled.Filled.Filled}
+use Rattle.tables.specs.{ByKey.at, declared.by_key.ByKey.ByKey}
 
 -- ---- No clauses
 
-pub sound_empty : (marks : Filled Bool) → ((l : ℕ) → at marks l ≡ None)
+pub sound_empty : (marks : ByKey Bool) → ((l : ℕ) → at marks l ≡ None)
     → IsStore maps.empty 0 marks 0
 sound_empty marks no_marks = grind (arith, maps.get-empty, sum_empty)
 
-module _ (live : FinMap nat_cmp Clause) (stored : ℕ) (marks : Filled Bool) (sum : ℕ) (sound : IsStore live stored marks sum) where
+module _ (live : FinMap nat_cmp Clause) (stored : ℕ) (marks : ByKey Bool) (sum : ℕ) (sound : IsStore live stored marks sum) where
   -- ---- What is kept
 
   pub live_alone : stored ≡ literals_in live
@@ -31,7 +31,7 @@ module _ (live : FinMap nat_cmp Clause) (stored : ℕ) (marks : Filled Bool) (su
 
   -- ---- One clause more
 
-  module _ (k : ℕ) (x : Clause) (free : maps.get live k ≡ None) (different : size x ≡ length x) (short : length x < 18446744073709551616) (after : Filled Bool)
+  module _ (k : ℕ) (x : Clause) (free : maps.get live k ≡ None) (different : size x ≡ length x) (short : length x < 18446744073709551616) (after : ByKey Bool)
       (known : (l : ℕ) → has x l ≡ true → is_some (at after l) ≡ true) (kept_known : (l : ℕ) → is_some (at marks l) ≡ true → is_some (at after l) ≡ true) (clear : (l : ℕ) → is_marked (at after l) ≡ false) where
     pub sound_with : (kept : ℕ) → kept ≡ memory.literals_in (maps.insert live k x)
         → IsStore (maps.insert live k x) kept after (sum + length x)

@@ -1,6 +1,6 @@
 -- Walks over a clause: what is so of the literals so far, through one more literal.
 use Rattle.std.proofs.Common.{◌≡◌, ℕ, ◌+◌, ◌%◌, ◌^◌, ◌<◌, ◌≤◌, ◌&&◌, ◌||◌, Bool, true, false, not}
-use Rattle.std.proofs.Common.{eqb, [], ◌∷◌, ◌++◌, length, take, get_or, length-append, refl, ◌∙◌}
+use Rattle.std.proofs.Common.{eqb, [], ◌∷◌, ◌++◌, length, take, get_or, length-append}
 use Rattle.std.proofs.Common.{arith}
 use Rattle.cnf_base.specs.Literals.{Literal, Clause, has, size}
 use Rattle.clause_index.specs.Hashes.{mix, mixed_sum}
@@ -61,23 +61,10 @@ module _ (c : Clause) (i : ℕ) (inside : i < length c) (x : Literal) (is : x �
   pub gather_more : (k : Literal) (before after : Bool) → after ≡ (not (eqb k x) && before)
       → before ≡ (has c k && not (has (take i c) k))
       → after ≡ (has c k && not (has (take (i + 1) c) k))
-  gather_more k before after step was = grind (arith, eqb_turn, by_tests, has_more)
-    where
-      by_tests : (e m h : Bool) → (not e && (m && not h)) ≡ (m && not (h || e))
-      by_tests true true true = refl
-      by_tests true true false = refl
-      by_tests true false h = refl
-      by_tests false true true = refl
-      by_tests false true false = refl
-      by_tests false false h = refl
+  gather_more k before after step was = grind (arith, eqb_turn, has_more c i inside x is k)
 
   pub has_kept : has (take i c) x ≡ true → (k : Literal) → has (take (i + 1) c) k ≡ has (take i c) k
-  has_kept old k = has_more c i inside x is k ∙ by_test (eqb x k) (has (take i c) k) (grind arith)
-    where
-      by_test : (e h : Bool) → (e ≡ true → h ≡ true) → (h || e) ≡ h
-      by_test true h g = grind arith
-      by_test false true g = refl
-      by_test false false g = refl
+  has_kept old k = grind (arith, has_more c i inside x is k, eqb_turn)
 
   module _ (kept : Clause) (same : (k : Literal) → has kept k ≡ has (take i c) k) (new : has (take i c) x ≡ false) where
     pub push_same : (k : Literal) → has (kept ++ x ∷ []) k ≡ has (take (i + 1) c) k

@@ -1,10 +1,10 @@
 -- A clause in the place of one with the same literals, in all fields of a store.
-use Rattle.std.proofs.Common.{◌≡◌, ℕ, Bool, Option, Some, length, sym, ap, ◌∙◌, arith}
+use Rattle.std.proofs.Common.{◌≡◌, ℕ, Bool, Option, Some, length, arith}
 use Rattle.std.specs.{Ordering.nat_cmp, FinMap.FinMap}
 use Rattle.std.specs.FinMap as maps
 use Rattle.cnf_base.specs.Literals.{Clause, has}
 use Rattle.occurrences.specs.declared.by_literal.Occurrences.{Occurrences}
-use Rattle.tables.specs.declared.filled.Filled.{Filled}
+use Rattle.tables.specs.declared.by_key.ByKey.{ByKey}
 use Rattle.clause_memory.specs.Memory as memory
 use Rattle.clause_index.specs.{Code.Chains.Indexes, declared.index.Index.Index}
 use Rattle.clause_index.proofs.IndexLemmas.{Hashes.hash_same, Whole.index_swapped}
@@ -12,8 +12,8 @@ use Rattle.clause_db.specs.Code.{Counts.AreCounted, Fields.IsStore, Kept.AreKept
 use Rattle.clause_db.proofs.StoreLemmas.{Counts.counted_replaced, Fields.sound_replaced}
 use Rattle.clause_db.proofs.StoreLemmas.Kept.{kept_replaced}
 
-module _ (index : Index) (occurrences : Option Occurrences) (counts : Option (Filled ℕ))
-    (marks : Filled Bool) (sum : ℕ) where
+module _ (index : Index) (occurrences : Option Occurrences) (counts : Option (ByKey ℕ))
+    (marks : ByKey Bool) (sum : ℕ) where
   -- what is so of the fields
   abbrev pub AreFields : FinMap nat_cmp Clause → ℕ → Type 0
   AreFields live stored =
@@ -25,6 +25,5 @@ module _ (index : Index) (occurrences : Option Occurrences) (counts : Option (Fi
       → ((l : ℕ) → has y l ≡ has x l) → length y ≡ length x
       → now ≡ maps.insert live k y → kept ≡ memory.literals_in now → AreFields now kept
   all_replaced live now stored kept k x y are here alike as_long is alone =
-      let hashes = hash_same index.seed y x (λ l h. sym (alike l) ∙ h) (λ l h. alike l ∙ h) in
-      let kept_is = alone ∙ ap memory.literals_in is in
-      grind (arith, sound_replaced live stored marks sum are.0 k x here y alike as_long kept kept_is, index_swapped index live are.1 k x y here hashes, kept_replaced occurrences live k x y here alike are.2, counted_replaced counts live k x y here alike are.3)
+      let hashes = hash_same index.seed y x (grind arith) (grind arith) in
+      grind (arith, sound_replaced live stored marks sum are.0 k x here y alike as_long kept, index_swapped index live are.1 k x y, kept_replaced, counted_replaced)

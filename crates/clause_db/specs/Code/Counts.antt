@@ -4,8 +4,8 @@ use Rattle.std.specs.Ordering.{nat_cmp}
 use Rattle.std.specs.Prelude.{◌≡◌, ℕ, Option, Some, None, ⊤}
 use Rattle.cnf_base.specs.Literals.{Clause, Literal}
 use Rattle.clause_db.specs.Store.{copies_with}
-use Rattle.tables.specs.Filled.{at}
-use Rattle.tables.specs.declared.filled.Filled.{Filled}
+use Rattle.tables.specs.ByKey.{at}
+use Rattle.tables.specs.declared.by_key.ByKey.{ByKey}
 
 -- how often a literal is counted
 abbrev pub count_of : Option ℕ → ℕ
@@ -13,6 +13,6 @@ count_of None = 0
 count_of (Some count) = count
 
 -- where they are kept, each is that of the clauses with the literal
-abbrev pub AreCounted : Option (Filled ℕ) → FinMap nat_cmp Clause → Type 0
+abbrev pub AreCounted : Option (ByKey ℕ) → FinMap nat_cmp Clause → Type 0
 AreCounted None live = ⊤
 AreCounted (Some counts) live = (l : Literal) → count_of (at counts l) ≡ copies_with live l

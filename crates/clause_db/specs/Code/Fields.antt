@@ -8,8 +8,8 @@ use Rattle.std.specs.Prelude.{IsTrue}
 use Rattle.cnf_base.specs.Literals.{Clause, has, same_clause, size}
 use Rattle.clause_memory.specs.Memory as memory
 use Rattle.clause_memory.specs.Memory.{MemoryState}
-use Rattle.tables.specs.Filled.{at}
-use Rattle.tables.specs.declared.filled.Filled.{Filled}
+use Rattle.tables.specs.ByKey.{at}
+use Rattle.tables.specs.declared.by_key.ByKey.{ByKey}
 use Rattle.clause_db.specs.Code.LiteralMarks.{is_marked}
 use Rattle.clause_db.specs.Store.{StoreState}
 
@@ -23,7 +23,7 @@ store_code =
 
 -- no clause repeats a literal, the table knows each literal of a clause and has no marks, and the
 -- sum is that of the lengths
-pub record IsStore (live : FinMap nat_cmp Clause) (stored : ℕ) (marks : Filled Bool) (sum : ℕ) :
+pub record IsStore (live : FinMap nat_cmp Clause) (stored : ℕ) (marks : ByKey Bool) (sum : ℕ) :
     Type 0 where
   pub different : (s : ℕ) (c : Clause) → maps.get live s ≡ Some c → size c ≡ length c
   pub short : (s : ℕ) (c : Clause) → maps.get live s ≡ Some c → length c < 18446744073709551616

@@ -13,22 +13,22 @@ ghost use Rattle.cnf_base.specs.Literals.{Clause, has, size};
 ghost use Rattle.clause_db.specs.Store.{copies_with};
 ghost use Rattle.clause_db.specs.Code.Counts.{AreCounted, count_of};
 ghost use Rattle.clause_db.specs.Code.Kept.{has_in};
-ghost use Rattle.tables.specs.Filled.{at};
+ghost use Rattle.tables.specs.ByKey.{at};
 
 use clause_memory::Memory;
 use cnf_base::{Lit, OutOfMemory};
 use std::alloc::Global;
-use tables::{Filled, key};
+use tables::{ByKey, key};
 
 /// How often a literal is counted.
-fn count_at(counts: &Filled<u32>, l: Lit) -> u32
+fn count_at(counts: &ByKey<u32>, l: Lit) -> u32
     ensures { result ≡ count_of (at counts.now l) }
 {
     counts.get_or(key(l), 0)
 }
 
 /// Counts a literal once more, for which it makes room.
-fn count_up(counts: &mut Filled<u32>, l: Lit) -> Result<(), OutOfMemory>
+fn count_up(counts: &mut ByKey<u32>, l: Lit) -> Result<(), OutOfMemory>
     requires { count_of (at counts.old l) < 4294967295 }
     ensures ok { OnOk result ((k : ℕ) → count_of (at counts.new k) ≡
         count_of (at counts.old k) + (if k == l then 1 else 0)) }
@@ -42,7 +42,7 @@ fn count_up(counts: &mut Filled<u32>, l: Lit) -> Result<(), OutOfMemory>
 }
 
 /// Counts a literal once less.
-fn count_down(counts: &mut Filled<u32>, l: Lit)
+fn count_down(counts: &mut ByKey<u32>, l: Lit)
     requires { 0 < count_of (at counts.old l) }
     ensures { (k : ℕ) →
         count_of (at counts.new k) + (if k == l then 1 else 0) ≡ count_of (at counts.old k) }
@@ -54,7 +54,7 @@ fn count_down(counts: &mut Filled<u32>, l: Lit)
 
 /// Counts each of the literals once less, where no literal is repeated.
 #[tactic(auto, using(crate::proofs::StoreLemmas::Counts::count_steps))]
-fn release(counts: &mut Filled<u32>, lits: &[Lit])
+fn release(counts: &mut ByKey<u32>, lits: &[Lit])
     requires different { size lits.now ≡ length lits.now }
     requires counted { (l : ℕ) → has lits.now l ≡ true → 0 < count_of (at counts.old l) }
     ensures { (l : ℕ) → count_of (at counts.new l) +
@@ -68,7 +68,7 @@ fn release(counts: &mut Filled<u32>, lits: &[Lit])
 /// Counts each of the literals once more, where no literal is repeated. Where memory is refused, it
 /// counts none.
 #[tactic(auto, using(crate::proofs::StoreLemmas::Counts::count_steps))]
-fn count_all(counts: &mut Filled<u32>, lits: &[Lit]) -> Result<(), OutOfMemory>
+fn count_all(counts: &mut ByKey<u32>, lits: &[Lit]) -> Result<(), OutOfMemory>
     requires different { size lits.now ≡ length lits.now }
     requires few { (l : ℕ) → count_of (at counts.old l) < 4294967295 }
     ensures ok { OnOk result ((l : ℕ) → count_of (at counts.new l) ≡
@@ -87,7 +87,7 @@ fn count_all(counts: &mut Filled<u32>, lits: &[Lit]) -> Result<(), OutOfMemory>
 
 /// Counts the literals of the clause in a slot, if there is one.
 fn count_slot<M: Memory>(
-    counts: &mut Filled<u32>,
+    counts: &mut ByKey<u32>,
     memory: &M,
     slot: usize,
 ) -> Result<(), OutOfMemory>
@@ -106,13 +106,13 @@ fn count_slot<M: Memory>(
 }
 
 /// By literal how many of the clauses have it.
-fn counts_in<M: Memory>(alloc: Global, memory: &M) -> Result<Filled<u32>, OutOfMemory>
+fn counts_in<M: Memory>(alloc: Global, memory: &M) -> Result<ByKey<u32>, OutOfMemory>
     requires { (s : ℕ) (c : Clause) → maps.get (M.seen memory.now).live s ≡ Some c →
         size c ≡ length c }
     ensures { IfOk result (λ counts. AreCounted (Some counts) (M.seen memory.now).live) }
 {
     memory.recall_invariant();
-    let mut counts = Filled::new(alloc);
+    let mut counts = ByKey::new(alloc);
     for slot in 0..memory.end() {
         count_slot(&mut counts, memory, slot)?;
     }
@@ -144,7 +144,7 @@ fn copies_in<M: Memory>(memory: &M, l: Lit) -> u64
 
 /// Keeps the counts from now on.
 pub(crate) fn keep<M: Memory>(
-    counts: &mut Option<Filled<u32>>,
+    counts: &mut Option<ByKey<u32>>,
     alloc: Global,
     memory: &M,
 ) -> Result<(), OutOfMemory>
@@ -161,7 +161,7 @@ pub(crate) fn keep<M: Memory>(
 }
 
 /// How many of the clauses have the literal.
-pub(crate) fn count_with<M: Memory>(counts: &Option<Filled<u32>>, memory: &M, l: Lit) -> u64
+pub(crate) fn count_with<M: Memory>(counts: &Option<ByKey<u32>>, memory: &M, l: Lit) -> u64
     requires { AreCounted counts.now (M.seen memory.now).live }
     ensures { result ≡ copies_with (M.seen memory.now).live l }
 {
@@ -172,7 +172,7 @@ pub(crate) fn count_with<M: Memory>(counts: &Option<Filled<u32>>, memory: &M, l:
 }
 
 /// Counts the literals of a further clause, where the counts are kept.
-pub(crate) fn count_in(counts: &mut Option<Filled<u32>>, lits: &[Lit]) -> Result<(), OutOfMemory>
+pub(crate) fn count_in(counts: &mut Option<ByKey<u32>>, lits: &[Lit]) -> Result<(), OutOfMemory>
     requires different { size lits.now ≡ length lits.now }
     requires few { (live : FinMap nat_cmp Clause) × AreCounted counts.old live
         × (maps.len live < 4294967295) }
@@ -189,7 +189,7 @@ pub(crate) fn count_in(counts: &mut Option<Filled<u32>>, lits: &[Lit]) -> Result
 }
 
 /// Counts the literals of a clause no longer, where the counts are kept. It takes no memory.
-pub(crate) fn count_out(counts: &mut Option<Filled<u32>>, lits: &[Lit])
+pub(crate) fn count_out(counts: &mut Option<ByKey<u32>>, lits: &[Lit])
     requires different { size lits.now ≡ length lits.now }
     requires there { (live : FinMap nat_cmp Clause) × (slot : ℕ) × AreCounted counts.old live
         × (maps.get live slot ≡ Some lits.now) }

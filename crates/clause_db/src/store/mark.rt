@@ -3,13 +3,13 @@
 ghost use Rattle.std.specs.Prelude.{◌≡◌, ℕ, ◌==◌, ◌&&◌, ◌||◌, not, is_some};
 ghost use Rattle.std.specs.Prelude.{IsSome, IfOk, OnOk, OnErr};
 ghost use Rattle.clause_db.specs.Code.LiteralMarks.{is_marked};
-ghost use Rattle.tables.specs.Filled.{at};
+ghost use Rattle.tables.specs.ByKey.{at};
 
 use cnf_base::{Lit, OutOfMemory};
-use tables::{Filled, key};
+use tables::{ByKey, key};
 
 /// Marks a literal, and tells whether it was not marked before.
-pub(crate) fn set_mark(marks: &mut Filled<bool>, l: Lit) -> bool
+pub(crate) fn set_mark(marks: &mut ByKey<bool>, l: Lit) -> bool
     requires { IsSome (at marks.old l) }
     ensures was { result ≡ not (is_marked (at marks.old l)) }
     ensures marked { (k : ℕ) →
@@ -22,7 +22,7 @@ pub(crate) fn set_mark(marks: &mut Filled<bool>, l: Lit) -> bool
 }
 
 /// Marks a literal, for which it makes room, and tells whether it was not marked before.
-pub(crate) fn add_mark(marks: &mut Filled<bool>, l: Lit) -> Result<bool, OutOfMemory>
+pub(crate) fn add_mark(marks: &mut ByKey<bool>, l: Lit) -> Result<bool, OutOfMemory>
     ensures was { IfOk result (λ is_new. is_new ≡ not (is_marked (at marks.old l))) }
     ensures marked { OnOk result ((k : ℕ) → is_marked (at marks.new k) ≡
         (k == l || is_marked (at marks.old k))) }
@@ -36,7 +36,7 @@ pub(crate) fn add_mark(marks: &mut Filled<bool>, l: Lit) -> Result<bool, OutOfMe
 }
 
 /// Takes the mark off a literal, and tells whether it was marked.
-pub(crate) fn clear_mark(marks: &mut Filled<bool>, l: Lit) -> bool
+pub(crate) fn clear_mark(marks: &mut ByKey<bool>, l: Lit) -> bool
     ensures was { result ≡ is_marked (at marks.old l) }
     ensures marked { (k : ℕ) → is_marked (at marks.new k) ≡
         (not (k == l) && is_marked (at marks.old k)) }

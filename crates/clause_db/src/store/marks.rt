@@ -8,12 +8,12 @@ ghost use Rattle.cnf_base.specs.Literals.{has, same_clause, size};
 ghost use Rattle.clause_index.specs.Hashes.{hash};
 ghost use Rattle.clause_db.specs.Store.{is_tautology};
 ghost use Rattle.clause_db.specs.Code.LiteralMarks.{is_marked};
-ghost use Rattle.tables.specs.Filled.{at};
+ghost use Rattle.tables.specs.ByKey.{at};
 
 use crate::store::mark::{add_mark, clear_mark, set_mark};
 use clause_index::{mixed, upper_half};
 use cnf_base::{Lit, OutOfMemory};
-use tables::{Filled, key};
+use tables::{ByKey, key};
 
 /// How many different literals a clause has, and its hash as a set, by a seed.
 #[derive(Clone, Copy)]
@@ -24,7 +24,7 @@ pub(crate) struct Digest {
 
 /// Makes room in the table for the literals and marks them, where none is marked, and counts the
 /// different ones.
-pub(crate) fn mark_new(marks: &mut Filled<bool>, lits: &[Lit]) -> Result<usize, OutOfMemory>
+pub(crate) fn mark_new(marks: &mut ByKey<bool>, lits: &[Lit]) -> Result<usize, OutOfMemory>
     requires { (l : ℕ) → is_marked (at marks.old l) ≡ false }
     ensures len { IfOk result (λ len. len ≡ size lits.now) }
     ensures short { OnOk result (size lits.now < 18446744073709551616) }
@@ -86,7 +86,7 @@ pub(crate) fn few_have_complements(lits: &[Lit]) -> bool
 
 /// Marks the literals, where none is marked, up to the first one whose complement is marked by then.
 /// Tells whether there is one.
-fn mark_up_to_complement(marks: &mut Filled<bool>, lits: &[Lit]) -> bool
+fn mark_up_to_complement(marks: &mut ByKey<bool>, lits: &[Lit]) -> bool
     requires known { (l : ℕ) → has lits.now l ≡ true → IsSome (at marks.old l) }
     requires clear { (l : ℕ) → is_marked (at marks.old l) ≡ false }
     ensures yes { result ≡ is_tautology lits.now }
@@ -103,7 +103,7 @@ fn mark_up_to_complement(marks: &mut Filled<bool>, lits: &[Lit]) -> bool
 }
 
 /// Whether a literal and its complement are among these, where none is marked.
-pub(crate) fn have_complements(marks: &mut Filled<bool>, lits: &[Lit]) -> bool
+pub(crate) fn have_complements(marks: &mut ByKey<bool>, lits: &[Lit]) -> bool
     requires known { (l : ℕ) → has lits.now l ≡ true → IsSome (at marks.old l) }
     requires clear { (l : ℕ) → is_marked (at marks.old l) ≡ false }
     ensures yes { result ≡ is_tautology lits.now }
@@ -117,7 +117,7 @@ pub(crate) fn have_complements(marks: &mut Filled<bool>, lits: &[Lit]) -> bool
 
 /// Makes room in the table for the literals.
 #[inline(always)]
-pub(crate) fn make_known(marks: &mut Filled<bool>, lits: &[Lit]) -> Result<(), OutOfMemory>
+pub(crate) fn make_known(marks: &mut ByKey<bool>, lits: &[Lit]) -> Result<(), OutOfMemory>
     ensures known { OnOk result
         ((l : ℕ) → has lits.now l ≡ true → IsSome (at marks.new l)) }
     ensures still_known { (l : ℕ) → IsSome (at marks.old l) → IsSome (at marks.new l) }
@@ -130,27 +130,27 @@ pub(crate) fn make_known(marks: &mut Filled<bool>, lits: &[Lit]) -> Result<(), O
 }
 
 /// Whether the table has each literal.
-pub(crate) fn all_known(marks: &Filled<bool>, lits: &[Lit]) -> bool
+pub(crate) fn all_known(marks: &ByKey<bool>, lits: &[Lit]) -> bool
     ensures { result ≡ list_all (λ l. is_some (at marks.now l)) lits.now }
 {
     lits.iter().all(|l| marks.get(key(*l)).is_some())
 }
 
 /// Whether each literal is marked.
-pub(crate) fn all_marked(marks: &Filled<bool>, lits: &[Lit]) -> bool
+pub(crate) fn all_marked(marks: &ByKey<bool>, lits: &[Lit]) -> bool
     ensures { result ≡ list_all (λ l. is_marked (at marks.now l)) lits.now }
 {
     lits.iter().all(|l| is_set(marks, *l))
 }
 
-fn is_set(marks: &Filled<bool>, l: Lit) -> bool
+fn is_set(marks: &ByKey<bool>, l: Lit) -> bool
     ensures { result ≡ is_marked (at marks.now l) }
 {
     marks.get_or(key(l), false)
 }
 
 /// Marks the literals, where none is marked, and hashes them by the seed.
-pub(crate) fn mark_all(marks: &mut Filled<bool>, lits: &[Lit], seed: u64) -> Digest
+pub(crate) fn mark_all(marks: &mut ByKey<bool>, lits: &[Lit], seed: u64) -> Digest
     requires known { (l : ℕ) → has lits.now l ≡ true → IsSome (at marks.old l) }
     requires clear { (l : ℕ) → is_marked (at marks.old l) ≡ false }
     ensures len { result.len ≡ size lits.now }
@@ -174,7 +174,7 @@ pub(crate) fn mark_all(marks: &mut Filled<bool>, lits: &[Lit], seed: u64) -> Dig
 }
 
 /// Takes the marks off the literals, where no others are marked.
-pub(crate) fn unmark_all(marks: &mut Filled<bool>, lits: &[Lit])
+pub(crate) fn unmark_all(marks: &mut ByKey<bool>, lits: &[Lit])
     requires { (l : ℕ) → is_marked (at marks.old l) ≡ true → has lits.now l ≡ true }
     ensures clear { (l : ℕ) → is_marked (at marks.new l) ≡ false }
     ensures known { (l : ℕ) → is_some (at marks.new l) ≡ is_some (at marks.old l) }
@@ -185,7 +185,7 @@ pub(crate) fn unmark_all(marks: &mut Filled<bool>, lits: &[Lit])
 }
 
 /// Puts each of the marked literals into `kept` once, and takes its mark off.
-pub(crate) fn gather(marks: &mut Filled<bool>, lits: &[Lit], kept: &mut Vec<Lit>)
+pub(crate) fn gather(marks: &mut ByKey<bool>, lits: &[Lit], kept: &mut Vec<Lit>)
     requires marked { (l : ℕ) → is_marked (at marks.old l) ≡ has lits.now l }
     requires empty { kept.old.items ≡ [] }
     requires room { size lits.now ≤ vec_capacity kept.old }

@@ -13,19 +13,19 @@ ghost use Rattle.clause_index.specs.Hashes.{hash};
 ghost use Rattle.clause_index.specs.Index.{seed_of};
 ghost use Rattle.clause_db.specs.Code.LiteralMarks.{is_marked};
 ghost use Rattle.clause_db.specs.Code.Matches.{is_match, is_match_in, is_unit_in};
-ghost use Rattle.tables.specs.Filled.{at};
+ghost use Rattle.tables.specs.ByKey.{at};
 
 use crate::store::marks::{Digest, all_marked};
 use clause_index::{Index, Indexing, Sought, mixed, upper_half};
 use clause_memory::Memory;
 use cnf_base::Lit;
-use tables::Filled;
+use tables::ByKey;
 
 /// The slot of a clause of so many literals, each of them marked.
 #[derive(Clone, Copy)]
 struct Marked<'a, M: Memory> {
     memory: &'a M,
-    marks: &'a Filled<bool>,
+    marks: &'a ByKey<bool>,
     len: usize,
 }
 
@@ -68,7 +68,7 @@ impl<M: Memory> Sought for OtherUnit<'_, M> {
 pub(crate) fn find_marked<M: Memory>(
     memory: &M,
     index: &Index,
-    marks: &Filled<bool>,
+    marks: &ByKey<bool>,
     digest: &Digest,
 ) -> Option<u32>
     requires { ⟦<Index as Indexing>⟧.indexes index.now (M.seen memory.now).live }

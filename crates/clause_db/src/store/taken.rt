@@ -6,13 +6,13 @@ ghost use Rattle.cnf_base.specs.Literals.{has, same_clause, size};
 ghost use Rattle.clause_db.specs.Store.{slots_for};
 ghost use Rattle.clause_db.specs.Code.Fields.{IsTakenIn};
 ghost use Rattle.clause_db.specs.Code.LiteralMarks.{is_marked};
-ghost use Rattle.tables.specs.Filled.{at};
+ghost use Rattle.tables.specs.ByKey.{at};
 
 use crate::store::marks::{are_different, gather, make_known, mark_new, unmark_all};
 use clause_memory::Memory;
 use cnf_base::{Lit, OutOfMemory};
 use std::alloc::Global;
-use tables::Filled;
+use tables::ByKey;
 
 /// So many literals are compared with one another.
 pub(crate) const FEW: usize = 8;
@@ -20,7 +20,7 @@ pub(crate) const FEW: usize = 8;
 /// The marked literals, each once, where so many are marked. Their marks are taken off.
 fn without_repeats(
     alloc: Global,
-    marks: &mut Filled<bool>,
+    marks: &mut ByKey<bool>,
     lits: &[Lit],
     len: usize,
 ) -> Result<Vec<Lit>, OutOfMemory>
@@ -40,7 +40,7 @@ fn without_repeats(
 fn put_in<M: Memory>(
     alloc: Global,
     memory: &mut M,
-    marks: &mut Filled<bool>,
+    marks: &mut ByKey<bool>,
     lits: &[Lit],
 ) -> Result<usize, OutOfMemory>
     requires { (l : ℕ) → is_marked (at marks.old l) ≡ false }
@@ -66,7 +66,7 @@ fn put_in<M: Memory>(
 pub(crate) fn take_in<M: Memory>(
     alloc: Global,
     memory: &mut M,
-    marks: &mut Filled<bool>,
+    marks: &mut ByKey<bool>,
     lits: &[Lit],
 ) -> Result<usize, OutOfMemory>
     requires { (l : ℕ) → is_marked (at marks.old l) ≡ false }

@@ -1,10 +1,10 @@
 -- Slots that are put into chains one after the other.
-use Rattle.std.proofs.Common.{◌≡◌, ℕ, ◌+◌, ◌<◌, ◌≤◌, cond, List, [], length, get_or, Option, Some}
-use Rattle.std.proofs.Common.{None, if◌then◌else◌, ◌==◌, nat_lt, replicate, refl, sym, ap, ◌∙◌, inl}
-use Rattle.std.proofs.Common.{inr, arith, eq-eqb, ne_eqb, lt-ltb, le-ltb}
-use Rattle.std.proofs.lemmas.Bool.{false≢true, cases_lt}
-use Rattle.std.proofs.lemmas.{List.get_or-replicate, List.length-replicate, Option.none-some}
-use Rattle.clause_index.specs.Code.Chains.{AreChained, ArePlaced, AreVacant, IsHeld, below, home}
+use Rattle.std.proofs.Common.{◌≡◌, ℕ, ◌+◌, ◌<◌, ◌≤◌, List, [], length, get_or, Option, Some}
+use Rattle.std.proofs.Common.{None, if◌then◌else◌, ◌==◌, replicate, ◌∙◌, inl}
+use Rattle.std.proofs.Common.{inr, arith, eq-eqb, ne_eqb}
+use Rattle.std.proofs.lemmas.Bool.{cases_lt}
+use Rattle.std.proofs.lemmas.{List.get_or-replicate, List.length-replicate}
+use Rattle.clause_index.specs.Code.Chains.{AreChained, ArePlaced, IsHeld, below, home}
 use Rattle.clause_index.specs.{Code.Chains.link_at, declared.link.Link.Link}
 use Rattle.clause_index.proofs.IndexLemmas.Chains.{home_below, linked_same, not_self}
 
@@ -25,33 +25,23 @@ pub chained_none : (links : List Link) (len : ℕ) (held : ℕ → Option ℕ) �
 chained_none links len held none = record {
   chain = λ b. [];
   linked = grind (arith, get_or-replicate, length-replicate);
-  apart = λ b. refl;
-  there = λ s h e. absurd (none-some h (sym (none s) ∙ e));
-  back = λ b s h. absurd (false≢true h);
-  inside = λ s h e. absurd (none-some h (sym (none s) ∙ e));
-  low = λ s h e. absurd (none-some h (sym (none s) ∙ e));
-  some = λ s h e. absurd (none-some h (sym (none s) ∙ e));
-  hashes = λ s h e. absurd (none-some h (sym (none s) ∙ e));
+  apart = grind arith;
+  there = grind arith;
+  back = grind arith;
+  inside = grind arith;
+  low = grind arith;
+  some = grind arith;
+  hashes = grind arith;
 }
 
 pub below_is : (held : ℕ → Option ℕ) (n k : ℕ) → k < n → below n held k ≡ held k
-below_is held n k low = ap (λ t. cond t (held k) None) (lt-ltb k n low)
+below_is held n k low = grind arith
 
 pub above_is : (held : ℕ → Option ℕ) (n k : ℕ) → n ≤ k → below n held k ≡ None
-above_is held n k high = ap (λ t. cond t (held k) None) (le-ltb k n high)
+above_is held n k high = grind arith
 
 pub below_same : (held now : ℕ → Option ℕ) (n s : ℕ) → held s ≡ now s → below n held s ≡ below n now s
-below_same held now n s same = ap (λ o. cond (nat_lt s n) o None) same
-
--- what is held told by another function with the same values
-pub placed_same : (links : List Link) (heads : List ℕ) (placed : ℕ) (held now : ℕ → Option ℕ)
-    → ((s : ℕ) → held s ≡ now s) → ArePlaced links heads placed held → ArePlaced links heads placed now
-placed_same links heads placed held now same old = grind arith
-
--- where all are in chains, none waits
-pub all_placed : (links : List Link) (heads : List ℕ) (placed : ℕ) (held : ℕ → Option ℕ) → AreChained links heads held
-    → length links ≤ placed → AreVacant links held → ArePlaced links heads placed held
-all_placed links heads placed held chained all vacant = grind arith
+below_same held now n s same = grind arith
 
 module _ (links : List Link) (heads : List ℕ) (placed : ℕ) (held : ℕ → Option ℕ) (old : ArePlaced links heads placed held) where
   -- whatever is held, in a chain or waiting

@@ -1,6 +1,10 @@
 -- A slot that is taken out of its chain.
 use Rattle.std.proofs.Common.{◌≡◌, ◌≢◌, ℕ, ◌<◌, true, false, cond, List, length, get_or, Option}
 use Rattle.std.proofs.Common.{Some, None, if◌then◌else◌, ◌==◌, arith, refl, ap, ◌∙◌, subst, ne_eqb}
+use Rattle.std.proofs.Common.{set, get_or-set_same, get_or-set_other, length-set, ◌≤◌}
+use Rattle.clause_index.specs.Code.Chains.{ArePlaced}
+use Rattle.clause_index.proofs.IndexLemmas.Chains.{not_self}
+use Rattle.clause_index.proofs.IndexLemmas.Anew.{all_chained}
 use Rattle.cnf_base.specs.Literals.{has, without}
 use Rattle.cnf_base.proofs.{SetLemmas.has-without, SetLemmas.without_has, SizeLemmas.without_absent}
 use Rattle.clause_index.specs.Code.Chains.{AreChained, AreLinked, AreVacant, home, link_at}
@@ -52,7 +56,7 @@ module _ (links : List Link) (heads : List ℕ) (held : ℕ → Option ℕ) (old
   home_is = home (length heads) hash
 
   low : slot ≢ 4294967295
-  low e = let below = old.low slot hash is_held in let wrong : ⊥ = omega arith in wrong
+  low e = grind arith
 
   -- it was the first one
   module _ (firsts : List ℕ) (as_long : length firsts ≡ length heads) (was_first : get_or heads (home (length heads) hash) 0 ≡ slot)
@@ -86,3 +90,58 @@ module _ (links : List Link) (heads : List ℕ) (held : ℕ → Option ℕ) (old
 
     pub next_vacant : AreVacant after (now links after heads heads held old slot hash is_held as_many refl hashes next_others (λ b ne. refl) linked_next)
     next_vacant = grind arith
+
+-- ---- Links and heads as they are written
+
+module _ (links : List Link) (heads : List ℕ) (placed : ℕ) (held gone : ℕ → Option ℕ)
+    (sound : ArePlaced links heads placed held) (all : length links ≤ placed)
+    (slot hash : ℕ) (is_held : held slot ≡ Some hash)
+    (same : (s : ℕ) → (if s == slot then None else held s) ≡ gone s)
+    (last : Link) (itself : last.next ≡ slot) (next : ℕ) (next_is : next ≡ (link_at links slot).next) where
+  abbrev pub chained : AreChained links heads held
+  chained = all_chained links heads placed held sound all
+
+  placed_still : (after : List Link) (firsts : List ℕ) → length after ≡ length links
+      → AreChained after firsts (λ s. if s == slot then None else held s)
+      → AreVacant after (λ s. if s == slot then None else held s) → ArePlaced after firsts placed gone
+  placed_still after firsts long out vacant = grind arith
+
+  pub first_removed : (at : ℕ) → at ≡ home (length heads) hash
+      → last.hash ≡ (link_at links slot).hash → get_or heads (home (length heads) hash) 0 ≡ slot
+      → ArePlaced (set links slot last) (set heads at next) placed gone
+  first_removed at at_is kept first =
+      let inside = chained.inside slot hash is_held in
+      let low : at < length heads = grind (arith, home_below, chained.some slot hash) in
+      let after = set links slot last in
+      let firsts = set heads at next in
+      let hashes : (s : ℕ) → (link_at after s).hash ≡ (link_at links s).hash = grind (arith, get_or-set_same, get_or-set_other) in
+      let own : (link_at after slot).next ≡ slot = grind (arith, get_or-set_same) in
+      let begins : get_or firsts (home (length heads) hash) 0 ≡ (link_at links slot).next = grind (arith, get_or-set_same) in
+      let rest : (b : ℕ) → b ≢ home (length heads) hash → get_or firsts b 0 ≡ get_or heads b 0 = grind (arith, get_or-set_other) in
+      let nexts : (s : ℕ) → s ≢ slot → (link_at after s).next ≡ (link_at links s).next = grind (arith, get_or-set_other) in
+      let long = length-set links slot last in
+      let many = length-set heads at next in
+      placed_still after firsts long
+      (first_goes links heads held chained sound.vacant slot hash is_held after long hashes own firsts many first begins rest nexts)
+      (first_vacant links heads held chained sound.vacant slot hash is_held after long hashes own firsts many first begins rest nexts)
+
+  pub next_removed : (p : ℕ) → has (chained.chain (home (length heads) hash)) p ≡ true → (link_at links p).next ≡ slot
+      → (over : Link) → over.hash ≡ (link_at links p).hash → over.next ≡ next
+      → last.hash ≡ (link_at (set links p over) slot).hash
+      → ArePlaced (set (set links p over) slot last) heads placed gone
+  next_removed p p_in p_next over over_hash over_next kept =
+      let inside = chained.inside slot hash is_held in
+      let back = chained.back (home (length heads) hash) p p_in in
+      let p_inside = chained.inside p back.0 back.1 in
+      let ne : p ≢ slot = grind (arith, not_self, home_below) in
+      let mid = set links p over in
+      let after = set mid slot last in
+      let mids : (s : ℕ) → (link_at mid s).hash ≡ (link_at links s).hash = grind (arith, get_or-set_same, get_or-set_other) in
+      let hashes : (s : ℕ) → (link_at after s).hash ≡ (link_at links s).hash = grind (arith, get_or-set_same, get_or-set_other, length-set) in
+      let own : (link_at after slot).next ≡ slot = grind (arith, get_or-set_same, length-set) in
+      let past : (link_at after p).next ≡ (link_at links slot).next = grind (arith, get_or-set_same, get_or-set_other) in
+      let nexts : (s : ℕ) → s ≢ p → s ≢ slot → (link_at after s).next ≡ (link_at links s).next = grind (arith, get_or-set_other) in
+      let long : length after ≡ length links = grind (arith, length-set) in
+      placed_still after heads long
+      (next_goes links heads held chained sound.vacant slot hash is_held after long hashes own p p_in p_next past nexts)
+      (next_vacant links heads held chained sound.vacant slot hash is_held after long hashes own p p_in p_next past nexts)

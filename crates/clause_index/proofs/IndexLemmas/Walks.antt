@@ -1,7 +1,8 @@
 -- A walk along a chain.
+use Rattle.std.proofs.Common.{drop}
 use Rattle.std.proofs.Common.{◌≡◌, ◌≢◌, ℕ, ◌+◌, ◌≤◌, true, false, List, [], ◌∷◌, length, refl, sym}
-use Rattle.std.proofs.Common.{ap, ◌∙◌, subst, arith, inl, inr}
-use Rattle.std.proofs.lemmas.{Grind.common_steps, Bool.false≢true, Bool.cases_Bool}
+use Rattle.std.proofs.Common.{ap, ◌∙◌, arith}
+use Rattle.std.proofs.lemmas.{Grind.common_steps, Bool.false≢true}
 use Rattle.cnf_base.specs.Literals.{has}
 use Rattle.cnf_base.proofs.SetLemmas.{has_head, has_tail, has_cases}
 use Rattle.clause_index.specs.{Code.Chains.AreLinked, Code.Chains.link_at, declared.link.Link.Link}
@@ -24,19 +25,13 @@ module _ (links : List Link) (chain : List ℕ) (slot step at : ℕ) (so_far : I
       by_left (x ∷ xs) linked there = ap (has (x ∷ xs)) linked.0 ∙ has_head x xs
 
   pub steps_on : at ≢ slot → IsLeft links chain slot (step + 1) (link_at links at).next
-  steps_on ne = by_left so_far.left so_far.linked so_far.within so_far.there so_far.few
-    where
-      by_left : (xs : List ℕ) → AreLinked links at xs → ((s : ℕ) → has xs s ≡ true → has chain s ≡ true)
-          → has xs slot ≡ true → step + length xs ≤ length chain
-          → IsLeft links chain slot (step + 1) (link_at links at).next
-      by_left [] linked within there few = absurd (false≢true there)
-      by_left (x ∷ xs) linked within there few = record {
-        left = xs;
-        linked = subst (λ n. AreLinked links (link_at links n).next xs) (sym linked.0) linked.1;
-        within = λ s h. within s (has_tail x xs s h);
-        there = elim (has_cases x xs slot there) [ inl e ↦ absurd (ne (linked.0 ∙ e)) | inr g ↦ g ];
-        few = omega arith;
-      }
+  steps_on ne = record {
+    left = drop 1 so_far.left;
+    linked = grind arith;
+    within = grind (arith, has_tail);
+    there = grind (arith, has_cases);
+    few = grind arith;
+  }
 
   pub not_over : length chain ≤ step → ⊥
   not_over over = grind (arith, common_steps)
@@ -53,30 +48,17 @@ pub record IsSearched (links : List Link) (chain : List ℕ) (Tested : ℕ → T
 
 module _ (links : List Link) (chain : List ℕ) (Tested : ℕ → Type 0) (step at : ℕ) (so_far : IsSearched links chain Tested step at) where
   pub found_in : at ≢ 4294967295 → has chain at ≡ true
-  found_in some = so_far.within at (first_in links so_far.left at so_far.linked some)
+  found_in some = grind (arith, first_in)
 
   pub searches_on : at ≢ 4294967295 → Tested at
       → IsSearched links chain Tested (step + 1) (link_at links at).next
-  searches_on some tested = by_left so_far.left so_far.linked so_far.within so_far.few so_far.past
-    where
-      by_left : (xs : List ℕ) → AreLinked links at xs → ((s : ℕ) → has xs s ≡ true → has chain s ≡ true)
-          → step + length xs ≤ length chain
-          → ((s : ℕ) → has chain s ≡ true → has xs s ≡ false → Tested s)
-          → IsSearched links chain Tested (step + 1) (link_at links at).next
-      by_left [] linked within few past = absurd (some linked)
-      by_left (x ∷ xs) linked within few past = record {
-        left = xs;
-        linked = subst (λ n. AreLinked links (link_at links n).next xs) (sym linked.0) linked.1;
-        within = λ s h. within s (has_tail x xs s h);
-        few = omega arith;
-        past = λ s h n. elim (cases_Bool (has (x ∷ xs) s)) [
-          | inl g ↦ elim (has_cases x xs s g) [
-            | inl e ↦ subst Tested (linked.0 ∙ e) tested
-            | inr there ↦ absurd (false≢true (sym n ∙ there))
-          ]
-          | inr out ↦ past s h out
-        ];
-      }
+  searches_on some tested = record {
+    left = drop 1 so_far.left;
+    linked = grind arith;
+    within = grind (arith, has_tail);
+    few = grind arith;
+    past = grind (arith, has_cases);
+  }
 
   pub search_ends : at ≡ 4294967295 → ((s : ℕ) → has chain s ≡ true → s ≢ 4294967295) → (s : ℕ)
       → has chain s ≡ true → Tested s

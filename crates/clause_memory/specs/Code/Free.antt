@@ -1,6 +1,6 @@
 -- The blocks that are free, in a list for each number of cells.
 use Rattle.std.specs.Prelude.{◌≡◌, ℕ, ◌+◌, ◌-◌, ◌*◌, true, false, Option, Some, None, List, [], ◌∷◌}
-use Rattle.std.specs.Prelude.{slice_index, ⊤}
+use Rattle.std.specs.Prelude.{slice_index, unwrap_or, ⊤}
 use Rattle.cnf_base.specs.Literals.{has}
 use Rattle.clause_memory.specs.Code.Cells.{IsBlock, kind_at}
 use Rattle.clause_memory.specs.declared.kind.Kind.{Kind}
@@ -14,8 +14,7 @@ link_at words s =
 
 -- the link to the first block of a list
 abbrev pub link_of : Option ℕ → ℕ
-link_of None = 0
-link_of (Some link) = link
+link_of head = unwrap_or head 0
 
 -- the link leads to these blocks, one after the other
 abbrev pub LeadsTo : List ℕ → ℕ → List ℕ → Type 0

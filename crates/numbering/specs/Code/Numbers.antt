@@ -3,11 +3,11 @@ use Rattle.std.specs.Prelude.{ℕ, zero, suc, ◌+◌, ◌==◌, ◌≡◌, List
 use Rattle.std.specs.Prelude.{unwrap_or}
 use Rattle.cnf_base.specs.Literals.{has}
 use Rattle.numbering.specs.Names.{number_in}
-use Rattle.tables.specs.Filled.{at}
-use Rattle.tables.specs.declared.filled.Filled.{Filled}
+use Rattle.tables.specs.ByKey.{at}
+use Rattle.tables.specs.declared.by_key.ByKey.{ByKey}
 
 -- the number that stands at a variable
-abbrev pub number_at : Filled ℕ → ℕ → ℕ
+abbrev pub number_at : ByKey ℕ → ℕ → ℕ
 number_at numbers v = unwrap_or (at numbers v) 0
 
 -- the greatest variable up to a bound at which the number stands, or 0

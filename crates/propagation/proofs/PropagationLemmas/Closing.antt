@@ -140,9 +140,9 @@ module _ (live : FinMap nat_cmp Clause) (lits after : List Literal) (done : ℕ)
 
     taken_apart : has c (complement m) ≡ false → TakesIn (take (done + 1) after) after c
     taken_apart absent k member others = grows k (so_far k member (λ l h ne.
-        elim (or_cases (has (take done lits) (complement l)) (eqb m (complement l)) (sym (has_more lits done inside m is (complement l)) ∙ done_is (complement l) (others l h ne))) [
+        elim (or_cases (has (take done lits) (complement l)) (eqb m (complement l)) (grind (arith, has_more, done_is))) [
           | inl old ↦ old
-          | inr e ↦ absurd (true≢false (sym (ap (has c) (ap complement (eqb-true m (complement l) e) ∙ complement-complement l) ∙ h) ∙ absent))
+          | inr e ↦ grind (arith, true≢false, eqb-true, complement-complement)
         ]))
 
   module _ (so_far : IsFollowed (maps.get live) done lits) (slots : List ℕ) where
@@ -195,7 +195,7 @@ module _ (live : FinMap nat_cmp Clause) (slot : ℕ) where
               | inl e ↦ grind arith
               | inr ne ↦
                   has_begun lits next m begins
-                  (whole.all m (forced_unit (maps.get (maps.remove live slot)) [] k d (remove_other live slot k ne ∙ here) m member (λ l h apart. whole.sound (complement l) (known l h apart))))
+                  (whole.all m (forced_unit _ [] k d (grind (arith, remove_other)) m member (λ l h apart. whole.sound (complement l) (known l h apart))))
             ];
       }
 
@@ -209,7 +209,7 @@ module _ (live : FinMap nat_cmp Clause) (slot : ℕ) where
             let follows : has lits m ≡ true = whole.all m (grind arith) in
             elim (cases_eq k slot) [
               | inl e ↦ grind (arith, same_Some)
-              | inr ne ↦ ap (λ b. b && passes m) follows ∙ closed.unit k d (remove_other live slot k ne ∙ here) m member (λ l h apart. (known l h apart).1)
+              | inr ne ↦ ap (λ b. b && passes m) follows ∙ closed.unit k d (grind (arith, remove_other)) m member (λ l h apart. (known l h apart).1)
             ];
       }
 
@@ -218,8 +218,7 @@ module _ (live : FinMap nat_cmp Clause) (slot : ℕ) where
         sound = λ l h. record {
           in_each = λ passes closed start.
               (and_parts (has lits l) (passes l)
-              ((whole.sound l h).in_each (λ x. has lits x && passes x) (within_closed passes closed)
-              (λ a none. absurd (false≢true none)))).1;
+              ((whole.sound l h).in_each (λ x. has lits x && passes x) (within_closed passes closed) (grind (arith, false≢true)))).1;
         };
-        all = λ l forced. whole.all l (forced_grows l forced);
+        all = grind (arith, forced_grows);
       }

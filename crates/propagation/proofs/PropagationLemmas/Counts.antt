@@ -1,12 +1,12 @@
 -- How many clauses have a literal, and that one is found where the number isn't 0.
-use Rattle.std.proofs.Common.{◌≡◌, ◌≢◌, ℕ, ◌+◌, ◌<◌, Bool, true, cond, T, ◌&&◌, Some, List}
-use Rattle.std.proofs.Common.{[], ◌∷◌, map, sum_by, is_lt, eqb-true, eq-eqb, refl, sym, ap, ◌∙◌}
+use Rattle.std.proofs.Common.{◌≡◌, ◌≢◌, ℕ, ◌+◌, ◌<◌, Bool, true, T, ◌&&◌, Some, List}
+use Rattle.std.proofs.Common.{[], ◌∷◌, map, sum_by, is_lt, eqb-true, eq-eqb, refl, sym, ◌∙◌}
 use Rattle.std.proofs.Common.{arith, inl, inr, rules}
 use Rattle.std.specs.{FinMap.FinMap, FinMap.find, FinMap.is_sorted, Ordering.eq_by_cmp}
 use Rattle.std.specs.{FinMap.Entries.below_all, Cmp.unsigned_tied, Ordering.nat_cmp}
 use Rattle.std.proofs.lemmas.Bool.{cases_Bool, cases_eq, false_from_ne_true}
 use Rattle.std.proofs.lemmas.{List.Sums.sum_by-cons, Option.none-some}
-use Rattle.cnf_base.specs.Literals.{Literal, Clause, has}
+use Rattle.cnf_base.specs.Literals.{Literal, Clause}
 use Rattle.propagation.specs.Assumptions.{HasAt}
 use Rattle.clause_db.specs.Store.{copies_with}
 use Rattle.cnf_base.proofs.MapLemmas.{sum_remove}
@@ -43,20 +43,14 @@ counted_found : (w : Clause → ℕ) (es : List (ℕ × Clause)) → T (is_sorte
     → sum_by w (map (λ e. e.1) es) ≢ 0 → (k : ℕ) × (c : Clause) × (find nat_cmp k es ≡ Some c)
     × (w c ≢ 0)
 counted_found w [] sorted some = absurd (some refl)
-counted_found w (e ∷ es) sorted some =
-    elim (cases_eq (w e.1) 0) [
-      | inl none ↦
-          let parts = both (below_all nat_cmp e.0 es) (is_sorted nat_cmp es) sorted in
-          let rest = counted_found w es parts.1 (λ zero. some (let first = sum_by-cons w e.1 (map (λ e. e.1) es) in omega (arith, first, none, zero))) in
-          let apart : e.0 < rest.0 = below_found e.0 es rest.0 rest.1 parts.0 rest.2 in
-          (rest.0, rest.1, ap (λ b. cond b (Some e.1) (find nat_cmp rest.0 es)) (false_from_ne_true _ (λ same. absurd (omega (arith, apart, tied rest.0 same)))) ∙ rest.2, rest.3)
-      | inr counts ↦ (e.0, e.1, ap (λ b. cond b (Some e.1) (find nat_cmp e.0 es)) (unsigned_tied e.0 e.0 ∙ eq-eqb e.0 e.0 refl), counts)
-    ]
+counted_found w (e ∷ es) sorted some = elim (cases_eq (w e.1) 0) [
+  | inl none ↦
+      let rest = counted_found w es (grind (arith, both)) (grind (arith, sum_by-cons)) in
+      (rest.0, rest.1, grind (arith, both, below_found, false_from_ne_true, tied), rest.3)
+  | inr counts ↦ (e.0, e.1, grind (arith, unsigned_tied, eq-eqb), counts)
+]
 
 pub some_with : (live : FinMap nat_cmp Clause) (l : Literal) → copies_with live l ≢ 0 → (s : ℕ) × HasAt (maps.get live) l s
 some_with live l some =
-    let w = counted_found (λ c. cond (has c l) 1 0) (maps.entries live) (maps.entries_sorted live) some in
-    (w.0, record { clause = w.1; at = maps.get-entries live w.0 ∙ w.2; member = member (has w.1 l) w.3 })
-  where
-    member : (b : Bool) → (let n : ℕ = cond b 1 0 in n) ≢ 0 → b ≡ true
-    member b h = grind arith
+    let w = counted_found _ (maps.entries live) (maps.entries_sorted live) some in
+    (w.0, record { clause = w.1; at = maps.get-entries live w.0 ∙ w.2; member = grind arith })

@@ -1,14 +1,14 @@
 -- What a propagation keeps of the literals that are true, as assumptions come and go.
-use Rattle.std.proofs.Common.{◌≡◌, ℕ, ◌≤◌, Bool, true, not, cond, arith, List, [], ◌∷◌, ◌++◌}
+use Rattle.std.proofs.Common.{◌≡◌, ◌≤◌, Bool, true, not, cond, arith, List, [], ◌∷◌, ◌++◌}
 use Rattle.std.proofs.Common.{length, take, sym, ◌∙◌, rules}
 use Rattle.std.proofs.lemmas.List.{length-take, take-take}
 use Rattle.cnf_base.specs.Literals.{Literal, has}
 use Rattle.cnf_base.proofs.SetLemmas.{has_append_left, has_append_right, has_append_cases}
-use Rattle.propagation.specs.Assumptions.{Assumption, AssumptionsState, MayAssume, IsAnswer}
-use Rattle.propagation.specs.Code.Exact.{IsExact, AreExact, Extends}
+use Rattle.propagation.specs.Assumptions.{AssumptionsState, IsAnswer}
+use Rattle.propagation.specs.Code.Exact.{IsExact, Extends}
 use Rattle.theory.specs.Propagation.{Live, IsClosed, Forced, Clash}
 use Rattle.theory.specs.Sets.{SameSet, conflicts}
-use Rattle.propagation.specs.{declared.answer.Answer.Answer, Assumptions.assumed_by}
+use Rattle.propagation.specs.{declared.answer.Answer.Answer}
 use Rattle.propagation.specs.declared.answer.Answer.TheVariants.{Clash as AnswersClash, Quiet}
 use Rattle.trail.proofs.TrailLemmas.MakesFalse.{begins_made, longer_made}
 use Rattle.theory.proofs.PropagationLemmas.Forced.{forced_assumed, forced_through, clash_through}
@@ -22,35 +22,6 @@ pub answer_through : (live : Live) (first second : List Literal)
     → IsAnswer live first a → IsAnswer live second a
 answer_through live first second there back AnswersClash h = clash_through live first second there h
 answer_through live first second there back Quiet h = search (rules, arith, clash_through)
-
--- where one more assumption may be made, what is true is forced, and has what is assumed
-module _ (live : Live) (Roots : List Literal → Type 0) (lits : List Literal) (roots : Roots lits → (l : Literal) → has lits l ≡ true → Forced live [] l) where
-  pub sound_before : (assumptions : List Assumption) (starts : List ℕ) → MayAssume assumptions
-      → AreExact live Roots lits assumptions starts → (l : Literal) → has lits l ≡ true
-      → Forced live (assumed_by assumptions) l
-  sound_before assumptions starts h h2 = grind arith
-
-  pub start_before : (assumptions : List Assumption) (starts : List ℕ) → MayAssume assumptions
-      → AreExact live Roots lits assumptions starts → (l : Literal)
-      → has (assumed_by assumptions) l ≡ true → has lits l ≡ true
-  start_before assumptions starts h h2 l h3 = grind arith
-
--- where nothing is assumed and nothing is true
-pub exact_nothing : (live : Live) (held : AssumptionsState) → held.trail.lits ≡ []
-    → held.assumptions ≡ [] → AreExact live (λ ls. ls ≡ [])
-    held.trail.lits held.assumptions held.starts
-exact_nothing live held unset nothing = grind arith
-
-pub nothing_true : (live : Live) (Roots : List Literal → Type 0) (held : AssumptionsState)
-    → held.assumptions ≡ [] → AreExact live Roots held.trail.lits held.assumptions held.starts
-    → Roots held.trail.lits
-nothing_true live Roots held nothing exact = grind arith
-
-pub exact_same : (live : Live) (Roots : List Literal → Type 0) (before after : AssumptionsState)
-    → after.trail.lits ≡ before.trail.lits → after.assumptions ≡ before.assumptions → after.starts
-    ≡ before.starts → AreExact live Roots before.trail.lits before.assumptions before.starts
-    → AreExact live Roots after.trail.lits after.assumptions after.starts
-exact_same live Roots before after lits_are assumptions_are starts_are exact = grind arith
 
 -- ---- More true literals
 
@@ -95,7 +66,7 @@ module _ (live : Live) (before lits added : List Literal) (sound : (l : Literal)
     assumed_set l h = grind (arith, has_append_cases, has_append_left, has_append_right)
 
     pub answer_from : (a : Answer) → IsAnswer live more a → IsAnswer live (before ++ added) a
-    answer_from = grind (arith, answer_through, more_forced, forced_assumed, assumed_set)
+    answer_from = grind (arith, answer_through, start_forced, forced_assumed, assumed_set)
 
     pub exact_after : (all after : List Literal) → SameSet all (before ++ added)
         → take (length more) after ≡ more

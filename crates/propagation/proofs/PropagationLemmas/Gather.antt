@@ -1,6 +1,6 @@
 -- Clauses that are put into other slots one after the other are the same clauses.
 use Rattle.std.proofs.Common.{◌≡◌, ◌≢◌, ℕ, ◌+◌, ◌*◌, ◌<◌, true, false, cond, Some, None, List, []}
-use Rattle.std.proofs.Common.{◌∷◌, sum_by, IsSome, nat_le, ◌≤◌, sym, ap, ◌∙◌, arith, rules}
+use Rattle.std.proofs.Common.{◌∷◌, sum_by, IsSome, nat_le, ◌≤◌, ap, ◌∙◌, arith, rules}
 use Rattle.std.specs.{Ordering.nat_cmp, FinMap.FinMap}
 use Rattle.std.proofs.lemmas.{List.Sums.sum_by-cons, Bool.cases_lt, Bool.lt-leb}
 use Rattle.std.specs.FinMap as maps
@@ -25,21 +25,10 @@ AreCopies m n = (e : Clause) → sum_over (is_copy e) m ≡ sum_over (is_copy e)
 
 -- ---- What was put into other slots so far
 
-pub copied_none : (m : FinMap nat_cmp Clause) → AreCopies maps.empty (below 0 m)
-copied_none m e = ap (sum_over (is_copy e)) (sym (below_none m))
-
 pub copied_next : (old new m : FinMap nat_cmp Clause) (slot n : ℕ) (c d : Clause) → maps.get m n ≡ Some c → maps.get old slot ≡ None → maps.get new slot ≡ Some d → same_clause d c ≡ true
     → ((s : ℕ) → s ≢ slot → maps.get new s ≡ maps.get old s) → AreCopies old (below n m) → AreCopies new (below (n + 1) m)
 copied_next old new m slot n c d is free at same others so_far e =
     cc (inserted_is old new slot d at others, sum_insert (is_copy e) old slot d free, same_copy e d c same, so_far e, below_next n m c is, sum_insert (is_copy e) (below n m) n c (gone n m n (omega arith)))
-
-pub copied_nothing : (old m : FinMap nat_cmp Clause) (n : ℕ) → maps.get m n ≡ None
-    → AreCopies old (below n m) → AreCopies old (below (n + 1) m)
-copied_nothing old m n none so_far e = grind (arith, below_same)
-
-pub copied_all : (new m : FinMap nat_cmp Clause) (n : ℕ) → ((s : ℕ) → IsSome (maps.get m s) → s < n)
-    → AreCopies new (below n m) → SameLive (maps.values new) (maps.values m)
-copied_all new m n low so_far = record { copies = λ e. so_far e ∙ ap (sum_over (is_copy e)) (below_all n m low) }
 
 -- ---- How many slots they need
 
@@ -49,8 +38,8 @@ pub needs_more : (old new : FinMap nat_cmp Clause) (slot before after : ℕ) (c 
     → ((s : ℕ) → s ≢ slot → maps.get new s ≡ maps.get old s) → before ≤ slots_needed old
     → after ≤ before + slots_for (size c) → after ≤ slots_needed new
 needs_more old new slot before after c d free at same others few more =
-    let as_many : size d ≡ size c = size_same d c (same_there d c same) (same_back d c same) in
-    let needs = ap slots_needed (inserted_is old new slot d at others)
+    let as_many : size d ≡ size c = grind (arith, size_same, same_there, same_back) in
+    let needs = ap slots_needed (inserted_is _ _ _ _ at others)
     ∙ sum_insert (λ x. slots_for (size x)) old slot d free in
     grind arith
 
@@ -79,7 +68,7 @@ pub record IsGathered (made : Propagation) (slots : ℕ) (live : FinMap nat_cmp 
 pub gathered_none : {made : Propagation} {slots : ℕ} (live : FinMap nat_cmp Clause)
     → made.live ≡ maps.empty → slots ≡ 0 → made.assumptions ≡ [] → made.has_refused ≡ false
     → IsGathered made slots live 0
-gathered_none {made} live empty no_slots nothing fresh = grind (arith, below, copied_none)
+gathered_none {made} live empty no_slots nothing fresh = grind (arith, below, below_none)
 
 pub gathered_next : {old new : Propagation} {before after : ℕ} {live : FinMap nat_cmp Clause} {slot
     n : ℕ} {c : Clause} → maps.get live n ≡ Some c → maps.get old.live slot ≡ None → (d : Clause)
@@ -91,9 +80,10 @@ gathered_next {old} {new} {before} {after} {live} {slot} {n} {c} is free stored 
 
 pub gathered_nothing : {made : Propagation} {slots : ℕ} {live : FinMap nat_cmp Clause} {n : ℕ}
     → maps.get live n ≡ None → IsGathered made slots live n → IsGathered made slots live (n + 1)
-gathered_nothing {made} {slots} {live} {n} none so_far = grind (arith, copied_nothing)
+gathered_nothing {made} {slots} {live} {n} none so_far = grind (arith, below_same)
 
 pub gathered_all : {made : Propagation} {slots : ℕ} {live : FinMap nat_cmp Clause} {n : ℕ}
     → ((s : ℕ) → IsSome (maps.get live s) → s < n) → IsGathered made slots live n
     → SameLive (maps.values made.live) (maps.values live)
-gathered_all {made} {slots} {live} {n} low so_far = copied_all made.live live n low so_far.copies
+gathered_all {made} {slots} {live} {n} low so_far =
+    record { copies = λ e. so_far.copies e ∙ grind (arith, below_all) }

@@ -13,7 +13,7 @@ use Rattle.propagation.specs.Code.Levels.{pushed, first_number, of_variables, Is
 use Rattle.propagation.specs.Code.Levels.{is_noted_by_two, assumptions_of, IsLevel, AreLevels}
 use Rattle.trail.specs.{Trail.TrailState, Trail.HasNoVariableTwice, Numbers.number_at}
 use Rattle.theory.specs.Sets.{SameSet}
-use Rattle.tables.specs.{declared.filled.Filled.Filled, Filled.at}
+use Rattle.tables.specs.{declared.by_key.ByKey.ByKey, ByKey.at}
 use Rattle.propagation.specs.{declared.answer.Answer.TheVariants.Clash, Code.Levels.Notes}
 use Rattle.propagation.specs.declared.levels.{Levels.Levels, Level.Level}
 use Rattle.propagation.specs.declared.levels.Levels.TheVariants.{Nothing, One, Two}
@@ -93,11 +93,8 @@ module _ (before after : ℕ → ℕ) (made : ℕ) (lits more rest : List Litera
   fresh : (v : ℕ) → before v ≢ made + 1
   fresh v e = grind arith
 
-  low_after : (v : ℕ) → after v ≤ made + 1
-  low_after v = grind (arith, cases_eq)
-
   pub pushed_low : (total : ℕ) → total ≡ made + 1 → (v : ℕ) → after v ≤ total
-  pushed_low total e v = let h = low_after v in omega arith
+  pushed_low total e v = grind (arith, cases_eq)
 
   set_after : ((l : Literal) → has rest l ≡ true → has more (complement l) ≡ true) → (v : ℕ)
       → after v ≡ made + 1 → has (map variable more) v ≡ true
@@ -112,14 +109,8 @@ module _ (before after : ℕ → ℕ) (made : ℕ) (lits more rest : List Litera
 
 -- the numbers of those that stood are as before
 module _ (before after : ℕ → ℕ) (made : ℕ) (rest : List Literal) (first : Level) (first_low : first.number ≤ made) (notes : Notes first.number (made + 1) rest before after) where
-  old_back : (v : ℕ) → after v ≡ first.number → before v ≡ first.number
-  old_back v e = grind arith
-
-  noted_same : (v : ℕ) → is_noted after first.number v ≡ is_noted before first.number v
-  noted_same v = grind (arith, both_pass, eq-eqb, old_back, eqb-true)
-
   first_kept : (lits : List Literal) → of_variables (is_noted after first.number) lits ≡ of_variables (is_noted before first.number) lits
-  first_kept lits = grind (arith, filter_agree, noted_same)
+  first_kept lits = grind (arith, filter_agree, both_pass, eq-eqb, eqb-true)
 
 module _ (before after : ℕ → ℕ) (made : ℕ) (lits more rest : List Literal) (low : (v : ℕ) → before v ≤ made) (begins : take (length lits) more ≡ lits) (longer : length lits ≤ length more) (level : Level) (number_is : level.number ≡ made + 1) (start_is : level.start ≡ length lits) where
   pushed_levels : (levels : Levels) → MayAssume (assumptions_of before lits levels) → AreLevels before made lits levels → Notes (first_number levels (made + 1)) (made + 1) rest before after →
@@ -138,14 +129,9 @@ module _ (before after : ℕ → ℕ) (made : ℕ) (lits more rest : List Litera
   pushed_same Nothing may are notes added apart =
       subst (λ n. SameSet (of_variables (is_noted after n) more) (complements rest)) (sym number_is)
       (subst (λ ls. SameSet (of_variables (is_noted after (made + 1)) more) (ls ++ complements rest)) (none_of lits)
-      (assumed_same lits more rest (λ v. false) (is_noted after (made + 1))
-      (λ v h. absurd (false≢true h))
-      (λ v h. inr (notes.new v (eqb-true _ _ h) (fresh before after made lits more rest Nothing low are notes begins longer level number_is start_is v)))
-      (λ l h. eq-eqb _ _ (elim (cases_eq (after (l / 2)) (made + 1)) [ inl e ↦ e | inr ne ↦ notes.all l h ne ]))
-      (λ v h. absurd (false≢true h))
-      added apart))
+      (grind (arith, assumed_same, false≢true, eqb-true, fresh, eq-eqb, cases_eq)))
   pushed_same (One first) may are notes added apart =
-      grind (arith, assumed_same, or_left, eq-eqb, eqb-true, or_cases, old_back, fresh, cases_eq, or_right)
+      grind (arith, assumed_same, or_left, eq-eqb, eqb-true, or_cases, cases_eq, or_right)
   pushed_same (Two first second) may are notes added apart = absurd may
 
 -- the complements of what was made false are true
@@ -154,7 +140,7 @@ complements_true : (more lits rest : List Literal) → SameSet more (lits ++ com
 complements_true more lits rest added l h = grind (arith, has_append_right, has-complements)
 
 -- So it is after it, where it is pushed as one that clashes.
-module _ (trail after : TrailState) (numbers noted : Filled ℕ) (made number start : ℕ) (levels : Levels) (rest : List Literal) (stood : List Assumption)
+module _ (trail after : TrailState) (numbers noted : ByKey ℕ) (made number start : ℕ) (levels : Levels) (rest : List Literal) (stood : List Assumption)
     (is : IsNumbered trail numbers made levels) (stood_are : assumptions_of (number_at numbers) trail.lits levels ≡ stood) (may : MayAssume stood) (number_is : number ≡ made + 1) (start_is : start ≡ length trail.lits)
     (first : ℕ) (first_is : first ≡ first_number levels number) (notes : Notes first number rest (number_at numbers) (number_at noted))
     (begins : take (length trail.lits) after.lits ≡ trail.lits) (longer : length trail.lits ≤ length after.lits) where
@@ -241,16 +227,5 @@ module _ (first number : ℕ) (c : List Literal) (keeps : Literal → Bool) (bef
     noted_past out = grind (arith, more_cases, true≢false)
 
     module _ (next : ℕ → ℕ) (var : ℕ) (of_x : var ≡ x / 2) (other : (v : ℕ) → v ≢ var → next v ≡ now v) (old : now var ≡ first → next var ≡ first) (new : now var ≢ first → next var ≡ number) where
-      noted_here : next var ≢ first → next var ≡ number
-      noted_here ne = grind (arith, cases_eq)
-
-      noted_changed : (v : ℕ) → next v ≢ number → next v ≡ before v
-      noted_changed v ne = grind (arith, cases_eq)
-
-      noted_all : (l : Literal) → has (take (i + 1) c) l ≡ true → keeps l ≡ true
-          → next (l / 2) ≢ first → next (l / 2) ≡ number
-      noted_all l h k ne = search (rules, arith, cases_eq, noted_here, more_cases)
-
       pub noted_next : keeps x ≡ true → NotesTo first number c keeps (i + 1) before next
-      noted_next kept =
-          grind (arith, cases_eq, noted_changed, has_mapped, has-filter, is_in, noted_all)
+      noted_next kept = grind (arith, cases_eq, has_mapped, has-filter, is_in, more_cases)

@@ -1,23 +1,18 @@
 -- Passes over the clauses: what they keep, and why they end.
 use Rattle.std.proofs.Common.{◌≡◌, ℕ, ◌+◌, ◌/◌, ◌<◌, ◌≤◌, Bool, true, false, not, cond, Some, None}
-use Rattle.std.proofs.Common.{List, [], ◌∷◌, ◌++◌, map, refl, ap, ◌∙◌, subst, inl, inr, arith}
-use Rattle.std.proofs.lemmas.{List.Sums.sum_by-cons, Bool.false≢true}
+use Rattle.std.proofs.Common.{List, [], ◌∷◌, ◌++◌, map, inl, inr, arith}
+use Rattle.std.proofs.lemmas.{List.Sums.sum_by-cons, List.map-append, Bool.false≢true}
 use Rattle.cnf_base.specs.Literals.{Literal, complement, Clause, has, variable}
 use Rattle.cnf_base.proofs.SetLemmas.{has_cases, has_append_left, has_append_right, has_head}
 use Rattle.trail.specs.{Code.Left.IsSettled, Left.how_many, Trail.TrailState}
 use Rattle.theory.specs.Propagation.{Live, open_literals}
 use Rattle.propagation.specs.{declared.scan.unit.Pass.Pass, Code.Passes.unset}
-use Rattle.propagation.specs.declared.scan.unit.Pass.TheVariants.{Clash as PassClash, Changed}
+use Rattle.propagation.specs.declared.scan.unit.Pass.TheVariants.{Conflict, Changed}
 use Rattle.propagation.specs.declared.scan.unit.Pass.TheVariants.{Quiet}
 use Rattle.trail.proofs.TrailLemmas.Truth.{variable_open}
 use Rattle.propagation.proofs.PropagationLemmas.Below.{below_none, below_some}
 
 -- ---- How many variables are open
-
-mapped_push : (ls : List ℕ) (m : ℕ)
-    → map variable (ls ++ m ∷ []) ≡ map variable ls ++ variable m ∷ []
-mapped_push [] m = refl
-mapped_push (l ∷ ls) m = ap (λ xs. variable l ∷ xs) (mapped_push ls m)
 
 unset-cons : (lits : List ℕ) (v : ℕ) (vs : List ℕ)
     → unset lits (v ∷ vs) ≡ cond (not (has (map variable lits) v)) 1 0 + unset lits vs
@@ -26,10 +21,10 @@ unset-cons lits v vs = sum_by-cons (λ w. cond (not (has (map variable lits) w))
 module _ (lits : List ℕ) (m : ℕ) where
   pub still_set : (v : ℕ) → has (map variable lits) v ≡ true
       → has (map variable (lits ++ m ∷ [])) v ≡ true
-  still_set v h = grind (arith, mapped_push, has_append_left)
+  still_set v h = grind (arith, map-append, has_append_left)
 
   now_set : has (map variable (lits ++ m ∷ [])) (variable m) ≡ true
-  now_set = grind (arith, mapped_push, has_append_right, has_head)
+  now_set = grind (arith, map-append, has_append_right, has_head)
 
   weight_le : (a b : Bool) → (a ≡ true → b ≡ true) → cond {A = ℕ} (not b) 1 0 ≤ cond (not a) 1 0
   weight_le a b h = grind (arith, false≢true)
@@ -37,7 +32,8 @@ module _ (lits : List ℕ) (m : ℕ) where
   unset_le : (vs : List ℕ) → unset (lits ++ m ∷ []) vs ≤ unset lits vs
   unset_le [] = omega arith
   unset_le (v ∷ vs) =
-      grind (arith, unset-cons (lits ++ m ∷ []) v vs, unset-cons lits v vs, weight_le (has (map variable lits) v) (has (map variable (lits ++ m ∷ [])) v) (still_set v), unset_le vs)
+      let less = weight_le (has (map variable lits) v) (has (map variable (lits ++ m ∷ [])) v) (still_set v) in
+      grind (arith, unset-cons (lits ++ m ∷ []) v vs, unset-cons lits v vs, unset_le vs)
 
   unset_falls : has (map variable lits) (variable m) ≡ false → (vs : List ℕ)
       → has vs (variable m) ≡ true → unset (lits ++ m ∷ []) vs < unset lits vs
@@ -45,19 +41,14 @@ module _ (lits : List ℕ) (m : ℕ) where
   unset_falls absent (v ∷ vs) h =
       let first = unset-cons (lits ++ m ∷ []) v vs in let second = unset-cons lits v vs in
       elim (has_cases v vs (variable m) h) [
-        | inl e ↦
-            let old : cond {A = ℕ} (not (has (map variable lits) v)) 1 0 ≡ 1 = ap (λ b. cond {A = ℕ} (not b) 1 0) (ap (has (map variable lits)) e ∙ absent) in
-            let new : cond {A = ℕ} (not (has (map variable (lits ++ m ∷ [])) v)) 1 0 ≡ 0 = ap (λ b. cond {A = ℕ} (not b) 1 0) (ap (has (map variable (lits ++ m ∷ []))) e ∙ now_set) in
-            let rest = unset_le vs in omega arith
-        | inr g ↦
-            let here = weight_le (has (map variable lits) v) (has (map variable (lits ++ m ∷ [])) v) (still_set v) in
-            let rest = unset_falls absent vs g in omega arith
+        | inl e ↦ grind (arith, first, second, now_set, unset_le vs)
+        | inr g ↦ grind (arith, first, second, still_set v, unset_falls absent vs g)
       ]
 
 -- ---- One pass, up to a slot
 
 abbrev pub IsPassedTo : Live → TrailState → List Literal → ℕ → Pass → Type 0
-IsPassedTo live before lits n PassClash = ⊥
+IsPassedTo live before lits n Conflict = ⊥
 IsPassedTo live before lits n Changed = (vs : List ℕ) → ((v : ℕ) → has before.reserved v ≡ true → has vs v ≡ true) → unset lits vs < unset before.lits vs
 IsPassedTo live before lits n Quiet =
     (lits ≡ before.lits) × ((k : ℕ) (c : Clause) → k < n → live k ≡ Some c
@@ -76,10 +67,5 @@ module _ (live : Live) (before : TrailState) (lits : List Literal) (n : ℕ) whe
   pub passed_unit : (m : Literal) → has lits m ≡ false → has lits (complement m) ≡ false
       → has before.reserved (m / 2) ≡ true → (p : Pass) → IsPassedTo live before lits n p
       → IsPassedTo live before (lits ++ m ∷ []) (n + 1) Changed
-  passed_unit m e f member PassClash h = absurd h
-  passed_unit m e f member Changed h =
-      λ vs covers. let falls = unset_falls lits m (variable_open lits m e f) vs
-      (covers (m / 2) member) in let so_far = h vs covers in omega arith
-  passed_unit m e f member Quiet h =
-      λ vs covers. subst (λ ls. unset (lits ++ m ∷ []) vs < unset ls vs) h.0
-      (unset_falls lits m (variable_open lits m e f) vs (covers (m / 2) member))
+  passed_unit m e f member p h vs covers =
+      let falls = unset_falls lits m (variable_open lits m e f) vs (covers (m / 2) member) in grind arith

@@ -3,7 +3,7 @@ use Rattle.std.proofs.Common.{◌≡◌, ◌≢◌, ℕ, ◌++◌, ◌∷◌, tr
 use Rattle.std.proofs.Common.{arith, rules}
 use Rattle.std.specs.FinMap as maps
 use Rattle.std.specs.{Ordering.nat_cmp, FinMap.FinMap, Result.IfOk, Result.OnErr, Result.is_err}
-use Rattle.std.specs.declared.result.Result.{TheVariants.Ok, TheVariants.Err, Result}
+use Rattle.std.specs.declared.result.Result.{Result}
 use Rattle.std.proofs.lemmas.{Option.none-some, Option.same_Some, Bool.false≢true, Bool.cases_eq}
 use Rattle.cnf_base.specs.Literals.{Literal, Clause, has, same_clause, size}
 use Rattle.propagation.specs.Assumptions.{Assuming, AssumptionsState, IsAnswer, MayAssume}
@@ -14,17 +14,16 @@ use Rattle.clause_db.specs.Store.{StoreState, literals_in, no_clauses}
 use Rattle.trail.specs.Trail.{HasRoom, HasRoomForAll}
 use Rattle.theory.specs.Sets.{SameSet, conflicts}
 use Rattle.propagation.specs.{declared.answer.Answer.Answer, Code.Exact.IsExact}
-use Rattle.propagation.specs.{declared.answer.Answer.TheVariants.Quiet, Code.Exact.AreExact}
+use Rattle.propagation.specs.{declared.answer.Answer.TheVariants.Quiet}
 use Rattle.cnf_base.proofs.SetLemmas.{both_pass, has_append_cases, has_append_left, same_there}
-use Rattle.propagation.proofs.PropagationLemmas.Exact.{answer_through, exact_nothing, exact_same}
-use Rattle.propagation.proofs.PropagationLemmas.Exact.{nothing_true, sound_before, start_before}
+use Rattle.propagation.proofs.PropagationLemmas.Exact.{answer_through}
 use Rattle.propagation.proofs.PropagationLemmas.Exact.{conflict_clashes, answer_from, exact_after}
 use Rattle.theory.proofs.PropagationLemmas.Forced.{forced_assumed}
 use Rattle.cnf_base.proofs.{MapLemmas.get_remove, MapLemmas.sum_empty, SetLemmas.has_append_right}
 
 pub scan_empty : (live : FinMap nat_cmp Clause) (held : AssumptionsState) → live ≡ maps.empty
     → held.trail.lits ≡ [] → held.assumptions ≡ [] → IsScan live held
-scan_empty live held none unset nothing = grind (arith, maps.get-empty, exact_nothing)
+scan_empty = grind (arith, maps.get-empty)
 
 -- more room, and else nothing new
 pub held_reserved : (live : FinMap nat_cmp Clause) (Roots : List Literal → Type 0)
@@ -32,8 +31,7 @@ pub held_reserved : (live : FinMap nat_cmp Clause) (Roots : List Literal → Typ
     → after.assumptions ≡ before.assumptions → after.starts ≡ before.starts
     → ((v : ℕ) → has before.trail.reserved v ≡ true → has after.trail.reserved v ≡ true)
     → IsHeld live Roots before → IsHeld live Roots after
-held_reserved live Roots before after lits_are assumptions_are starts_are within held =
-    grind (arith, exact_same)
+held_reserved = grind arith
 
 -- a clause that is added, for which there is room
 pub room_added : (reserved : List ℕ) (live after : FinMap nat_cmp Clause) (slot : ℕ) (lits : Clause)
@@ -52,7 +50,7 @@ room_removed reserved live after slot is all = grind (arith, get_remove, none-so
 -- a clause is added or taken out where nothing is assumed
 pub scan_with : (live after : FinMap nat_cmp Clause) (held : AssumptionsState) → held.assumptions
     ≡ [] → HasRoomForAll held.trail.reserved (maps.get after) → IsScan live held → IsScan after held
-scan_with live after held none room scan = grind (arith, exact_nothing, nothing_true)
+scan_with = grind arith
 
 pub room_inserted : {E : Type 0} (reserved : List ℕ) (live after : FinMap nat_cmp Clause)
     (lits : Clause) (r : Result ℕ E) → HasRoomForAll reserved (maps.get live)
@@ -60,9 +58,7 @@ pub room_inserted : {E : Type 0} (reserved : List ℕ) (live after : FinMap nat_
     (λ slot. (c : Clause) × (maps.get after slot ≡ Some c) × (same_clause c lits ≡ true))
     → IfOk r (λ slot. (s : ℕ) → s ≢ slot → maps.get after s ≡ maps.get live s)
     → OnErr r (after ≡ live) → HasRoomForAll reserved (maps.get after)
-room_inserted reserved live after lits (Ok slot) all room stored others err =
-    room_added reserved live after slot lits all room stored others
-room_inserted reserved live after lits (Err e) all room stored others err = grind arith
+room_inserted = grind (arith, cases_eq, same_there, same_Some)
 
 -- what is kept in a store without clauses
 pub none_alone : (s : StoreState) → s ≡ no_clauses → s.stored ≡ literals_in s.live
@@ -79,11 +75,11 @@ module _ (live : FinMap nat_cmp Clause) (Roots : List Literal → Type 0) (sound
     (before after : AssumptionsState) (added : List Literal) (may : MayAssume before.assumptions) (scan : IsHeld live Roots before) where
   before_sound : (l : Literal) → has before.trail.lits l ≡ true
       → Forced (maps.get live) (assumed_by before.assumptions) l
-  before_sound = grind (arith, sound_before)
+  before_sound = grind arith
 
   before_start : (l : Literal) → has (assumed_by before.assumptions) l ≡ true
       → has before.trail.lits l ≡ true
-  before_start = grind (arith, start_before)
+  before_start = grind arith
 
   pub part_clashes : conflicts (before.trail.lits ++ added) ≡ true
       → Clash (maps.get live) (assumed_by before.assumptions ++ added)
@@ -97,16 +93,9 @@ module _ (live : FinMap nat_cmp Clause) (Roots : List Literal → Type 0) (sound
   -- what is true at the end, and what stands
   module _ (last : AssumptionsState) (answer : Answer) (all : List Literal) (stand : last.assumptions ≡ record { answer = answer; assumed = all } ∷ before.assumptions) (starts : last.starts ≡ length before.trail.lits ∷ before.starts)
       (begins : take (length before.trail.lits) last.trail.lits ≡ before.trail.lits) (reserved : SameSet last.trail.reserved before.trail.reserved) where
-    room_last : HasRoomForAll last.trail.reserved (maps.get live)
-    room_last = grind arith
-
-    exact_last : (answer ≡ Quiet → IsExact (maps.get live) all last.trail.lits)
-        → AreExact (maps.get live) Roots last.trail.lits last.assumptions last.starts
-    exact_last exact = grind arith
-
     pub scan_after : (answer ≡ Quiet → IsExact (maps.get live) all last.trail.lits)
         → IsHeld live Roots last
-    scan_after exact = record { room = room_last; exact = exact_last exact }
+    scan_after exact = grind arith
 
   pub part_exact : SameSet after.trail.lits (before.trail.lits ++ added) → (all lits : List Literal)
       → SameSet all (assumed_by before.assumptions ++ added)
@@ -133,5 +122,4 @@ assumed_none live before after added r h h2 = grind (arith, false≢true)
 
 -- the same literals in another order
 pub assuming_alike : {E : Type 0} (before after : Propagation) (first second : List Literal) (r : Result Answer E) → SameSet first second → Assuming before after first r → Assuming before after second r
-assuming_alike before after first second (Ok answer) same assuming = grind (arith, answer_through, forced_assumed, both_pass, has_append_cases, has_append_left, has_append_right)
-assuming_alike before after first second (Err e) same assuming = grind arith
+assuming_alike = grind (arith, answer_through, forced_assumed, both_pass, has_append_cases, has_append_left, has_append_right)

@@ -3,8 +3,8 @@
 use Rattle.std.specs.Prelude.{ℕ, ◌/◌, Bool, List, filter, ◌==◌, ◌||◌, [], ◌∷◌, take, ◌≡◌, ◌≤◌, ◌<◌}
 use Rattle.std.specs.Prelude.{map, length, IsTrue, ◌≢◌, ⊤, IsSome}
 use Rattle.cnf_base.specs.Literals.{Literal, has, variable}
-use Rattle.tables.specs.Filled.{at}
-use Rattle.tables.specs.declared.filled.Filled.{Filled}
+use Rattle.tables.specs.ByKey.{at}
+use Rattle.tables.specs.declared.by_key.ByKey.{ByKey}
 use Rattle.propagation.specs.Assumptions.{Assumption}
 use Rattle.trail.specs.Numbers.{number_at}
 use Rattle.trail.specs.Trail.{TrailState}
@@ -88,7 +88,7 @@ AreLevels number_of made lits (Two first second) =
 
 -- there is a number for each variable with room, none is above that of the last assumption, and
 -- those that stand have theirs
-pub record IsNumbered (trail : TrailState) (numbers : Filled ℕ) (made : ℕ) (levels : Levels)
+pub record IsNumbered (trail : TrailState) (numbers : ByKey ℕ) (made : ℕ) (levels : Levels)
     : Type 0 where
   pub known : (v : ℕ) → IsTrue (has trail.reserved v) → IsSome (at numbers v)
   pub low : (v : ℕ) → number_at numbers v ≤ made

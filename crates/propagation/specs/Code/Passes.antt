@@ -5,7 +5,7 @@ use Rattle.trail.specs.Code.Left.{IsSettled}
 use Rattle.trail.specs.Left.{how_many}
 use Rattle.theory.specs.Propagation.{Live, Clash, open_literals}
 use Rattle.trail.specs.Trail.{TrailState}
-use Rattle.propagation.specs.declared.scan.unit.Pass.TheVariants.{Clash as PassClash, Changed}
+use Rattle.propagation.specs.declared.scan.unit.Pass.TheVariants.{Conflict, Changed}
 use Rattle.propagation.specs.declared.scan.unit.Pass.TheVariants.{Quiet as PassQuiet}
 use Rattle.propagation.specs.declared.scan.unit.Pass.{Pass}
 
@@ -13,10 +13,10 @@ use Rattle.propagation.specs.declared.scan.unit.Pass.{Pass}
 abbrev pub unset : List Literal → List ℕ → ℕ
 unset lits reserved = count_by (λ v. not (has (map variable lits) v)) reserved
 
--- a pass found a clash, made fewer variables open, or found that nothing new follows from any
+-- a pass found a conflict, made fewer variables open, or found that nothing new follows from any
 -- clause
 abbrev pub IsPassed : Live → TrailState → List Literal → Pass → Type 0
-IsPassed live before lits PassClash = Clash live before.lits
+IsPassed live before lits Conflict = Clash live before.lits
 IsPassed live before lits Changed =
     (vs : List ℕ) → ((v : ℕ) → IsTrue (has before.reserved v) → IsTrue (has vs v)) →
     unset lits vs < unset before.lits vs

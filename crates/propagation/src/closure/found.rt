@@ -9,7 +9,7 @@ ghost use Rattle.trail.specs.Left.{how_many};
 use cnf_base::{Lit, OutOfMemory};
 use std::alloc::Global;
 use std::marker::Model;
-use tables::{Table, key};
+use tables::{ByKey, key};
 use trail::{Left, Truths, left_of};
 
 /// Literals that were found to follow from live clauses with nothing assumed. Past a clash both
@@ -20,13 +20,13 @@ use trail::{Left, Truths, left_of};
 pub(crate) struct Found {
     lits: Vec<Lit>,
     /// By literal whether it is among them.
-    marks: Table<()>,
+    marks: ByKey<bool>,
 }
 
 impl Model for Found {
-    ghost use Rattle.std.specs.Prelude.{◌≡◌, ℕ, List, is_some};
+    ghost use Rattle.std.specs.Prelude.{◌≡◌, ℕ, List, unwrap_or, false};
     ghost use Rattle.cnf_base.specs.Literals.{has};
-    ghost use Rattle.tables.specs.Table.{at};
+    ghost use Rattle.tables.specs.ByKey.{at};
 
     ghost Value = { List ℕ };
 
@@ -34,7 +34,8 @@ impl Model for Found {
     // the list and no other.
     ghost view = { λ record { lits = lits; marks = _ }. lits.items };
 
-    ghost invariant = { λ f. (l : ℕ) → is_some (at f.marks l) ≡ has f.lits.items l };
+    ghost invariant = { λ f. (l : ℕ) →
+        unwrap_or (at f.marks l) false ≡ has f.lits.items l };
 }
 
 impl Truths for Found {
@@ -52,7 +53,7 @@ impl Found {
     {
         Found {
             lits: Vec::new(alloc),
-            marks: Table::new(alloc),
+            marks: ByKey::new(alloc),
         }
     }
 
@@ -67,7 +68,7 @@ impl Found {
     fn has(&self, l: Lit) -> bool
         ensures { result ≡ has self.now l }
     {
-        self.marks.get(key(l)).is_some()
+        self.marks.get_or(key(l), false)
     }
 
     /// What is left of a clause where its literals are true. It takes no memory.
@@ -87,7 +88,8 @@ impl Found {
             return Ok(());
         }
         self.lits.reserve(1)?;
-        self.marks.reserve(key(l), ())?;
+        self.marks.reserve(key(l), false)?;
+        self.marks.set(key(l), true);
         self.lits.push_reserved(l);
         Ok(())
     }

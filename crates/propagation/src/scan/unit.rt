@@ -19,7 +19,7 @@ use trail::Left;
 #[derive(Clone, Copy)]
 enum Pass {
     /// All literals of some clause are false.
-    Clash,
+    Conflict,
     /// Some literal was set.
     Changed,
     /// Nothing was set.
@@ -39,7 +39,7 @@ fn run_pass(store: &Store<Slots>, assumptions: &mut Assumptions) -> Pass
     for number in 0..store.end() {
         if let Some(clause) = store.at(number) {
             match assumptions.trail().left(clause) {
-                Left::Nothing => return Pass::Clash,
+                Left::Nothing => return Pass::Conflict,
                 Left::One(l) => {
                     if assumptions.make_true(l) {
                         found = Pass::Changed;
@@ -52,7 +52,7 @@ fn run_pass(store: &Store<Slots>, assumptions: &mut Assumptions) -> Pass
     found
 }
 
-/// Sets all that follows from the literals that are true, or stops at a clash.
+/// Sets all that follows from the literals that are true, or stops at a conflict.
 pub(crate) fn propagate(store: &Store<Slots>, assumptions: &mut Assumptions) -> Answer
     requires { HasRoomForAll assumptions.old.trail.reserved (maps.get store.now.live) }
     ensures answer { IsAnswer (maps.get store.now.live) assumptions.old.trail.lits result }
@@ -64,7 +64,7 @@ pub(crate) fn propagate(store: &Store<Slots>, assumptions: &mut Assumptions) -> 
 {
     loop {
         match run_pass(store, assumptions) {
-            Pass::Clash => return Answer::Clash,
+            Pass::Conflict => return Answer::Clash,
             Pass::Changed => {}
             Pass::Quiet => {
                 let _different = assumptions.trail().len();

@@ -18,10 +18,10 @@ use Rattle.root_literals.specs.Code.{Doubts.AreSettled, Propagated.CanSet, Propa
 use Rattle.root_literals.specs.History.{HasGrown, IsHistory, sure_of, visits}
 use Rattle.root_literals.specs.Order.{each_in_order, in_order}
 use Rattle.root_literals.specs.Roots.{AreNoted, HaveUnits, IsFalseAt, IsKept, IsKnown, IsStanding}
-use Rattle.root_literals.specs.Roots.{has_clash, is_up_to_date, seen_of}
+use Rattle.root_literals.specs.Roots.{has_conflict, is_up_to_date, seen_of}
 use Rattle.root_literals.specs.Watched.{HasUnit, IsMet, IsPart, IsWatched}
 use Rattle.root_literals.specs.declared.{history.History.History, kept.Kept.Kept}
-use Rattle.root_literals.specs.declared.kept.Kept.TheVariants.{All, Clash as KeptClash}
+use Rattle.root_literals.specs.declared.kept.Kept.TheVariants.{All, Conflict as KeptConflict}
 use Rattle.root_literals.specs.declared.{kept.Kept.TheVariants.WithoutUnits, roots.Roots.Roots}
 use Rattle.std.proofs.Common.{Bool, List, Option, Some, [], ap, arith, cond, eq-eqb, eqb, eqb-true}
 use Rattle.std.proofs.Common.{false, get_or, inl, inr, is_some, length, nat_cmp, not, refl, rules}
@@ -29,7 +29,7 @@ use Rattle.std.proofs.Common.{sym, take, take-take, take_all, true, true≢false
 use Rattle.std.proofs.Common.{◌/◌, ◌<◌, ◌∙◌, ◌∷◌, ◌≡◌, ◌≢◌, ◌≤◌, ◌⊎◌}
 use Rattle.std.proofs.lemmas.Bool.{cases_Bool, cases_eq, false_from_ne_true, false≢true, or_left}
 use Rattle.std.{proofs.lemmas.Bool.or_right, proofs.lemmas.List.take_more, specs.FinMap.FinMap}
-use Rattle.{tables.specs.Filled.at, theory.proofs.PropagationLemmas.Conflicts.conflict_from}
+use Rattle.{tables.specs.ByKey.at, theory.proofs.PropagationLemmas.Conflicts.conflict_from}
 use Rattle.theory.proofs.PropagationLemmas.{Conflicts.conflicts_more, Forced.clash_by_false}
 use Rattle.theory.proofs.PropagationLemmas.Forced.{forced_assumed, forced_through, forced_unit}
 use Rattle.theory.specs.Propagation.{Clash, Forced, IsClosed, Live, by_both, by_empty}
@@ -91,12 +91,12 @@ kept_forced = grind (arith, reasoned_forced)
 -- ---- What is up to date
 
 -- all that is kept is propagated where it is up to date and no clash
-pub all_known : (live : FinMap nat_cmp Clause) (kept : Kept) (lits : List Literal) → is_up_to_date kept ≡ true → has_clash kept ≡ false → IsKnown live kept lits → IsWatched (maps.get live) lits lits × HaveUnits (maps.get live) lits
+pub all_known : (live : FinMap nat_cmp Clause) (kept : Kept) (lits : List Literal) → is_up_to_date kept ≡ true → has_conflict kept ≡ false → IsKnown live kept lits → IsWatched (maps.get live) lits lits × HaveUnits (maps.get live) lits
 all_known = grind (arith, false≢true, true≢false)
 
 -- a clash is one
-pub kept_clash : (live : FinMap nat_cmp Clause) (kept : Kept) (lits : List Literal) → has_clash kept ≡ true → AreForced (maps.get (each_in_order live)) lits → IsKnown live kept lits → Clash (maps.get (each_in_order live)) []
-kept_clash live (KeptClash slot) lits clash forced known =
+pub kept_clash : (live : FinMap nat_cmp Clause) (kept : Kept) (lits : List Literal) → has_conflict kept ≡ true → AreForced (maps.get (each_in_order live)) lits → IsKnown live kept lits → Clash (maps.get (each_in_order live)) []
+kept_clash live (KeptConflict slot) lits clash forced known =
     clash_by_false (maps.get (each_in_order live)) [] slot known.clause known.at (grind arith)
 kept_clash live kept lits h h2 h3 = grind (arith, false≢true)
 
@@ -104,7 +104,7 @@ kept_clash live kept lits h h2 h3 = grind (arith, false≢true)
 pub nothing_stands : (kept : Kept) (assumptions : List Assumption) → IsStanding kept assumptions → is_up_to_date kept ≡ false → assumptions ≡ []
 nothing_stands = grind (arith, true≢false)
 
-pub not_clash : (kept : Kept) → is_up_to_date kept ≡ false → has_clash kept ≡ false
+pub not_clash : (kept : Kept) → is_up_to_date kept ≡ false → has_conflict kept ≡ false
 not_clash = grind (arith, true≢false)
 
 pub roots_alone : (lits : List Literal) (assumptions : List Assumption) (starts : List ℕ) → assumptions ≡ [] → roots_in lits assumptions starts ≡ lits
@@ -116,7 +116,7 @@ roots_part lits assumptions starts l h = grind arith
 
 -- where all is kept that follows with nothing assumed
 module _ (live : FinMap nat_cmp Clause) (roots : Roots) (lits : List Literal) (assumptions : List Assumption) (starts : List ℕ) (different : (s : ℕ) (c : Clause) → maps.get live s ≡ Some c → size c ≡ length c) (apart : HasNoVariableTwice lits)
-    (kept : IsKept live roots (roots_in lits assumptions starts)) (up : is_up_to_date roots.kept ≡ true) (quiet : has_clash roots.kept ≡ false) where
+    (kept : IsKept live roots (roots_in lits assumptions starts)) (up : is_up_to_date roots.kept ≡ true) (quiet : has_conflict roots.kept ≡ false) where
   no_conflict_kept : conflicts (roots_in lits assumptions starts) ≡ false
   no_conflict_kept = grind (arith, false_from_ne_true, true≢false, conflicts_more, roots_part, no_conflict)
 
@@ -185,7 +185,7 @@ module _ (a b : FinMap nat_cmp Clause) (x y : AssumptionsState) (r s : Literal �
 
 -- what was kept still is, and what follows from it, where the rest is so
 pub kept_grown : (a b : FinMap nat_cmp Clause) (x y : AssumptionsState) (roots now : Roots) → PropagatesTo a b x y (at roots.reasons) (at now.reasons) → IsKept a roots x.trail.lits → IsKnown b now.kept y.trail.lits →
-    IsHistory (sure_of now.history.doubts.items (maps.get b)) now.history y.trail.lits → (has_clash now.kept ≡ false → IsWatched (seen_of now (maps.get b)) (take (visits now.history) y.trail.lits) y.trail.lits) → now.uses ≡ roots.uses → IsKept b now y.trail.lits
+    IsHistory (sure_of now.history.doubts.items (maps.get b)) now.history y.trail.lits → (has_conflict now.kept ≡ false → IsWatched (seen_of now (maps.get b)) (take (visits now.history) y.trail.lits) y.trail.lits) → now.uses ≡ roots.uses → IsKept b now y.trail.lits
 kept_grown a b x y roots now carried kept known history visited uses_are = record {
   noted = grind (arith, noted_carried);
   reasoned = grind arith;
@@ -201,26 +201,26 @@ all_sure live doubts done trues met watched = record { each = λ s c is. grind (
 
 module _ (live : FinMap nat_cmp Clause) (x y : AssumptionsState) (roots now : Roots) (carried : PropagatesTo live live x y (at roots.reasons) (at now.reasons)) (kept : IsKept live roots x.trail.lits) where
   -- more literals are kept, by clauses that stay as they are
-  pub kept_started : has_clash roots.kept ≡ false → now.history ≡ roots.history → IsKnown live now.kept y.trail.lits → now.uses ≡ roots.uses →
-      (has_clash now.kept ≡ false → IsWatched (seen_of now (maps.get live)) (take (visits now.history) y.trail.lits) y.trail.lits) → IsKept live now y.trail.lits
+  pub kept_started : has_conflict roots.kept ≡ false → now.history ≡ roots.history → IsKnown live now.kept y.trail.lits → now.uses ≡ roots.uses →
+      (has_conflict now.kept ≡ false → IsWatched (seen_of now (maps.get live)) (take (visits now.history) y.trail.lits) y.trail.lits) → IsKept live now y.trail.lits
   kept_started quiet same known uses_are seen = kept_grown _ _ _ _ _ _ carried kept known (grind (arith, history_grown, watched_most)) seen uses_are
 
   -- what was visited is propagated to all clauses, where each doubtful one is met
-  pub settled_all : has_clash roots.kept ≡ false → AreSettled (maps.get live) roots.history.doubts.items x.trail.lits y.trail.lits → IsWatched (maps.get live) (take (visits roots.history) y.trail.lits) y.trail.lits
+  pub settled_all : has_conflict roots.kept ≡ false → AreSettled (maps.get live) roots.history.doubts.items x.trail.lits y.trail.lits → IsWatched (maps.get live) (take (visits roots.history) y.trail.lits) y.trail.lits
   settled_all quiet settled =
       all_sure (maps.get live) roots.history.doubts.items (take (visits roots.history) y.trail.lits) y.trail.lits (grind (arith, front_part, front)) (grind (arith, visited_grown, watched_most))
 
   -- and is kept
   pub kept_settled : roots.kept ≡ WithoutUnits → now.kept ≡ roots.kept → now.history ≡ roots.history → now.uses ≡ roots.uses → IsKept live now y.trail.lits
   kept_settled cut kept_is history_is uses_are =
-      kept_started (ap has_clash cut) history_is (grind arith) uses_are (grind (arith, seen_same, visited_grown))
+      kept_started (ap has_conflict cut) history_is (grind arith) uses_are (grind (arith, seen_same, visited_grown))
 
 -- all that was visited is propagated among all literals
 pub begun_again : (b : FinMap nat_cmp Clause) (doubts : List ℕ) (n : ℕ) (lits : List Literal) (trues : ℕ) → trues ≡ length lits → IsWatched (maps.get b) (take n lits) lits → (p : ℕ) → trues ≤ p → p ≤ length lits → IsWatched (sure_of doubts (maps.get b)) (take n lits) (take p lits)
 begun_again = grind (arith, watched_all, take_all)
 
 -- what was visited among the literals of before is propagated among those of now
-pub begun_from : (live : FinMap nat_cmp Clause) (roots now : Roots) (before after : List Literal) → IsKept live roots before → has_clash roots.kept ≡ false → (visits now.history ≡ 0) ⊎ HasGrown roots.history now.history before after → (p : ℕ) → length before ≤ p → p ≤ length after →
+pub begun_from : (live : FinMap nat_cmp Clause) (roots now : Roots) (before after : List Literal) → IsKept live roots before → has_conflict roots.kept ≡ false → (visits now.history ≡ 0) ⊎ HasGrown roots.history now.history before after → (p : ℕ) → length before ≤ p → p ≤ length after →
     IsWatched (sure_of now.history.doubts.items (maps.get live)) (take (visits now.history) after) (take p after)
 begun_from live roots now before after kept quiet grown p low inside = elim grown [
   | inl none ↦ search rules

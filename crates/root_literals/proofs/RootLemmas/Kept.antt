@@ -14,18 +14,18 @@ use Rattle.root_literals.proofs.RootLemmas.Watched.{watched_none}
 use Rattle.root_literals.specs.History.{IsHistory, IsNoted, IsRewound, sure_of, visits}
 use Rattle.root_literals.specs.Order.{each_in_order, in_order}
 use Rattle.root_literals.specs.Roots.{AreNoted, AreReasoned, HasReasons, HaveUnits, IsArranged}
-use Rattle.root_literals.specs.Roots.{IsKept, IsKnown, IsReasonAt, has_clash, lacks_units, seen_of}
+use Rattle.root_literals.specs.Roots.{IsKept, IsKnown, IsReasonAt, has_conflict, lacks_units, seen_of}
 use Rattle.root_literals.specs.Uses.{AreCounted, clause_in, is_in, times}
 use Rattle.root_literals.specs.Watched.{HasUnit, IsMet, IsPart, IsWatched}
 use Rattle.root_literals.specs.declared.{history.History.History, kept.Kept.Kept}
-use Rattle.root_literals.specs.declared.kept.Kept.TheVariants.{Clash, Clash as KeptClash, WithUnits}
+use Rattle.root_literals.specs.declared.kept.Kept.TheVariants.{Conflict, Conflict as KeptConflict, WithUnits}
 use Rattle.root_literals.specs.declared.{kept.Kept.TheVariants.WithoutUnits, roots.Roots.Roots}
 use Rattle.std.proofs.Common.{Bool, List, None, Option, Some, [], arith, cond, eqb, false, get_or}
 use Rattle.std.proofs.Common.{inl, inr, length, length-append, nat_cmp, refl, rules, take, take_all}
 use Rattle.std.proofs.Common.{true, true≢false, ℕ, ◌++◌, ◌+◌, ◌<◌, ◌∙◌, ◌∷◌, ◌≡◌, ◌≢◌, ◌≤◌}
 use Rattle.std.proofs.lemmas.Bool.{cases_Bool, cases_eq, false≢true}
 use Rattle.std.proofs.lemmas.{List.take-append-le, Option.none-some, Option.same_Some}
-use Rattle.{std.specs.FinMap.FinMap, tables.specs.Filled.at, theory.specs.Propagation.Live}
+use Rattle.{std.specs.FinMap.FinMap, tables.specs.ByKey.at, theory.specs.Propagation.Live}
 use Rattle.trail.specs.{Trail.HasNoVariableTwice, declared.left.Left.Left}
 use Rattle.trail.specs.declared.left.Left.TheVariants.{More, Nothing, One}
 use Rattle.watch_lists.proofs.WatchListsLemmas.Watched.{watched_first}
@@ -63,8 +63,8 @@ module _ (trues more : List Literal) (m : Literal) (set : has more m ≡ true) w
 
 -- ---- The same visits
 
-pub seen_same : (live : Live) (roots after : Roots) (lits : List Literal) → after.kept ≡ roots.kept → after.history ≡ roots.history → (has_clash roots.kept ≡ false → IsWatched (seen_of roots live) (take (visits roots.history) lits) lits) →
-    has_clash after.kept ≡ false → IsWatched (seen_of after live) (take (visits after.history) lits) lits
+pub seen_same : (live : Live) (roots after : Roots) (lits : List Literal) → after.kept ≡ roots.kept → after.history ≡ roots.history → (has_conflict roots.kept ≡ false → IsWatched (seen_of roots live) (take (visits roots.history) lits) lits) →
+    has_conflict after.kept ≡ false → IsWatched (seen_of after live) (take (visits after.history) lits) lits
 seen_same = grind arith
 
 -- ---- Another reason
@@ -149,7 +149,7 @@ module _ (live : FinMap nat_cmp Clause) (slot : ℕ) where
   watched_sure_left = grind (arith, was_there, none-some, remove_here)
 
   -- nothing that is kept rests on it
-  module _ (roots : Roots) (lits : List Literal) (kept : IsKept live roots lits) (c : Clause) (here : maps.get live slot ≡ Some c) (no_clash : roots.kept ≢ KeptClash slot)
+  module _ (roots : Roots) (lits : List Literal) (kept : IsKept live roots lits) (c : Clause) (here : maps.get live slot ≡ Some c) (no_clash : roots.kept ≢ KeptConflict slot)
       (no_reason : (l : Literal) → has c l ≡ true → has lits l ≡ true → at roots.reasons l ≢ Some slot) where
     pub kept_left : (later : History) → later.visited ≡ roots.history.visited → later.floor ≡ roots.history.floor → ((s : ℕ) → s ≢ slot → has later.doubts.items s ≡ has roots.history.doubts.items s) → IsKept (maps.remove live slot) (record roots { history = later }) lits
     kept_left later visited_is floor_is others = record {
@@ -224,10 +224,10 @@ module _ {after : FinMap nat_cmp Clause} {slot : ℕ} {c : Clause} {roots : Root
   seen true done trues met was = grind (arith, sure)
   seen false done trues met was = watched done trues was met
 
-  so_far : has_clash roots.kept ≡ false → IsWatched (sure_of (cond (lacks_units roots.kept) roots.history.doubts.items []) (maps.get (maps.remove after slot))) (take (visits later) lits) lits
+  so_far : has_conflict roots.kept ≡ false → IsWatched (sure_of (cond (lacks_units roots.kept) roots.history.doubts.items []) (maps.get (maps.remove after slot))) (take (visits later) lits) lits
   so_far = grind arith
 
-  idle : (k : Kept) → has_clash k ≡ true → IsKnown (maps.remove after slot) k lits → IsKnown after k lits
+  idle : (k : Kept) → has_conflict k ≡ true → IsKnown (maps.remove after slot) k lits → IsKnown after k lits
   idle = grind (arith, false≢true, was_seen)
 
   -- nothing new follows from it
@@ -244,7 +244,7 @@ module _ {after : FinMap nat_cmp Clause} {slot : ℕ} {c : Clause} {roots : Root
     still_counted : AreCounted (maps.get after) (at now.reasons) lits now.uses
     still_counted = rw (reasons_are, uses_are) (same_counted (at roots.reasons) (λ l _. refl))
 
-    still_kept : IsKnown after now.kept lits → (has_clash now.kept ≡ false → IsWatched (seen_of now (maps.get after)) (take (visits now.history) lits) lits) → IsKept after now lits
+    still_kept : IsKnown after now.kept lits → (has_conflict now.kept ≡ false → IsWatched (seen_of now (maps.get after)) (take (visits now.history) lits) lits) → IsKept after now lits
     still_kept known visited = record {
       noted = rw reasons_are noted;
       reasoned = rw reasons_are reasoned;
@@ -254,14 +254,14 @@ module _ {after : FinMap nat_cmp Clause} {slot : ℕ} {c : Clause} {roots : Root
       counted = still_counted;
     }
 
-    pub entered_idle : has_clash roots.kept ≡ true → now.kept ≡ roots.kept → IsKept after now lits
+    pub entered_idle : has_conflict roots.kept ≡ true → now.kept ≡ roots.kept → IsKept after now lits
     entered_idle is kept_is = still_kept (grind (arith, idle)) (grind arith)
 
     pub entered_more : IsArranged lits c More → now.kept ≡ roots.kept → IsKept after now lits
     entered_more first kept_is =
         entered_settled (grind (arith, false≢true, watched_first)) (search rules) now kept_is history_is (rw reasons_are noted) (rw reasons_are reasoned) still_counted
 
-    pub entered_false : IsArranged lits c Nothing → now.kept ≡ Clash slot → IsKept after now lits
+    pub entered_false : IsArranged lits c Nothing → now.kept ≡ Conflict slot → IsKept after now lits
     entered_false falses kept_is =
         still_kept (rw kept_is (record { clause = in_order c; at = seen_there after slot c given.here; falses = grind (arith, has-in_order) })) (grind arith)
 
@@ -295,7 +295,7 @@ module _ {after : FinMap nat_cmp Clause} {slot : ℕ} {c : Clause} {roots : Root
           by_reason k (Some s) is there = grind (arith, seen_has_at (maps.remove after slot) m s, given.kept.reasoned.has_it m s, only_one, set_here)
 
       -- the literal becomes true
-      pub entered_set : has_clash roots.kept ≡ false → has lits m ≡ false → (more : List Literal) → now.kept ≡ cond (lacks_units roots.kept) WithoutUnits WithUnits → more ≡ lits ++ m ∷ [] → IsKept after now more
+      pub entered_set : has_conflict roots.kept ≡ false → has lits m ≡ false → (more : List Literal) → now.kept ≡ cond (lacks_units roots.kept) WithoutUnits WithUnits → more ≡ lits ++ m ∷ [] → IsKept after now more
       entered_set quiet is_open more kept_is is = record {
         noted = set_noted;
         reasoned =

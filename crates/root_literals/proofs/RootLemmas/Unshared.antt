@@ -10,7 +10,7 @@ use Rattle.root_literals.proofs.RootLemmas.Reasons.{in_rest, not_before, seen_ha
 use Rattle.root_literals.proofs.RootLemmas.Watched.{front_in_front, front_part, sure_by, sure_is}
 use Rattle.root_literals.specs.History.{IsHistory, sure_of, trues_at, visits}
 use Rattle.root_literals.specs.{Order.each_in_order, Roots.AreReasoned, Roots.FollowsReasons}
-use Rattle.root_literals.specs.Roots.{HaveUnits, IsAbsent, IsKept, IsKnown, IsUnneeded, has_clash}
+use Rattle.root_literals.specs.Roots.{HaveUnits, IsAbsent, IsKept, IsKnown, IsUnneeded, has_conflict}
 use Rattle.root_literals.specs.{Roots.lacks_units, Uses.clause_in, Uses.is_in, Uses.times}
 use Rattle.root_literals.specs.Watched.{HasUnit, IsPart, IsWatched}
 use Rattle.root_literals.specs.declared.{history.History.History, kept.Kept.Kept}
@@ -21,7 +21,7 @@ use Rattle.std.proofs.Common.{take, true, true≢false, ℕ, ◌+◌, ◌<◌, �
 use Rattle.std.proofs.lemmas.Bool.{cases_eq, cases_lt, false_from_ne_true, false≢true, or_cases}
 use Rattle.std.proofs.lemmas.{Bool.or_left, Bool.or_right, Grind.get_or_default_zero}
 use Rattle.std.proofs.lemmas.List.Edits.{get_or-remove_above, get_or-remove_below, length-remove}
-use Rattle.{std.proofs.lemmas.Option.same_Some, std.specs.FinMap.FinMap, tables.specs.Filled.at}
+use Rattle.{std.proofs.lemmas.Option.same_Some, std.specs.FinMap.FinMap, tables.specs.ByKey.at}
 use Rattle.trail.proofs.TrailLemmas.Without.{IsFront, front_before, front_still, front_was}
 use Rattle.trail.proofs.TrailLemmas.Without.{none_left, still_there, was_there as was_true}
 use Rattle.trail.specs.Trail.{HasNoVariableTwice}
@@ -101,7 +101,7 @@ module _ (live : FinMap nat_cmp Clause) (slot place : ℕ) (l : Literal) (lits :
   units_out : HaveUnits (maps.get live) lits → HaveUnits (maps.get rest) out
   units_out = grind (arith, unit_out, absent, was_there)
 
-  known_out : (kept : Kept) → has_clash kept ≡ false → IsKnown live kept lits → IsKnown rest kept out
+  known_out : (kept : Kept) → has_conflict kept ≡ false → IsKnown live kept lits → IsKnown rest kept out
   known_out All quiet known = (watched_out [] lits out lits out (grind (arith, was_true)) (grind (arith, still_there)) known.0, units_out known.1)
   known_out kept h h2 = grind (arith, units_out, true≢false)
 
@@ -162,7 +162,7 @@ module _ (live : FinMap nat_cmp Clause) (slot place : ℕ) (l : Literal) (lits :
 
   -- ---- All of it
 
-  pub kept_out : (roots after : Roots) → IsUnneeded (maps.get live) (at roots.reasons) lits place l → IsKept live roots lits → has_clash roots.kept ≡ false → after.kept ≡ roots.kept → after.reasons ≡ roots.reasons →
+  pub kept_out : (roots after : Roots) → IsUnneeded (maps.get live) (at roots.reasons) lits place l → IsKept live roots lits → has_conflict roots.kept ≡ false → after.kept ≡ roots.kept → after.reasons ≡ roots.reasons →
       at roots.reasons l ≡ Some slot → (place < roots.uses.counted → after.uses.counted + 1 ≡ roots.uses.counted) → ((k : Literal) → times roots.uses k ≤ times after.uses k + cond (eqb k l) 1 0) → (roots.uses.counted ≤ place → after.uses ≡ roots.uses) →
       (place < visits roots.history → after.history.visited.items ≡ remove roots.history.visited.items place) → (visits roots.history ≤ place → after.history.visited.items ≡ roots.history.visited.items) → after.history.floor ≡ roots.history.floor →
       after.history.doubts ≡ roots.history.doubts → IsKept rest after out

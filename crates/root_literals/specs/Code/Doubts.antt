@@ -9,7 +9,7 @@ use Rattle.root_literals.specs.Order.{each_in_order}
 use Rattle.root_literals.specs.Roots.{IsFalseAt}
 use Rattle.root_literals.specs.Watched.{IsMet}
 use Rattle.root_literals.specs.declared.doubts.Looked.{Looked}
-use Rattle.root_literals.specs.declared.doubts.Looked.TheVariants.{Settled, Clash, Open}
+use Rattle.root_literals.specs.declared.doubts.Looked.TheVariants.{Settled, Conflict, Open}
 
 -- where a clause in one of the slots watches a literal that was false, one of its literals is true
 abbrev pub AreSettled : Live → List ℕ → List Literal → List Literal → Type 0
@@ -21,5 +21,5 @@ AreSettled live slots before now =
 abbrev pub IsLooked : FinMap nat_cmp Clause → List ℕ → List Literal → List Literal → Looked →
     Type 0
 IsLooked live slots before now Settled = AreSettled (maps.get live) slots before now
-IsLooked live slots before now (Clash s) = IsFalseAt (maps.get (each_in_order live)) s now
+IsLooked live slots before now (Conflict s) = IsFalseAt (maps.get (each_in_order live)) s now
 IsLooked live slots before now Open = ⊤

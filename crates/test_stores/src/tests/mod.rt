@@ -1,10 +1,9 @@
 //! The tests, and what they share.
 
 mod asserts;
+mod by_key;
 mod clauses;
-mod filled;
 mod identifiers;
 mod lists;
 mod memories;
-mod table;
 mod trails;

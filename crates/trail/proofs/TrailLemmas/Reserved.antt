@@ -1,26 +1,26 @@
 -- The variables that were reserved, read off a table by variable.
 use Rattle.std.proofs.Common.{◌≡◌, ℕ, zero, suc, ◌+◌, ◌≤◌, [], length, false, cond, eqb, ◌||◌}
-use Rattle.std.proofs.Common.{◌&&◌, nat_le, Option, Some, None, is_some, refl, arith}
+use Rattle.std.proofs.Common.{◌&&◌, nat_le, Bool, true, refl, arith}
 use Rattle.std.proofs.{lemmas.Bool.Decides.nat_tests, Common.rules}
 use Rattle.cnf_base.specs.Literals.{has}
 use Rattle.trail.specs.Code.Values.{seen_up_to}
 
-module _ {T : Type 0} (seen : ℕ → Option T) where
+module _ (seen : ℕ → Bool) where
   pub seen_has : (n v : ℕ) → has (seen_up_to seen n) v
-      ≡ ((nat_le 1 v && nat_le v n) && is_some (seen v))
+      ≡ ((nat_le 1 v && nat_le v n) && seen v)
   unfolding seen_up_to
   seen_has zero v = grind (arith, nat_tests)
   seen_has (suc n) v = search (rules, seen_has n v)
 
-module _ {T : Type 0} (seen seen_too : ℕ → Option T) where
-  pub seen_same : ((v : ℕ) → is_some (seen_too v) ≡ is_some (seen v)) → (n : ℕ)
+module _ (seen seen_too : ℕ → Bool) where
+  pub seen_same : ((v : ℕ) → seen_too v ≡ seen v) → (n : ℕ)
       → seen_up_to seen_too n ≡ seen_up_to seen n
   unfolding seen_up_to
   seen_same same zero = refl
   seen_same same (suc n) = grind (arith, seen_same same n)
 
-  module _ (v : ℕ) (value : T) (none : is_some (seen v) ≡ false) (from : 1 ≤ v)
-      (puts : (k : ℕ) → seen_too k ≡ cond (eqb k v) (Some value) (seen k)) where
+  module _ (v : ℕ) (none : seen v ≡ false) (from : 1 ≤ v)
+      (puts : (k : ℕ) → seen_too k ≡ cond (eqb k v) true (seen k)) where
     below : (n : ℕ) → suc n ≤ v → length (seen_up_to seen_too n) ≡ length (seen_up_to seen n)
     unfolding seen_up_to
     below zero to = refl
@@ -33,19 +33,19 @@ module _ {T : Type 0} (seen seen_too : ℕ → Option T) where
     seen_more (suc n) to = grind (arith, seen_more n, below)
 
 -- a table without a variable, then with one
-pub seen_none : {T : Type 0} (seen : ℕ → Option T) → ((v : ℕ) → seen v ≡ None) → (n : ℕ)
+pub seen_none : (seen : ℕ → Bool) → ((v : ℕ) → seen v ≡ false) → (n : ℕ)
     → seen_up_to seen n ≡ []
 unfolding seen_up_to
 seen_none seen none zero = refl
 seen_none seen none (suc n) = cc (none (suc n), seen_none seen none n)
 
-module _ {T : Type 0} (seen seen_too : ℕ → Option T) (n v : ℕ) (value : T) (from : 1 ≤ v) (to : v ≤ n)
-    (puts : (k : ℕ) → seen_too k ≡ cond (eqb k v) (Some value) (seen k)) where
+module _ (seen seen_too : ℕ → Bool) (n v : ℕ) (from : 1 ≤ v) (to : v ≤ n)
+    (puts : (k : ℕ) → seen_too k ≡ cond (eqb k v) true (seen k)) where
   -- the variable is among those that were there
   pub seen_adds : (w : ℕ) → has (seen_up_to seen_too n) w ≡ (has (seen_up_to seen n) w || eqb v w)
   seen_adds w = search (rules, seen_has)
 
   -- what stands in the table is among them
-  pub seen_noted : ((w : ℕ) → is_some (seen w) ≡ has (seen_up_to seen n) w) → (w : ℕ)
-      → is_some (seen_too w) ≡ has (seen_up_to seen_too n) w
+  pub seen_noted : ((w : ℕ) → seen w ≡ has (seen_up_to seen n) w) → (w : ℕ)
+      → seen_too w ≡ has (seen_up_to seen_too n) w
   seen_noted noted w = grind (arith, seen_adds w)

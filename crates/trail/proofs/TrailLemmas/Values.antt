@@ -14,7 +14,7 @@ use Rattle.cnf_base.proofs.{SetLemmas.has_append_cases, WalkLemmas.has_push}
 use Rattle.cnf_base.proofs.LiteralLemmas.{complement-complement, complement-other}
 use Rattle.cnf_base.proofs.SizeLemmas.{size_covered}
 use Rattle.trail.specs.{Trail.value_under, Trail.HasNoVariableTwice, declared.value.Value.Value}
-use Rattle.tables.specs.Filled.{HaveRoom, is_of}
+use Rattle.tables.specs.ByKey.{HaveRoom, is_of}
 use Rattle.trail.specs.Code.Values.{IsTrail, Opens, known_value}
 use Rattle.trail.specs.declared.value.Value.TheVariants.{True, False, Open}
 use Rattle.cnf_base.proofs.MemberLemmas.{place_of, has_mapped, has_any, variable-complement}
@@ -100,8 +100,8 @@ fits_within lits reserved different within =
     (λ v h. sym (has_any reserved v) ∙ within v (has_any (map variable lits) v ∙ h)) in
     grind (arith, length-map)
 
-pub trail_empty : {T : Type 0} (lits reserved : List ℕ) (capacity : ℕ) (seen : ℕ → Option T)
-    (value_of : Values) → lits ≡ [] → reserved ≡ [] → ((v : ℕ) → seen v ≡ None)
+pub trail_empty : (lits reserved : List ℕ) (capacity : ℕ) (seen : ℕ → Bool)
+    (value_of : Values) → lits ≡ [] → reserved ≡ [] → ((v : ℕ) → seen v ≡ false)
     → ((k : ℕ) → value_of k ≡ None) → IsTrail lits reserved capacity seen value_of
 unfolding IsDistinct
 trail_empty lits reserved capacity seen value_of no_lits none_met none_seen none = grind arith
@@ -130,18 +130,18 @@ module _ (l : ℕ) (a b : Value) (value_of first after : Values)
 within_pushed : (lits reserved : List ℕ) (l : ℕ) → ((v : ℕ) → has (map variable lits) v ≡ true → has reserved v ≡ true) → has reserved (variable l) ≡ true → (v : ℕ) → has (map variable (lits ++ l ∷ [])) v ≡ true → has reserved v ≡ true
 within_pushed lits reserved l within here v h = grind (arith, has_push, map-append)
 
-module _ {T : Type 0} (lits reserved : List ℕ) (capacity : ℕ) (seen : ℕ → Option T) (value_of : Values) (trail : IsTrail lits reserved capacity seen value_of) where
+module _ (lits reserved : List ℕ) (capacity : ℕ) (seen : ℕ → Bool) (value_of : Values) (trail : IsTrail lits reserved capacity seen value_of) where
   -- there is more room, for literals and for values
-  pub trail_wider : (more : ℕ) (seen_too : ℕ → Option T) (after : Values) → capacity ≤ more
-      → ((v : ℕ) → is_some (seen_too v) ≡ is_some (seen v))
+  pub trail_wider : (more : ℕ) (seen_too : ℕ → Bool) (after : Values) → capacity ≤ more
+      → ((v : ℕ) → seen_too v ≡ seen v)
       → ((k : ℕ) → known_value (after k) ≡ known_value (value_of k))
       → ((k : ℕ) → is_some (value_of k) ≡ true → is_some (after k) ≡ true)
       → IsTrail lits reserved more seen_too after
   trail_wider more seen_too after wide same_seen same kept = grind arith
 
   -- one more variable is reserved
-  module _ (v : ℕ) (value : T) (reserved_too : List ℕ) (seen_too : ℕ → Option T) (adds : (w : ℕ) → has reserved_too w ≡ (has reserved w || eqb v w))
-      (noted : (w : ℕ) → is_some (seen_too w) ≡ has reserved_too w) (room : length reserved_too ≤ capacity)
+  module _ (v : ℕ) (reserved_too : List ℕ) (seen_too : ℕ → Bool) (adds : (w : ℕ) → has reserved_too w ≡ (has reserved w || eqb v w))
+      (noted : (w : ℕ) → seen_too w ≡ has reserved_too w) (room : length reserved_too ≤ capacity)
       (positive : is_some (value_of (2 * v)) ≡ true) (negative : is_some (value_of (2 * v + 1)) ≡ true) where
     of_v : (l : ℕ) → variable l ≡ v → (l ≡ 2 * v) ⊎ (l ≡ 2 * v + 1)
     of_v l e = grind arith
@@ -175,7 +175,7 @@ module _ {T : Type 0} (lits reserved : List ℕ) (capacity : ℕ) (seen : ℕ �
     pub trail_set : IsTrail (lits ++ l ∷ []) reserved capacity seen after
     trail_set = grind (arith, different_pushed, within_pushed, value_pushed)
 
-module _ {T : Type 0} (front rest reserved : List ℕ) (capacity : ℕ) (seen : ℕ → Option T) (value_of : Values) (trail : IsTrail (front ++ rest) reserved capacity seen value_of) where
+module _ (front rest reserved : List ℕ) (capacity : ℕ) (seen : ℕ → Bool) (value_of : Values) (trail : IsTrail (front ++ rest) reserved capacity seen value_of) where
   -- both literals of each variable that was set have a value
   pub last_known : (l : ℕ) → has rest l ≡ true → (is_some (value_of l) ≡ true)
       × (is_some (value_of (complement l)) ≡ true)
@@ -188,7 +188,7 @@ module _ {T : Type 0} (front rest reserved : List ℕ) (capacity : ℕ) (seen : 
     trail_taken = grind (arith, different_front, map-append, has_append_left, value_front)
 
 -- the trail as what stays and what is taken back
-pub trail_cut : {T : Type 0} (lits shown reserved : List ℕ) (capacity : ℕ) (seen : ℕ → Option T)
+pub trail_cut : (lits shown reserved : List ℕ) (capacity : ℕ) (seen : ℕ → Bool)
     (value_of : Values) → shown ≡ lits → IsTrail lits reserved capacity seen value_of → (n : ℕ)
     → IsTrail (take n shown ++ take (length shown - n) (drop n shown))
     reserved capacity seen value_of

@@ -1,6 +1,6 @@
 -- A trail from which one literal was taken out.
 use Rattle.std.proofs.Common.{◌≡◌, ◌≢◌, ℕ, ◌+◌, ◌-◌, ◌<◌, ◌≤◌, true, false, cond, eqb, eq-eqb}
-use Rattle.std.proofs.Common.{Option, Some, is_some, List, map, take, length, get_or, refl, sym, ap}
+use Rattle.std.proofs.Common.{Bool, Option, Some, is_some, List, map, take, length, get_or, refl, sym, ap}
 use Rattle.std.proofs.Common.{◌∙◌, subst, arith, inl, inr, ◌⊎◌}
 use Rattle.std.specs.List.{remove}
 use Rattle.std.proofs.lemmas.Bool.{cases_eq, cases_lt, false_from_ne_true, ne_eqb}
@@ -117,7 +117,7 @@ module _ (lits : List ℕ) (place : ℕ) (inside : place < length lits) where
         ]
       ]
 
-    module _ {T : Type 0} (reserved : List ℕ) (capacity : ℕ) (seen : ℕ → Option T) (value_of : ℕ → Option Value) (trail : IsTrail lits reserved capacity seen value_of) where
+    module _ (reserved : List ℕ) (capacity : ℕ) (seen : ℕ → Bool) (value_of : ℕ → Option Value) (trail : IsTrail lits reserved capacity seen value_of) where
       pub out_known : (is_some (value_of l) ≡ true) × (is_some (value_of (complement l)) ≡ true)
       out_known = both_known lits reserved capacity seen value_of trail l (grind (arith, has_mapped, has_place))
 

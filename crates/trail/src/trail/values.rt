@@ -5,26 +5,28 @@
 
 ghost use Rattle.std.specs.Prelude.{◌≡◌, ℕ, ◌==◌, if◌then◌else◌, Some, IsSome, OnOk};
 ghost use Rattle.cnf_base.specs.Literals.{complement};
-ghost use Rattle.tables.specs.Filled.{HaveRoom, at};
+ghost use Rattle.tables.specs.ByKey.{HaveRoom, at};
 ghost use Rattle.trail.specs.Code.Values.{Opens, known_value};
 
 use crate::value::Value;
 use cnf_base::{Lit, OutOfMemory};
-use tables::{Filled, key};
+use tables::{ByKey, key};
 
 /// Writes the values of a literal and of its complement, which both have one.
 #[inline(always)]
-pub(crate) fn set_both(values: &mut Filled<Value>, l: Lit, value: Value, other: Value)
+pub(crate) fn set_both(values: &mut ByKey<Value>, l: Lit, value: Value, other: Value)
     requires literal { IsSome (at values.old l) }
     requires complement { IsSome (at values.old (complement l)) }
     ensures { (k : ℕ) → at values.new k ≡ (if k == complement l then Some other
         else if k == l then Some value else at values.old k) }
 {
-    values.set_both(key(l), value, key(l.neg()), other);
+    values.set(key(l), value);
+    values.set(key(l.neg()), other);
 }
 
 /// Makes the literals and their complements open.
-pub(crate) fn open_all(values: &mut Filled<Value>, lits: &[Lit])
+#[tactic(auto, using(crate::proofs::TrailLemmas::Values::opens))]
+pub(crate) fn open_all(values: &mut ByKey<Value>, lits: &[Lit])
     requires { HaveRoom (at values.old) lits.now }
     ensures { Opens (at values.old) (at values.new) lits.now }
 {
@@ -32,7 +34,7 @@ pub(crate) fn open_all(values: &mut Filled<Value>, lits: &[Lit])
 }
 
 /// Makes room for both literals of a variable, which are open where they had no value.
-pub(crate) fn reserve_both(values: &mut Filled<Value>, l: Lit) -> Result<(), OutOfMemory>
+pub(crate) fn reserve_both(values: &mut ByKey<Value>, l: Lit) -> Result<(), OutOfMemory>
     ensures same { (k : ℕ) → known_value (at values.new k) ≡ known_value (at values.old k) }
     ensures kept { (k : ℕ) → IsSome (at values.old k) → IsSome (at values.new k) }
     ensures room { OnOk result (IsSome (at values.new l)) }

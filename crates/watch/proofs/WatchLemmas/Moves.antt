@@ -197,10 +197,10 @@ module _ (live : FinMap nat_cmp Clause) (slot : ℕ) (c d : Clause) (here : maps
 
   -- the lists are as they should
   pub listed_reordered : (lists : Literal → List Watcher) → IsListed (maps.get live) lists → IsListed (maps.get (maps.insert live slot d)) lists
-  listed_reordered lists listed = listed_moved live slot c d here alike as_long 0 0 same_entries lists lists listed (λ x s. refl) (λ x s e same. omega arith)
+  listed_reordered lists listed = listed_moved _ _ _ _ here alike as_long 0 0 same_entries _ _ listed (λ x s. refl) (λ x s e same. omega arith)
 
   pub propagates_reordered : (held : AssumptionsState) (reason_of : Literal → Option ℕ) → PropagatesTo live (maps.insert live slot d) held held reason_of reason_of
-  propagates_reordered held reason_of = propagates_exchanged live slot c d here alike as_long 0 0 same_entries held reason_of (λ x _ there. sym (same_watches x) ∙ there)
+  propagates_reordered held reason_of = propagates_exchanged _ _ _ _ here alike as_long 0 0 same_entries _ _ (λ x _ there. sym (same_watches x) ∙ there)
 
 -- ---- The second literal, which is false, is exchanged with a later one, which isn't
 
@@ -271,10 +271,10 @@ module _ {live : FinMap nat_cmp Clause} {slot : ℕ} {l : Literal} {x : Exchange
   }
 
   pub turned_listed : (lists : Literal → List Watcher) → IsListed (maps.get live) lists → IsListed (maps.get turned_live) lists
-  turned_listed = listed_reordered live slot w.clause turned_clause w.at (turned_has w.exchange) (turned_as_long w.exchange) (turned_first w.exchange)
+  turned_listed = listed_reordered _ _ _ _ w.at (turned_has w.exchange) (turned_as_long w.exchange) (turned_first w.exchange)
 
   pub turned_propagates : (held : AssumptionsState) (reason_of : Literal → Option ℕ) → PropagatesTo live turned_live held held reason_of reason_of
-  turned_propagates = propagates_reordered live slot w.clause turned_clause w.at (turned_has w.exchange) (turned_as_long w.exchange) (turned_first w.exchange)
+  turned_propagates = propagates_reordered _ _ _ _ w.at (turned_has w.exchange) (turned_as_long w.exchange) (turned_first w.exchange)
 
   -- the clause after both
   abbrev pub exchanged : Clause

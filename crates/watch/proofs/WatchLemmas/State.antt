@@ -33,7 +33,7 @@ use Rattle.std.proofs.Common.{IfOk, IsSome, List, None, Option, Result, Some, []
 use Rattle.std.proofs.Common.{drop, eqb, false, filter, is_err, is_some, length, nat_cmp}
 use Rattle.std.proofs.Common.{nat_le, refl, slice_index, sym, take, true, ℕ, ◌&&◌, ◌+◌, ◌<◌, ◌||◌}
 use Rattle.std.proofs.{Common.◌∙◌, Common.◌∷◌, Common.◌≡◌, Common.◌≤◌, lemmas.Bool.false≢true}
-use Rattle.{std.proofs.lemmas.Option.none-some, std.specs.FinMap.FinMap, tables.specs.Filled.at}
+use Rattle.{std.proofs.lemmas.Option.none-some, std.specs.FinMap.FinMap, tables.specs.ByKey.at}
 use Rattle.theory.specs.Propagation.{Live}
 use Rattle.{theory.specs.Sets.SameSet, trail.proofs.TrailLemmas.Longer.has_begun}
 use Rattle.trail.specs.Trail.{HasRoom, HasRoomForAll}
@@ -61,11 +61,12 @@ watched_shown = grind (arith, sum_ordered, is_counted, size-in_order, tautology-
 pub units_shown : (live : FinMap nat_cmp Clause) → unit_or_empty_clauses (each_in_order live) ≡ unit_or_empty_clauses live
 units_shown = grind (arith, sum_ordered, size-in_order)
 
-pub watched_alike : (before after : FinMap nat_cmp Clause) → each_in_order after ≡ each_in_order before → watched_clauses after ≡ watched_clauses before
-watched_alike before after same = sym (watched_shown after) ∙ ap watched_clauses same ∙ watched_shown before
+module _ (before after : FinMap nat_cmp Clause) (same : each_in_order after ≡ each_in_order before) where
+  watched_alike : watched_clauses after ≡ watched_clauses before
+  watched_alike = cc (watched_shown after, watched_shown before)
 
-pub units_alike : (before after : FinMap nat_cmp Clause) → each_in_order after ≡ each_in_order before → unit_or_empty_clauses after ≡ unit_or_empty_clauses before
-units_alike before after same = sym (units_shown after) ∙ ap unit_or_empty_clauses same ∙ units_shown before
+  units_alike : unit_or_empty_clauses after ≡ unit_or_empty_clauses before
+  units_alike = cc (units_shown after, units_shown before)
 
 -- ---- The lists as clauses come and go, and before they are made
 
@@ -114,12 +115,12 @@ module _ (live live2 : FinMap nat_cmp Clause) (lists lists2 : WatchLists) (units
   begins_found = grind (arith, begins_on, longer_from)
 
   below : AreWatched (maps.get live2) before.trail.lits before.assumptions before.starts
-  below = are_kept live live2 after found (at roots.reasons) (at roots2.reasons) carried before.trail.lits (λ l h. grind (arith, has_begun)) before.assumptions before.starts watch.watched
+  below = are_kept _ _ _ _ _ _ carried _ (λ l h. grind (arith, has_begun)) _ _ watch.watched
 
   roots_below : IsKept live2 roots2 (roots_in before.trail.lits before.assumptions before.starts)
   roots_below =
-      kept_carried live live2 after found (at roots.reasons) (at roots2.reasons) carried roots roots2 (roots_in before.trail.lits before.assumptions before.starts) as_known (ap (λ r. r.history) as_before) (ap (λ r. r.uses) as_before) (λ l. refl) (λ l. refl)
-      (grind (arith, has_begun, roots_part)) watch.kept
+      kept_carried _ _ _ _ _ _ carried _ _ _ as_known (ap (λ r. r.history) as_before) (ap (λ r. r.uses) as_before)
+      (λ l. refl) (λ l. refl) (grind (arith, has_begun, roots_part)) watch.kept
 
   watch_with : (last : AssumptionsState) → SameSet last.trail.reserved before.trail.reserved → IsHeld (each_in_order live) (AreForced (maps.get (each_in_order live))) last → AreWatched (maps.get live2) last.trail.lits last.assumptions last.starts →
       IsKept live2 roots2 (roots_in last.trail.lits last.assumptions last.starts) → IsStanding roots2.kept last.assumptions → IsWatch false live2 lists2 units roots2 last
@@ -223,7 +224,7 @@ module _ (loading : Bool) (live after : FinMap nat_cmp Clause) (lists lists2 : W
   watch_added free is low times fewer unit_times entries longer =
       let more_units = ap unit_or_empty_clauses is ∙ sum_insert (λ c. cond (nat_le 2 (size c)) 0 1) live slot c free in
       let weight_unit = unit_weight c different in let was_unit = watch.one_each in
-      watch_alone loading after lists2 short2 roots2 held2 nothing room (grind (arith, lists_added))
+      watch_alone _ _ _ _ _ _ nothing room (grind (arith, lists_added))
       (record { listed = λ s. unit_times s ∙ added live after slot c free is unit_for refl (is_unit_or_empty c) refl s (times_in s units) (watch.rest.listed s) })
       (omega (arith, more_units, weight_unit, was_unit, longer)) kept noted
 
@@ -234,7 +235,7 @@ module _ (loading : Bool) (live after : FinMap nat_cmp Clause) (lists lists2 : W
       let fewer_units = sum_remove (λ c. cond (nat_le 2 (size c)) 0 1) live slot c there in
       let as_map_unit = ap unit_or_empty_clauses is in let weight_unit = unit_weight c different in
       let was_unit = watch.one_each in
-      watch_alone loading after lists2 short2 roots2 held2 nothing room (grind (arith, lists_removed))
+      watch_alone _ _ _ _ _ _ nothing room (grind (arith, lists_removed))
       (record { listed = λ s. removed live after slot c there is unit_for refl (is_unit_or_empty c) refl s (times_in s short2) (unit_times s ∙ watch.rest.listed s) })
       (grind arith) kept noted
 

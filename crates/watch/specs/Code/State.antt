@@ -6,7 +6,7 @@ use Rattle.std.specs.Ordering.{nat_cmp}
 use Rattle.std.specs.Prelude.{ℕ, List, Bool, true, false, Option, refl, ◌≡◌, ◌<◌, length, IsTrue}
 use Rattle.std.specs.Prelude.{IsSome}
 use Rattle.cnf_base.specs.Literals.{size, Clause, Literal, has, variable}
-use Rattle.tables.specs.Filled.{at}
+use Rattle.tables.specs.ByKey.{at}
 use Rattle.propagation.specs.Assumptions.{Propagation, AssumptionsState, roots_in}
 use Rattle.propagation.specs.Code.Coding.{propagation_code}
 use Rattle.propagation.specs.Code.Scan.{IsHeld}
@@ -38,7 +38,7 @@ watch_code =
       (s.propagation, s.slots),
       (
         ((s.entries, s.unit_entries), (s.trues, s.variables)),
-        (s.roots, (s.is_loading, (s.is_up_to_date, s.has_clash))),
+        (s.roots, (s.is_loading, (s.is_up_to_date, s.has_conflict))),
       ),
     ))
     (λ p. record {
@@ -51,7 +51,7 @@ watch_code =
       roots = p.1.1.0;
       is_loading = p.1.1.1.0;
       is_up_to_date = p.1.1.1.1.0;
-      has_clash = p.1.1.1.1.1;
+      has_conflict = p.1.1.1.1.1;
     })
     (λ _. refl)
 

@@ -16,7 +16,7 @@ use Rattle.root_literals.specs.Watched.{IsMet}
 use Rattle.root_literals.specs.Code.Propagated.{AreFalse, CanSet, IsUnit, PropagatesTo}
 use Rattle.watch_lists.specs.declared.lists.WatchLists.{WatchLists}
 use Rattle.watch.specs.declared.visit.Exchange.{Exchange}
-use Rattle.watch.specs.declared.visit.Visit.TheVariants.{Stays, Moves, Unit, Clash}
+use Rattle.watch.specs.declared.visit.Visit.TheVariants.{Stays, Moves, Unit, Conflict}
 use Rattle.watch.specs.declared.visit.Visit.{Visit}
 use Rattle.watch.specs.declared.follow.Found.{Found}
 use Rattle.watch.specs.declared.follow.Found.TheVariants as found
@@ -56,7 +56,7 @@ abbrev pub IsVisit : List Literal → Clause → Literal → Visit → Type 0
 IsVisit trues c l (Stays other) = IsTrue (has c other) × IsTrue (has trues other)
 IsVisit trues c l (Moves x) = IsExchange c l x × IsFalse (has trues (complement x.next))
 IsVisit trues c l (Unit m) = IsUnit trues c m
-IsVisit trues c l Clash = AreFalse trues c
+IsVisit trues c l Conflict = AreFalse trues c
 
 -- ---- All lists
 
@@ -130,7 +130,7 @@ IsNextSlot cursor slot =
 -- what was found of a clause: its only literal that isn't false, or that there is none
 abbrev pub IsFound : List Literal → Clause → Found → Type 0
 IsFound trues c (found.Unit m) = IsUnit trues c m
-IsFound trues c found.Clash = AreFalse trues c
+IsFound trues c found.Conflict = AreFalse trues c
 
 -- it was found of the clause of the next entry, which is this
 pub record IsFoundNext (live : FinMap nat_cmp Clause) (cursor : CursorState) (trues : List Literal)

@@ -62,14 +62,14 @@ impl Watch {
 
     /// Whether propagation with nothing assumed is known to be a clash.
     pub fn has_root_clash(&self) -> bool
-        ensures value { result ≡ self.now.has_clash }
+        ensures value { result ≡ self.now.has_conflict }
         ensures clash { result ≡ true → Clash (maps.get self.now.propagation.live) [] }
         ensures quiet { self.now.is_up_to_date ≡ true → result ≡ false →
             ¬ Clash (maps.get self.now.propagation.live) [] }
     {
         self.store.recall_invariant();
         let _different = self.assumptions.trail().len();
-        self.roots.has_clash()
+        self.roots.has_conflict()
     }
 
     /// The literals that are kept as true with nothing assumed. Where that is up to date and no
@@ -78,7 +78,7 @@ impl Watch {
         ensures value { result.now ≡ self.now.roots }
         ensures sound { (l : Literal) → IsTrue (has result.now l) →
             Forced (maps.get self.now.propagation.live) [] l }
-        ensures all { self.now.is_up_to_date ≡ true → self.now.has_clash ≡ false →
+        ensures all { self.now.is_up_to_date ≡ true → self.now.has_conflict ≡ false →
             (l : Literal) →
             Forced (maps.get self.now.propagation.live) [] l → IsTrue (has result.now l) }
     {

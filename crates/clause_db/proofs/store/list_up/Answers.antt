@@ -2,19 +2,19 @@ use Rattle.std.proofs.Common.{◌≡◌, ℕ, Option, Some, None, is_some, refl,
 use Rattle.std.specs.FinMap as maps
 use Rattle.std.specs.FinMap.{FinMap}
 use Rattle.cnf_base.{specs.Literals.Clause, proofs.MapLemmas.insert_here}
-use Rattle.tables.specs.declared.filled.Filled.{Filled}
+use Rattle.tables.specs.declared.by_key.ByKey.{ByKey}
 use Rattle.clause_db.{specs.Code.Counts.AreCounted, proofs.StoreLemmas.Kept.insert_undone}
 use Rattle.clause_db.proofs.store.list_up.Goals as goal
 
 -- ---- Counts that are taken back
 
-module _ (slot : ℕ) (lits : Clause) (old with : Option (Filled ℕ))
+module _ (slot : ℕ) (lits : Clause) (old with : Option (ByKey ℕ))
     (counted : (live : FinMap nat_cmp Clause) (s : ℕ) → AreCounted old live → maps.get live s ≡ None → AreCounted with (maps.insert live s lits)) where
   counted_there : (live : FinMap nat_cmp Clause) → AreCounted old live → maps.get live slot ≡ None →
       (m : FinMap nat_cmp Clause) × (s : ℕ) × AreCounted with m × (maps.get m s ≡ Some lits)
   counted_there live are free = (maps.insert live slot lits, slot, counted live slot are free, insert_here live slot slot lits refl)
 
-  taken_back : (after : Option (Filled ℕ))
+  taken_back : (after : Option (ByKey ℕ))
       → ((live : FinMap nat_cmp Clause) (s : ℕ) → AreCounted with live → maps.get live s ≡ Some lits
       → AreCounted after (maps.remove live s)) → (live : FinMap nat_cmp Clause)
       → AreCounted old live → maps.get live slot ≡ None → AreCounted after live

@@ -6,8 +6,7 @@ pub bounds-links-at : goal.bounds-links-at
 bounds-links-at c = grind (arith, at_in)
 
 pub returns-then-next-slot-clause-some : goal.returns-then-next-slot-clause-some
-returns-then-next-slot-clause-some c chain linked apart there =
-    (at_in c.args.links.now chain c.args.slot c.loop-step._step c.loop-step.at (c.loop-step.invariant.left chain linked apart there), c.if-next-slot.true)
+returns-then-next-slot-clause-some c chain linked apart there = grind (arith, at_in)
 
 pub loop-step-preserved : goal.loop-step-preserved
 loop-step-preserved c = grind (arith, steps_on)

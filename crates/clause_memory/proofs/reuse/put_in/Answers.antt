@@ -1,5 +1,5 @@
 use Rattle.std.proofs.Common.{arith, rules}
-use Rattle.tables.specs.Table.{at}
+use Rattle.tables.specs.ByKey.{at}
 use Rattle.clause_memory.proofs.{BlockLemmas.block_is, CellLemmas.block_inside}
 use Rattle.clause_memory.proofs.MemoryLemmas.{IsPutIn, first_block, first_low, link_fits, was_none}
 use Rattle.clause_memory.proofs.MemoryLemmas.{put_in_blocks, put_in_clauses, put_in_memory}
@@ -28,7 +28,7 @@ pub returns-clause-memory : goal.returns-clause-memory
 returns-clause-memory c = put_in_memory (put (goal.at.returns-clause-memory c).After-write_clause)
 
 pub returns-clause-free : goal.returns-clause-free
-returns-clause-free c = was_none (put (goal.at.returns-clause-free c).After-write_clause)
+returns-clause-free c = grind (arith, was_none, put)
 
 pub returns-clause-block : goal.returns-clause-block
 returns-clause-block c = search (rules, block_is, first_block)

@@ -1,5 +1,5 @@
 use Rattle.std.proofs.Common.{arith}
-use Rattle.tables.specs.Table.{at}
+use Rattle.tables.specs.ByKey.{at}
 use Rattle.clause_memory.proofs.MemoryLemmas.{IsTakenOut, taken_out_blocks, taken_out_clauses}
 use Rattle.clause_memory.proofs.MemoryLemmas.{taken_out_memory}
 use Rattle.clause_memory.proofs.CellLemmas.{wiped_before, wiped_behind, wiped_inside, wiped_len}

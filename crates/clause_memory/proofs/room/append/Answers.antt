@@ -1,16 +1,16 @@
 use Rattle.std.proofs.Common.{◌≡◌, ◌-◌, length, arith, rules}
-use Rattle.tables.specs.Table.{at}
-use Rattle.clause_memory.specs.{Blocks.cells_for, Code.Cells.blocks_in, Code.Cells.clauses_in}
+use Rattle.tables.specs.ByKey.{at}
+use Rattle.clause_memory.specs.{Blocks.cells_for}
 use Rattle.clause_memory.proofs.BlockLemmas.{block_past}
 use Rattle.clause_memory.proofs.CountLemmas.{none_left, one_more_block}
 use Rattle.clause_memory.proofs.RoomLemmas.{IsAppended, appended_block, appended_clauses}
 use Rattle.clause_memory.proofs.RoomLemmas.{appended_free, appended_memory, appended_other_blocks}
-use Rattle.clause_memory.proofs.RoomLemmas.{none_free, now_kinds, now_words}
+use Rattle.clause_memory.proofs.RoomLemmas.{memory_widened, none_free, now_kinds, now_words}
 use Rattle.clause_memory.proofs.room.append.Goals as goal
 use Rattle.clause_memory.proofs.room.append.Goals.{After-append_clause}
 
 appended : (c : After-append_clause) → IsAppended c.args.kinds.now.items c.args.words.now.items (at c.reserve.new.self) c.args.lits.now (cells_for (length c.args.lits.now) - 1)
-appended c = grind arith
+appended c = grind (arith, memory_widened)
 
 kinds_are : (c : After-append_clause) → c.append_kinds.new.kinds.items ≡ now_kinds (appended c)
 kinds_are c = grind arith
@@ -19,7 +19,7 @@ words_are : (c : After-append_clause) → c.append_clause.new.words.items ≡ no
 words_are c = grind arith
 
 pub returns-clause-memory : goal.returns-clause-memory
-returns-clause-memory c = search (rules, kinds_are, appended, words_are, appended_memory)
+returns-clause-memory c = search (rules, arith, appended_memory, appended, kinds_are, words_are)
 
 pub returns-clause-free : goal.returns-clause-free
 returns-clause-free c =
@@ -43,7 +43,5 @@ returns-clause-other_blocks c s ne =
 
 pub returns-clause-few_blocks : goal.returns-clause-few_blocks
 returns-clause-few_blocks c =
-    let a = (goal.at.returns-clause-few_blocks c).After-append_clause in
-    let ks = c.args.kinds.now.items in
-    one_more_block (blocks_in ks) _ (clauses_in ks c.args.words.now.items) (length ks) _ (grind
-    (arith, none_left, none_free)) (block_past ks) (grind (arith, appended_block (appended a))) (grind (arith, appended_other_blocks (appended a)))
+    let a = appended (goal.at.returns-clause-few_blocks c).After-append_clause in
+    one_more_block _ _ _ _ _ (grind (arith, none_left, none_free)) (block_past _) (grind (arith, appended_block a)) (grind (arith, appended_other_blocks a))

@@ -39,15 +39,7 @@ formula_found c read = grind (arith, first_value-rows, codes)
 -- the second one
 second_found : (c : After-is_any_empty) → Found c → option_map string_bytes c.match-get_str-2.second
     ≡ slice_get (names c.args.tool (said_by c.args.words.now)) 1
-second_found c read =
-    grind (
-      arith,
-      in-Some-get_str+in_ok-to_string-in-Some-get_str,
-      string_bytes,
-      in-None,
-      first_value-rows,
-      codes,
-    )
+second_found c read = grind (arith, first_value-rows)
 
 -- both, where the words are accepted
 named_in : (c : After-is_any_empty) → Accepts c.args.tool (said_by c.args.words.now) →
@@ -105,11 +97,8 @@ returns-clause-hyphens c free =
     c.in-Ok.ensures.kinds free
 
 pub returns-then-is_any_empty-clause-accepts : goal.returns-then-is_any_empty-clause-accepts
-returns-then-is_any_empty-clause-accepts c accepts =
-    let named = named_in (goal.at.returns-then-is_any_empty-clause-accepts c).After-is_any_empty in
-    grind (arith, names_full, true≢false)
+returns-then-is_any_empty-clause-accepts c accepts = grind (arith, named_in, names_full, true≢false)
 
 pub returns-then-is_read_twice-clause-accepts : goal.returns-then-is_read_twice-clause-accepts
 returns-then-is_read_twice-clause-accepts c accepts =
-    let named = named_in (goal.at.returns-then-is_read_twice-clause-accepts c).After-is_any_empty in
-    grind (arith, names_apart, true≢false)
+    grind (arith, named_in, names_apart, true≢false)

@@ -12,23 +12,33 @@ loop-place-init g c = rw c.new-said.ensures (Hears-start _ nothing)
 
 pub loop-place-preserved-in_default : goal.loop-place-preserved-in_default
 loop-place-preserved-in_default g c =
-    Hears-word _ _ _ _ _ c.loop-place.invariant c.in-Ok-Word.place c.in-Ok-Word.word (told _ _ _ (Ok (token.Word c.in-Ok-Word.place c.in-Ok-Word.word)) c.next.ensures.tokens (search rules)) c.take_word.new.self c.in_default.ensures (search rules)
+    Hears-word _ _ _ _ _ c.loop-place.invariant c.in-Ok-Word.place c.in-Ok-Word.word
+    (told _ _ _ (Ok (token.Word c.in-Ok-Word.place c.in-Ok-Word.word)) c.next.ensures.tokens
+    (search rules)) c.take_word.new.self c.in_default.ensures (search rules)
 
 pub returns-in-Err-take_word-clause-claim : goal.returns-in-Err-take_word-clause-claim
 returns-in-Err-take_word-clause-claim g c =
-    Hears-bad_word _ _ _ _ _ c.loop-place.invariant c.in-Ok-Word.place c.in-Ok-Word.word (told _ _ _ (Ok (token.Word c.in-Ok-Word.place c.in-Ok-Word.word)) c.next.ensures.tokens (search rules)) c.in-Err-take_word.fault c.take_word.new.self c.in-Err-take_word.ensures
+    Hears-bad_word _ _ _ _ _ c.loop-place.invariant c.in-Ok-Word.place c.in-Ok-Word.word
+    (told _ _ _ (Ok (token.Word c.in-Ok-Word.place c.in-Ok-Word.word)) c.next.ensures.tokens
+    (search rules)) c.in-Err-take_word.fault c.take_word.new.self c.in-Err-take_word.ensures
 
 pub loop-place-preserved : goal.loop-place-preserved
 loop-place-preserved g c =
-    Hears-line _ _ _ _ _ c.loop-place.invariant c.in-Ok-LineEnd.place (told _ _ _ (Ok (token.LineEnd c.in-Ok-LineEnd.place)) c.next.ensures.tokens (search rules)) c.end_line.new.self c.in_default-end_line.ensures (search rules)
+    Hears-line _ _ _ _ _ c.loop-place.invariant c.in-Ok-LineEnd.place
+    (told _ _ _ (Ok (token.LineEnd c.in-Ok-LineEnd.place)) c.next.ensures.tokens (search rules))
+    c.end_line.new.self c.in_default-end_line.ensures (search rules)
 
 pub returns-in-Err-end_line-clause-claim : goal.returns-in-Err-end_line-clause-claim
 returns-in-Err-end_line-clause-claim g c =
-    Hears-bad_line _ _ _ _ _ c.loop-place.invariant c.in-Ok-LineEnd.place (told _ _ _ (Ok (token.LineEnd c.in-Ok-LineEnd.place)) c.next.ensures.tokens (search rules)) c.in-Err-end_line.fault c.end_line.new.self c.in-Err-end_line.ensures
+    Hears-bad_line _ _ _ _ _ c.loop-place.invariant c.in-Ok-LineEnd.place
+    (told _ _ _ (Ok (token.LineEnd c.in-Ok-LineEnd.place)) c.next.ensures.tokens (search rules))
+    c.in-Err-end_line.fault c.end_line.new.self c.in-Err-end_line.ensures
 
 pub returns-in-Ok-End-clause-claim : goal.returns-in-Ok-End-clause-claim
 returns-in-Ok-End-clause-claim g c =
-    Hears-end _ _ _ _ _ c.loop-place.invariant c.in-Ok-End.place c.conclude.result (told _ _ _ (Ok (token.End c.in-Ok-End.place)) c.next.ensures.tokens (search rules)) c.conclude.ensures.claim
+    Hears-end _ _ _ _ _ c.loop-place.invariant c.in-Ok-End.place c.conclude.result
+    (told _ _ _ (Ok (token.End c.in-Ok-End.place)) c.next.ensures.tokens (search rules))
+    c.conclude.ensures.claim
 
 pub returns-in-Err-clause-claim : goal.returns-in-Err-clause-claim
 returns-in-Err-clause-claim g c =

@@ -8,10 +8,13 @@ use Rattle.dimacs.proofs.header.read_cnf.Goals as goal
 pub returns-in_err-place-clause-text : goal.returns-in_err-place-clause-text
 returns-in_err-place-clause-text g c =
     let refused : c.from_residual.result ≡ Err c.in_err-place.field-0.0 = search rules in
-    rw refused (Part-map _ _ (λ l. l) next_word (λ l. Err c.in_err-place.field-0.0) (fixed_word is_cnf) _ c.in_err-place.ensures.text (λ l. refl))
+    rw refused (Part-map _ _ (λ l. l) next_word (λ l. Err c.in_err-place.field-0.0)
+    (fixed_word is_cnf) _ c.in_err-place.ensures.text (λ l. refl))
 
 pub returns-clause-text : goal.returns-clause-text
 returns-clause-text g c =
     let place = c.in_ok-place.place in let word = c.in_ok-place.word in
-    let is : c.wanted.result ≡ cond (is_cnf word) (Ok tt) (Err (Text BadHeader place)) = search rules in
-    rw is (Part-map _ _ (λ l. l) next_word (λ l. Ok (place, word, l)) (fixed_word is_cnf) _ c.in_ok-place.ensures.text (fixed_told (is_cnf word) place))
+    let is : c.wanted.result
+    ≡ cond (is_cnf word) (Ok tt) (Err (Text BadHeader place)) = search rules in
+    rw is (Part-map _ _ (λ l. l) next_word (λ l. Ok (place, word, l)) (fixed_word is_cnf) _
+    c.in_ok-place.ensures.text (fixed_told (is_cnf word) place))

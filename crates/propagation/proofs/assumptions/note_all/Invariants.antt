@@ -1,6 +1,6 @@
 use Rattle.std.proofs.Common.{◌≡◌, ℕ, is_some}
 use Rattle.trail.specs.Numbers.{number_at}
-use Rattle.tables.specs.Filled.{at}
+use Rattle.tables.specs.ByKey.{at}
 use Rattle.propagation.proofs.PropagationLemmas.Levels.{NotesTo}
 use Rattle.propagation.proofs.assumptions.note_all.Given as goal
 

@@ -1,7 +1,7 @@
 use Rattle.std.proofs.Common.{◌≡◌, ℕ, ◌/◌, true, take, IsSome}
 use Rattle.cnf_base.specs.Literals.{Literal, has}
 use Rattle.trail.specs.Numbers.{number_at}
-use Rattle.tables.specs.Filled.{at}
+use Rattle.tables.specs.ByKey.{at}
 use Rattle.propagation.proofs.assumptions.reserve_variables.Given as goal
 
 abbrev pub invariant-loop-l : goal.invariant-loop-l

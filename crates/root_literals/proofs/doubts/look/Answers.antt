@@ -1,7 +1,7 @@
 use Rattle.std.proofs.Common.{Some, ap, arith, rules, sym, ◌∙◌, ◌≡◌}
 use Rattle.root_literals.proofs.RootLemmas.Carried.{propagates_unit, room_for}
 use Rattle.root_literals.proofs.RootLemmas.Watched.{left_unit, set_by}
-use Rattle.{cnf_base.specs.Literals.complement, cnf_base.specs.Literals.has, tables.specs.Filled.at}
+use Rattle.{cnf_base.specs.Literals.complement, cnf_base.specs.Literals.has, tables.specs.ByKey.at}
 use Rattle.std.specs.FinMap as maps
 use Rattle.root_literals.proofs.doubts.look.Goals as goal
 

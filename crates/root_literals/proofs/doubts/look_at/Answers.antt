@@ -13,8 +13,8 @@ loop-place-preserved c = let so_far = c.loop-place.invariant in record {
   propagates = search (rules, propagates_on);
 }
 
-pub returns-in-Clash-clause-propagates : goal.returns-in-Clash-clause-propagates
-returns-in-Clash-clause-propagates c = search (rules, propagates_on)
+pub returns-in-Conflict-clause-propagates : goal.returns-in-Conflict-clause-propagates
+returns-in-Conflict-clause-propagates c = search (rules, propagates_on)
 
 pub returns-in-Open-clause-propagates : goal.returns-in-Open-clause-propagates
 returns-in-Open-clause-propagates c = search (rules, propagates_on)

@@ -1,5 +1,5 @@
 use Rattle.root_literals.specs.Code.{Doubts.AreSettled, Propagated.PropagatesTo}
-use Rattle.{std.proofs.Common.take, tables.specs.Filled.at}
+use Rattle.{std.proofs.Common.take, tables.specs.ByKey.at}
 use Rattle.std.specs.FinMap as maps
 use Rattle.root_literals.proofs.doubts.look_at.Given as goal
 

@@ -1,5 +1,5 @@
 use Rattle.std.proofs.Common.{Some, take, true, ◌≡◌, ◌≢◌}
-use Rattle.{cnf_base.specs.Literals.Literal, cnf_base.specs.Literals.has, tables.specs.Filled.at}
+use Rattle.{cnf_base.specs.Literals.Literal, cnf_base.specs.Literals.has, tables.specs.ByKey.at}
 use Rattle.root_literals.proofs.made_true.made_true_by.Given as goal
 
 abbrev pub invariant-loop-l : goal.invariant-loop-l

@@ -27,5 +27,5 @@ returns-clause-no c is_none clause at = let live = c.args.store.now.live in
     ap (λ t. has t.lits l) c.trail-trail.ensures
     ∙ ap (λ ls. has ls l) (sym alone)
     ∙ all_forced live c.args.roots.now held.trail.lits held.assumptions held.starts c.recall_invariant.ensures.different apart
-    (simp alone c.requires.kept) c.requires.up_to_date (sym c.has_clash.ensures ∙ c.if-has_clash.false) l (forced_shown live l forced))
+    (simp alone c.requires.kept) c.requires.up_to_date (sym c.has_conflict.ensures ∙ c.if-has_conflict.false) l (forced_shown live l forced))
     (sym (c.is_one_at_most.ensures ∙ ap (λ left. is_one_at_most left kept) c.left.ensures) ∙ is_none))

@@ -1,5 +1,5 @@
 use Rattle.std.proofs.Common.{ap, arith, rules}
-use Rattle.root_literals.specs.Roots.{has_clash}
+use Rattle.root_literals.specs.Roots.{has_conflict}
 use Rattle.root_literals.proofs.RootLemmas.Carried.{kept_settled, settled_all}
 use Rattle.root_literals.proofs.starting.settle.Goals as goal
 
@@ -8,7 +8,7 @@ returns-in-Settled-clause-kept c = search (rules, kept_settled)
 
 pub returns-in-Settled-clause-sure : goal.returns-in-Settled-clause-sure
 returns-in-Settled-clause-sure c =
-    settled_all _ _ _ c.args.roots.now (record c.args.roots.now { reasons = c.look_at.new.reasons }) c.look_at.ensures.propagates c.requires.kept (ap has_clash c.requires.cut) (grind arith)
+    settled_all _ _ _ c.args.roots.now (record c.args.roots.now { reasons = c.look_at.new.reasons }) c.look_at.ensures.propagates c.requires.kept (ap has_conflict c.requires.cut) (grind arith)
 
-pub returns-in-Clash-clause-kept : goal.returns-in-Clash-clause-kept
-returns-in-Clash-clause-kept c = search (rules, kept_settled)
+pub returns-in-Conflict-clause-kept : goal.returns-in-Conflict-clause-kept
+returns-in-Conflict-clause-kept c = search (rules, kept_settled)

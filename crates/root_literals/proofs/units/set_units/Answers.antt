@@ -1,6 +1,6 @@
 use Rattle.std.proofs.Common.{[], ap, arith, rules, sym, ◌∙◌}
 use Rattle.root_literals.proofs.RootLemmas.Carried.{can_set_on, clashes, propagates_on, room_for}
-use Rattle.{tables.specs.Filled.at, trail.proofs.TrailLemmas.Longer.has_begun}
+use Rattle.{tables.specs.ByKey.at, trail.proofs.TrailLemmas.Longer.has_begun}
 use Rattle.cnf_base.{proofs.SetLemmas.has_head, specs.Literals.has}
 use Rattle.root_literals.proofs.RootLemmas.Watched.{only_literal, set_by, units_alive, units_more}
 use Rattle.root_literals.proofs.RootLemmas.{Carried.propagates_unit, Watched.all_units}
@@ -27,8 +27,8 @@ loop-place-preserved c = let live = c.args.store.now.live in let d = c.clause-cl
 pub clause-clause-requires : goal.clause-clause-requires
 clause-clause-requires c = grind (arith, units_alive _ _ c.requires.listed _ c.loop-place-test.true)
 
-pub returns-then-is_false-clause-clash : goal.returns-then-is_false-clause-clash
-returns-then-is_false-clause-clash c = search (rules, clashes, only_literal)
+pub returns-then-is_false-clause-conflict : goal.returns-then-is_false-clause-conflict
+returns-then-is_false-clause-conflict c = search (rules, clashes, only_literal)
 
 pub returns-clause-units : goal.returns-clause-units
 returns-clause-units c = search (rules, all_units)

@@ -1,5 +1,5 @@
 use Rattle.std.proofs.Common.{Some, take, true, ℕ, ◌≡◌}
-use Rattle.{cnf_base.specs.Literals.Clause, cnf_base.specs.Literals.has, tables.specs.Filled.at}
+use Rattle.{cnf_base.specs.Literals.Clause, cnf_base.specs.Literals.has, tables.specs.ByKey.at}
 use Rattle.root_literals.specs.{Code.Propagated.PropagatesTo, Watched.HasUnit}
 use Rattle.std.specs.FinMap as maps
 use Rattle.root_literals.proofs.units.set_units.Given as goal

@@ -1,6 +1,6 @@
 use Rattle.root_literals.proofs.RootLemmas.Unshared.{unneeded_none, unneeded_unused}
 use Rattle.std.proofs.{Common.arith, Common.inl, Common.inr, lemmas.Bool.cases_lt}
-use Rattle.{std.proofs.lemmas.Grind.get_or_default_zero, tables.specs.Filled.at}
+use Rattle.{std.proofs.lemmas.Grind.get_or_default_zero, tables.specs.ByKey.at}
 use Rattle.root_literals.proofs.unshared.is_needed.Goals as goal
 
 pub returns-then-count_with-eq0-clause-unneeded : goal.returns-then-count_with-eq0-clause-unneeded

@@ -1,4 +1,4 @@
-use Rattle.{cnf_base.specs.Literals.has, std.proofs.Common.unwrap_or, tables.specs.Filled.at}
+use Rattle.{cnf_base.specs.Literals.has, std.proofs.Common.unwrap_or, tables.specs.ByKey.at}
 use Rattle.std.proofs.Common.{cond, take, ℕ, ◌+◌, ◌≤◌}
 use Rattle.root_literals.proofs.uses.release.Given as goal
 

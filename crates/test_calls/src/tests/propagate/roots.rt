@@ -165,8 +165,8 @@ fn contradicted<P: Watching>(alloc: Global) -> Result<(bool, bool), Fail> {
     let mut watch = P::fresh(alloc)?;
     fill(alloc, &mut watch, &[[1, 1], [-1, -1]])?;
     let _ = watch.assume(&[])?;
-    let (is_known, is_clash, _) = watch.known();
-    Ok((is_known, is_clash))
+    let (is_known, is_conflict, _) = watch.known();
+    Ok((is_known, is_conflict))
 }
 
 #[test]

@@ -21,8 +21,8 @@ returns-then-branch-clause-assumed g c = let e = c.in_ok-assume_from.ensures in 
   stays = tt;
 }
 
-pub returns-then-has_clash-clause-assumed : goal.returns-then-has_clash-clause-assumed
-returns-then-has_clash-clause-assumed g c = let live = c.args.store.now.live in
+pub returns-then-has_conflict-clause-assumed : goal.returns-then-has_conflict-clause-assumed
+returns-then-has_conflict-clause-assumed g c = let live = c.args.store.now.live in
     let kept = c.requires.watch.kept in record {
       answer = clash_through (maps.get (each_in_order live)) [] _ (λ a h. absurd (false≢true h)) (kept_clash _ _ _ (grind arith) (kept_forced _ _ _ kept) kept.known);
       stands = grind arith;
@@ -44,7 +44,7 @@ returns-in-Ok g c = let live = c.args.store.now.live in let shown = each_in_orde
     let begins = begins_on before.trail.lits after.trail.lits found.trail.lits e.begins (grind (arith, longer_from)) extends.begins in record {
       assumed = grind (arith, part_answer);
       watch =
-          watch_answered live c.run.new.store.live c.args.lists.now c.run.new.lists c.args.units.now c.args.roots.now _ before after found c.requires.watch f.propagates refl f.listed f.entries e.begins c.requires.up_to_date last answer all c.answer.ensures.trail stand starts p.watched
+          watch_answered _ _ _ _ _ _ _ _ _ _ c.requires.watch f.propagates refl f.listed f.entries e.begins c.requires.up_to_date last answer all c.answer.ensures.trail stand starts p.watched
           (grind arith)
           (scan_after shown (AreForced (maps.get shown)) (λ ls forced. forced) before after added c.requires.may c.requires.watch.scan last answer all stand starts
           (grind arith) (grind arith)
@@ -59,7 +59,7 @@ returns-in-Err g c = let e = c.in_ok-assume_from.ensures in let f = c.in-Err.ens
     let extends = f.propagates.extends in let u = c.undo.ensures in record {
       assumed = grind arith;
       watch =
-          watch_undone c.args.store.now.live c.run.new.store.live c.args.lists.now c.run.new.lists c.args.units.now c.args.roots.now _ c.args.assumptions.now c.assume_from.new.assumptions c.run.new.assumptions c.requires.watch f.propagates refl f.listed f.entries e.begins
+          watch_undone _ _ _ _ _ _ _ _ _ _ c.requires.watch f.propagates refl f.listed f.entries e.begins
           c.undo.new.self _ (extends.assumptions ∙ e.assumed.1) (extends.starts ∙ e.starts) u.assumptions u.starts u.lits (grind arith);
       same = f.propagates.same;
       slots = c.run.ensures.slots;

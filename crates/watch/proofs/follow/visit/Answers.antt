@@ -80,11 +80,11 @@ returns-in-Stays g c = let live = maps.get c.args.store.now.live in
 pub returns-in-Unit-clause-visited : goal.returns-in-Unit-clause-visited
 returns-in-Unit-clause-visited g c held reason_of _ = visited_none _ _ c.requires.can.hand
 
-pub returns-in-Clash-clause-visited : goal.returns-in-Clash-clause-visited
-returns-in-Clash-clause-visited g c held reason_of _ = visited_none _ _ c.requires.can.hand
+pub returns-in-Conflict-clause-visited : goal.returns-in-Conflict-clause-visited
+returns-in-Conflict-clause-visited g c held reason_of _ = visited_none _ _ c.requires.can.hand
 
 pub returns-in-Unit-clause-found : goal.returns-in-Unit-clause-found
 returns-in-Unit-clause-found g c = found_at c.requires.next c.requires.can.hand c.in-Unit.ensures.visit
 
-pub returns-in-Clash-clause-found : goal.returns-in-Clash-clause-found
-returns-in-Clash-clause-found g c = found_at c.requires.next c.requires.can.hand c.in-Clash.ensures.visit
+pub returns-in-Conflict-clause-found : goal.returns-in-Conflict-clause-found
+returns-in-Conflict-clause-found g c = found_at c.requires.next c.requires.can.hand c.in-Conflict.ensures.visit

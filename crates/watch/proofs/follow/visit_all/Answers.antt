@@ -5,7 +5,7 @@ use Rattle.watch.proofs.WatchLemmas.Visits.{can_visit_on, made_true, visited_on}
 use Rattle.{std.proofs.lemmas.Option.same_Some, watch_lists.proofs.WatchListsLemmas.Lists.entry_at}
 use Rattle.watch.proofs.WatchLemmas.Visits.{found_next, put_same, room_found, visited_none}
 use Rattle.{trail.proofs.TrailLemmas.Longer.has_begun, watch_lists.specs.Lists.entries_in}
-use Rattle.{cnf_base.specs.Literals.has, tables.specs.Filled.at}
+use Rattle.{cnf_base.specs.Literals.has, tables.specs.ByKey.at}
 use Rattle.watch.proofs.follow.visit_all.Goals as goal
 
 pub loop-at-init : goal.loop-at-init
@@ -69,14 +69,14 @@ loop-at-preserved c = let before = c.loop-at in let live = c.next_found.new.stor
       slots = c.next_found.ensures.slots ∙ before.invariant.slots;
     }
 
-pub returns-in-Clash-clause-clash : goal.returns-in-Clash-clause-clash
-returns-in-Clash-clause-clash c = let live = c.next_found.new.store.live in
+pub returns-in-Conflict-clause-conflict : goal.returns-in-Conflict-clause-conflict
+returns-in-Conflict-clause-conflict c = let live = c.next_found.new.store.live in
     let held = c.loop-at.assumptions in
-    let f = found_next c.in_ok-at.ensures.found c.in-Some.is c.in-Clash.is (ap (λ t. t.lits) c.trail.ensures) in
-    simp c.slot-in-Clash.ensures.value (clashes live held _ f.clause f.at f.holds)
+    let f = found_next c.in_ok-at.ensures.found c.in-Some.is c.in-Conflict.is (ap (λ t. t.lits) c.trail.ensures) in
+    simp c.slot-in-Conflict.ensures.value (clashes live held _ f.clause f.at f.holds)
 
-pub returns-in-Clash-clause-visited : goal.returns-in-Clash-clause-visited
-returns-in-Clash-clause-visited c = visited_on c.loop-at.invariant.visited (grind arith)
+pub returns-in-Conflict-clause-visited : goal.returns-in-Conflict-clause-visited
+returns-in-Conflict-clause-visited c = visited_on c.loop-at.invariant.visited (grind arith)
 
 pub returns-clause-visited : goal.returns-clause-visited
 returns-clause-visited c = visited_on c.loop-at.invariant.visited (grind arith)

@@ -1,4 +1,4 @@
-use Rattle.{std.proofs.Common.◌≡◌, tables.specs.Filled.at, watch.specs.Code.Visits.AreMet}
+use Rattle.{std.proofs.Common.◌≡◌, tables.specs.ByKey.at, watch.specs.Code.Visits.AreMet}
 use Rattle.watch.specs.Code.Visits.{Visited, entries_left}
 use Rattle.watch.proofs.follow.visit_all.Given as goal
 

@@ -1,4 +1,4 @@
-use Rattle.std.proofs.Common.{ap, arith, length, refl, take_all, ◌+◌, ◌<◌, ◌≤◌, ◌∙◌}
+use Rattle.std.proofs.Common.{ap, arith, length, refl, take_all, ◌<◌, ◌≤◌, ◌∙◌}
 use Rattle.cnf_base.specs.Literals.{complement, has}
 use Rattle.trail.proofs.TrailLemmas.MakesFalse.{no_conflict}
 use Rattle.watch.proofs.WatchLemmas.Visits.{false_at, fits_on, followed_none, followed_on, read_at}
@@ -47,7 +47,7 @@ loop-done-preserved-in-None c =
     let read = c.neg-l.ensures ∙ ap (λ p. complement p) (read_at trues inside shown c.index-lits-done.is) in
     let is_false = false_at trues inside shown c.index-lits-done.is c.neg-l.ensures in record {
       turn =
-          turn_next e.followed.propagates before.done (before.done + 1) before.waiting c.follow_or_wait.new.waiting c.neg-l.result before.invariant.turn is_false (omega (arith, inside)) e.waiting
+          turn_next e.followed.propagates _ _ _ _ _ before.invariant.turn is_false (omega (arith, inside)) e.waiting
           (front_other trues before.done inside read) (simp c.in-None.is at e.met);
       followed = followed_on before.invariant.followed e.followed;
       slots = c.follow_or_wait.ensures.slots ∙ before.invariant.slots;
@@ -70,7 +70,7 @@ loop-done-preserved c =
     let l = c.in-Some-take.l in
     let e = c.in_ok-slot-2.ensures in record {
       turn =
-          turn_next e.followed.propagates before.done before.done before.waiting c.take.new.self l turn (turn.are_false l c.in-Some-take.ensures.some) turn.inside c.in-Some-take.ensures.others
+          turn_next e.followed.propagates _ _ _ _ _ turn (turn.are_false l c.in-Some-take.ensures.some) turn.inside c.in-Some-take.ensures.others
           (λ k ne h. h) (λ free. simp c.in_default-2.is at e.met);
       followed = followed_on before.invariant.followed e.followed;
       slots = c.follow.ensures.slots ∙ before.invariant.slots;

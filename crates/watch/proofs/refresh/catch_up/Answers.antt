@@ -1,10 +1,9 @@
 use Rattle.root_literals.proofs.RootLemmas.Carried.{begun_again, history_grown, kept_grown}
 use Rattle.root_literals.proofs.RootLemmas.Carried.{units_kept, visited_more}
 use Rattle.root_literals.proofs.RootLemmas.Watched.{history_begun, watched_all}
-use Rattle.root_literals.specs.{History.IsHistory, History.sure_of, History.visits, Roots.has_clash}
+use Rattle.root_literals.specs.{History.IsHistory, History.sure_of, History.visits, Roots.has_conflict}
 use Rattle.std.proofs.Common.{[], ap, arith, length, length-append, refl}
 use Rattle.std.proofs.Common.{sym, take, take_all, true≢false, ℕ, ◌+◌, ◌<◌, ◌∙◌, ◌∷◌, ◌≡◌, ◌≤◌}
-use Rattle.{tables.specs.Filled.at}
 use Rattle.watch.proofs.WatchLemmas.Visits.{fits_on, followed_none, followed_on}
 use Rattle.watch.proofs.{WatchLemmas.Visits.read_at, refresh.catch_up.Goals.In_ok-slot}
 use Rattle.std.specs.FinMap as maps
@@ -15,7 +14,7 @@ loop-done-init c = let kept = c.requires.kept in record {
   count = sym c.len-done.ensures;
   history = kept.history;
   watched =
-      simp c.len-done.ensures (simp c.in-WithUnits.is at (kept.visited (ap has_clash c.in-WithUnits.is)));
+      simp c.len-done.ensures (simp c.in-WithUnits.is at (kept.visited (ap has_conflict c.in-WithUnits.is)));
   begun = simp c.len-done.ensures c.requires.begun;
   followed = followed_none c.requires.can;
   uses = refl;
@@ -65,7 +64,7 @@ loop-done-preserved c =
     let shown = c.lits.ensures.value ∙ ap (λ t. t.lits) c.trail-in-loop-done.ensures in
     let read = read_at x.trail.lits inside shown c.index-lits-done.is in
     let partners = simp c.in-None.is at e.met in
-    let watched = visited_more before.store.live b x y (at before.roots.reasons) (at c.follow.new.reasons) e.followed.propagates before.done inside so_far.watched (λ s d is. simp (c.neg-l.ensures, read) at (partners s d is)) in record {
+    let watched = visited_more _ _ _ _ _ _ e.followed.propagates before.done inside so_far.watched (λ s d is. simp (c.neg-l.ensures, read) at (partners s d is)) in record {
       count = visited.0;
       history = visited.1;
       watched = watched;
@@ -77,12 +76,10 @@ loop-done-preserved c =
 
 pub returns-in-Some-clause-kept : goal.returns-in-Some-clause-kept
 returns-in-Some-clause-kept c =
-    let y = c.follow.new.assumptions in
-    let b = c.follow.new.store.live in
-    let e = c.in_ok-slot.ensures in
+    let e = c.in_ok-slot.ensures in let so_far = c.loop-done.invariant in
     let visited = loop-visited (goal.at.returns-in-Some-clause-kept c).In_ok-slot in
-    kept_grown c.args.store.now.live b c.args.assumptions.now y c.args.roots.now _ (followed_on c.loop-done.invariant.followed e.followed).propagates c.requires.kept
-    (simp c.in-Some.is at e.clash) visited.1 (λ quiet. absurd (true≢false quiet)) c.loop-done.invariant.uses
+    kept_grown _ _ _ _ _ _ (followed_on so_far.followed e.followed).propagates c.requires.kept
+    (simp c.in-Some.is at e.conflict) visited.1 (λ quiet. absurd (true≢false quiet)) so_far.uses
 
 pub returns-in-Some-clause-followed : goal.returns-in-Some-clause-followed
 returns-in-Some-clause-followed c = followed_on c.loop-done.invariant.followed c.follow.ensures.followed

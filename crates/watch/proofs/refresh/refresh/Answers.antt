@@ -2,7 +2,7 @@ use Rattle.root_literals.proofs.RootLemmas.Carried.{begun_from, not_clash}
 use Rattle.root_literals.proofs.RootLemmas.Carried.{noted_carried, nothing_stands, roots_alone}
 use Rattle.root_literals.proofs.RootLemmas.{Kept.kept_nothing, Watched.rewound_none}
 use Rattle.std.proofs.Common.{ap, arith, is_some, length, take, ◌∙◌, ◌≡◌}
-use Rattle.{tables.specs.Filled.at, watch.proofs.WatchLemmas.State.watch_refreshed}
+use Rattle.{tables.specs.ByKey.at, watch.proofs.WatchLemmas.State.watch_refreshed}
 use Rattle.watch.{proofs.WatchLemmas.State.watch_room, specs.Code.State.AddsRoom}
 use Rattle.watch.proofs.refresh.refresh.Goals as goal
 
@@ -25,7 +25,7 @@ returns-in-Err-clause-watch c = let after = c.catch_up.new.store.live in
     let roots = c.catch_up.new.roots in let e = c.catch_up.ensures.followed in
     let p = e.propagates in let u = c.cut.ensures in let fewer = u.fewer in
     let zero : length c.cut.new.assumptions.trail.lits ≡ 0 = omega (arith, fewer) in
-    watch_refreshed c.args.store.now.live after c.args.lists.now c.catch_up.new.lists c.args.units.now c.args.roots.now c.cut.new.self c.args.assumptions.now c.cut.new.assumptions c.requires.watch u.assumptions
+    watch_refreshed _ _ _ _ _ _ _ _ _ c.requires.watch u.assumptions
     (λ v. u.reserved v ∙ p.extends.reserved v ∙ c.start.ensures.reserved v) p.same p.units e.listed e.entries
     (kept_nothing after c.cut.new.self c.cut.new.assumptions.trail.lits
     (simp u.reasons (noted_carried c.args.store.now.live after c.start.new.assumptions c.catch_up.new.assumptions (at c.start.new.roots.reasons) (at roots.reasons) p c.start.ensures.kept.noted)) u.kept (rewound_none (simp zero at u.history)) (u.lits ∙ ap (λ n. take n c.catch_up.new.assumptions.trail.lits) zero)

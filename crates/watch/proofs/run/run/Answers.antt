@@ -1,18 +1,17 @@
 use Rattle.root_literals.proofs.RootLemmas.Carried.{all_closed, all_quiet, clash_from}
 use Rattle.{root_literals.proofs.RootLemmas.Carried.units_kept, std.proofs.Common.arith}
-use Rattle.{tables.specs.Filled.at, trail.proofs.TrailLemmas.Longer.has_begun}
+use Rattle.{trail.proofs.TrailLemmas.Longer.has_begun}
 use Rattle.watch.proofs.run.run.Goals as goal
 
 pub returns-in-Some-clause-answer : goal.returns-in-Some-clause-answer
 returns-in-Some-clause-answer c =
-    clash_from c.args.store.now.live c.propagate.new.store.live c.args.assumptions.now c.propagate.new.assumptions (at c.args.reasons.now) (at c.propagate.new.reasons) c.propagate.ensures.followed.propagates c.in-Some.field-0
-    (grind arith)
+    clash_from _ _ _ _ _ _ c.propagate.ensures.followed.propagates c.in-Some.field-0 (grind arith)
 
 pub returns-in-None : goal.returns-in-None
 returns-in-None c = let held = c.args.assumptions.now in let after = c.propagate.new.store.live in
     let trues = c.propagate.new.assumptions.trail.lits in let f = c.propagate.ensures.followed in
     let e = f.propagates in
-    let units = units_kept c.args.store.now.live after held c.propagate.new.assumptions (at c.args.reasons.now) (at c.propagate.new.reasons) e c.requires.units in
+    let units = units_kept _ _ _ _ _ _ e c.requires.units in
     let watched = simp c.in-None.is at c.in_ok-found.ensures.watched in
     let quiet = simp c.in-None.is at c.in_ok-found.ensures.quiet in
     let different = c.recall_invariant.ensures.different in record {

@@ -3,7 +3,7 @@ use Rattle.std.proofs.{Common.◌∙◌, lemmas.Bool.and_parts}
 use Rattle.{std.proofs.lemmas.Option.same_Some, trail.proofs.TrailLemmas.Truth.false_from_value}
 use Rattle.watch.proofs.WatchLemmas.Visits.{binary_all, binary_others, not_false, other_fits}
 use Rattle.watch.{proofs.WatchLemmas.Visits.room_in, specs.Code.Visits.IsVisit}
-use Rattle.watch.specs.declared.visit.Visit.TheVariants.{Clash, Unit}
+use Rattle.watch.specs.declared.visit.Visit.TheVariants.{Conflict, Unit}
 use Rattle.watch.proofs.visit.look_at.Goals as goal
 
 pub look-requires-clause-room : goal.look-requires-clause-room
@@ -18,7 +18,7 @@ value_of-requires g c = let w = c.requires.entry in let other = c.blocking-other
 pub returns-in-False-clause-visit : goal.returns-in-False-clause-visit
 returns-in-False-clause-visit g c clause there = let w = c.requires.entry in
     let trues = (g.A.Assignment.trail_of c.args.assignment.now).lits in
-    subst (λ d. IsVisit trues d c.args.l Clash) (same_Some w.clause clause (sym w.at ∙ there))
+    subst (λ d. IsVisit trues d c.args.l Conflict) (same_Some w.clause clause (sym w.at ∙ there))
     (binary_all _ _ _ _ w.watched (other_fits _ _ (sym c.if-not-is_binary.false ∙ c.is_binary.ensures) c.blocking-other.ensures w.fitting)
     c.requires.is_false (false_from_value _ _ c.in-False.ensures.value))
 

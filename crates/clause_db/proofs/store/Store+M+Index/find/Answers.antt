@@ -3,9 +3,9 @@ use Rattle.std.specs.FinMap as maps
 use Rattle.cnf_base.proofs.SetLemmas.{all_each, each_all, same_back, same_there}
 use Rattle.clause_db.specs.Code.LiteralMarks.{is_marked}
 use Rattle.clause_db.proofs.StoreLemmas.Search.{match_same, same_match}
-use Rattle.clause_db.proofs.StoreLemmas.Options.{if_some_from, if_some_from_none, if_none_from}
+use Rattle.clause_db.proofs.StoreLemmas.Options.{if_none_from}
 use Rattle.clause_db.proofs.StoreLemmas.Options.{if_none_from_some}
-use Rattle.tables.specs.Filled.{at}
+use Rattle.tables.specs.ByKey.{at}
 use Rattle.clause_index.specs.{Hashes.hash, Index.seed_of}
 use Rattle.clause_index.proofs.IndexLemmas.Hashes.{hash_same}
 use Rattle.clause_db.proofs.store.Store+M+Index.find.Goals as goal
@@ -21,17 +21,7 @@ pub find_marked-found-requires : goal.find_marked-found-requires
 find_marked-found-requires g c = c.self.invariant.1
 
 pub returns-clause-found : goal.returns-clause-found
-returns-clause-found g c =
-    let digest = c.mark_all-digest in
-    elim c.match-found.branch [
-      | in-Some w ↦
-          let slot = w.in-Some.slot in
-          let is = w.in-Some.ensures.found in
-          let same = match_same c.args.lits.now (λ l. is_marked (at digest.new.marks l)) digest.ensures.marked digest.result.len digest.ensures.len is.0 (c.self.invariant.0.different slot is.0 is.1) is.2 in
-          if_some_from c.match-found.result w.at.result _ w.result-is
-          (is.0, ap (maps.get c.args.self.now.live) w.at.ensures ∙ ap (λ v. maps.get v.live slot) (sym c.self.view_is) ∙ is.1, same)
-      | in-None w ↦ if_some_from_none c.match-found.result _ w.result-is
-    ]
+returns-clause-found g c = grind (arith, match_same)
 
 pub returns-clause-none : goal.returns-clause-none
 returns-clause-none g c =

@@ -16,14 +16,13 @@ pub invariant_of-self : goal.invariant_of-self
 invariant_of-self g c = grind arith
 
 pub returns-in_err-slot-clause-live_alone : goal.returns-in_err-slot-clause-live_alone
-returns-in_err-slot-clause-live_alone g c = live_alone (g.M.Memory.seen c.take_in.new.memory).live (g.M.Memory.seen c.take_in.new.memory).stored c.take_in.new.marks _ (invariant_of-self g c).0
+returns-in_err-slot-clause-live_alone g c = live_alone _ _ _ _ (invariant_of-self g c).0
 
 -- ---- Where it is told to the index
 
 pub list_up-requires-clause-free : goal.list_up-requires-clause-free
 list_up-requires-clause-free g c =
-    let taken = c.in_ok-slot.ensures.taken in
-    ((g.M.Memory.seen c.self.inside.memory).live, c.self.invariant.2, c.self.invariant.3, taken.free, taken.few)
+    let t = c.in_ok-slot.ensures.taken in (_, c.self.invariant.2, c.self.invariant.3, t.free, t.few)
 
 -- the literals that the memory hands out are those that were taken in
 taken_is : {m n : MemoryState} {slot : ℕ} {lits kept : Clause} → (taken : IsTakenIn m n slot lits) → Some kept ≡ maps.get n.live slot → kept ≡ taken.clause
@@ -35,11 +34,7 @@ list_up-requires-clause-different g c =
     subst (λ d. size d ≡ length d) (sym (taken_is taken c.clause-kept.ensures)) taken.different
 
 pub overflow_add-self : goal.overflow_add-self
-overflow_add-self g c =
-    let i = c.self.inside in
-    let taken = c.in_ok-slot.ensures.taken in
-    let fits = sum_fits (g.M.Memory.seen i.memory).live (g.M.Memory.seen i.memory).stored i.marks i.sum c.self.invariant.0 in
-    grind (arith, taken_is)
+overflow_add-self g c = grind (arith, taken_is, sum_fits _ _ _ _ c.self.invariant.0)
 
 pub invariant_of-self-in-Ok : goal.invariant_of-self-in-Ok
 invariant_of-self-in-Ok g c =
@@ -60,11 +55,10 @@ invariant_of-self-in-Ok g c =
     )
 
 pub returns-in-Ok-clause-free : goal.returns-in-Ok-clause-free
-returns-in-Ok-clause-free g c =
-    ap (maps.get c.args.self.now.live) c.at.ensures ∙ ap (λ v. maps.get v.live c.in_ok-slot.slot) (sym c.self.view_is) ∙ c.in_ok-slot.ensures.taken.free
+returns-in-Ok-clause-free g c = grind arith
 
 pub returns-in-Ok-clause-live_alone : goal.returns-in-Ok-clause-live_alone
-returns-in-Ok-clause-live_alone g c = live_alone (g.M.Memory.seen c.take_in.new.memory).live (g.M.Memory.seen c.take_in.new.memory).stored c.take_in.new.marks _ (invariant_of-self-in-Ok g c).0
+returns-in-Ok-clause-live_alone g c = live_alone _ _ _ _ (invariant_of-self-in-Ok g c).0
 
 -- ---- Where no memory is left for the index
 
@@ -76,10 +70,10 @@ pub invariant_of-self-in-Err : goal.invariant_of-self-in-Err
 invariant_of-self-in-Err g c = grind (arith, undone)
 
 pub returns-in-Err-clause-err_live : goal.returns-in-Err-clause-err_live
-returns-in-Err-clause-err_live g c = undone c.in_ok-slot.ensures.taken c.remove.ensures.live ∙ ap (λ v. v.live) c.self.view_is
+returns-in-Err-clause-err_live g c = grind (arith, undone)
 
 pub returns-in-Err-clause-err_stored : goal.returns-in-Err-clause-err_stored
 returns-in-Err-clause-err_stored g c = grind (arith, undone)
 
 pub returns-in-Err-clause-live_alone : goal.returns-in-Err-clause-live_alone
-returns-in-Err-clause-live_alone g c = live_alone (g.M.Memory.seen c.remove.new.self).live (g.M.Memory.seen c.remove.new.self).stored c.take_in.new.marks _ (invariant_of-self-in-Err g c).0
+returns-in-Err-clause-live_alone g c = live_alone _ _ _ _ (invariant_of-self-in-Err g c).0

@@ -1,8 +1,6 @@
-use Rattle.std.proofs.Common.{sym, ap, ◌∙◌}
-use Rattle.clause_db.{specs.Store.literals_in, proofs.StoreLemmas.Fields.live_alone}
+use Rattle.std.proofs.Common.{arith}
+use Rattle.clause_db.{proofs.StoreLemmas.Fields.live_alone}
 use Rattle.clause_db.proofs.store.Store.recall_invariant.Goals as goal
 
 pub returns-clause-live_alone : goal.returns-clause-live_alone
-returns-clause-live_alone g c =
-    let i = c.self.inside in
-    ap (λ v. v.stored) (sym c.self.view_is) ∙ live_alone (g.M.Memory.seen i.memory).live (g.M.Memory.seen i.memory).stored i.marks i.sum c.self.invariant.0 ∙ ap (λ v. literals_in v.live) c.self.view_is
+returns-clause-live_alone g c = grind (arith, live_alone _ _ _ _ c.self.invariant.0)

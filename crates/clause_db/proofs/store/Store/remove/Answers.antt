@@ -1,23 +1,21 @@
+use Rattle.std.proofs.Common.{arith}
 use Rattle.std.proofs.Common.{◌-◌, is_some, length, sym, ap, ◌∙◌, subst}
-use Rattle.std.specs.FinMap as maps
 use Rattle.clause_memory.specs.Memory as memory
 use Rattle.clause_db.specs.Code.{Counts.AreCounted, Fields.IsStore, Kept.AreKept}
 use Rattle.clause_db.proofs.StoreLemmas.Fields.{live_alone, sound_without, within_sum}
 use Rattle.clause_db.proofs.store.Store.remove.Goals as goal
 
 pub count_out-requires-clause-there : goal.count_out-requires-clause-there
-count_out-requires-clause-there g c = ((g.M.Memory.seen c.self.inside.memory).live, c.number-number.result, c.self.invariant.3, sym c.clause-lits.ensures)
+count_out-requires-clause-there g c = (_, _, c.self.invariant.3, sym c.clause-lits.ensures)
 
 pub overflow_sub-self : goal.overflow_sub-self
-overflow_sub-self g c =
-    let i = c.self.inside in
-    within_sum (g.M.Memory.seen i.memory).live (g.M.Memory.seen i.memory).stored i.marks i.sum c.self.invariant.0 c.number-number.result c.clause-lits.result.now (sym c.clause-lits.ensures)
+overflow_sub-self g c = within_sum _ _ _ _ c.self.invariant.0 _ _ (sym c.clause-lits.ensures)
 
 pub remove-requires-clause-there : goal.remove-requires-clause-there
-remove-requires-clause-there g c = ((g.M.Memory.seen c.self.inside.memory).live, c.self.invariant.1, sym c.clause-lits.ensures)
+remove-requires-clause-there g c = (_, c.self.invariant.1, sym c.clause-lits.ensures)
 
 pub forget-requires : goal.forget-requires
-forget-requires g c = ((g.M.Memory.seen c.self.inside.memory).live, c.self.invariant.2, ap is_some (sym c.clause-lits.ensures))
+forget-requires g c = (_, c.self.invariant.2, ap is_some (sym c.clause-lits.ensures))
 
 pub invariant_of-self : goal.invariant_of-self
 invariant_of-self g c =
@@ -34,8 +32,7 @@ invariant_of-self g c =
     )
 
 pub returns-clause-live : goal.returns-clause-live
-returns-clause-live g c =
-    c.remove-2.ensures.live ∙ ap (maps.remove (g.M.Memory.seen c.self.inside.memory).live) c.number-number.ensures ∙ ap (λ v. maps.remove v.live c.args.slot) c.self.view_is
+returns-clause-live g c = grind arith
 
 pub returns-clause-live_alone : goal.returns-clause-live_alone
-returns-clause-live_alone g c = live_alone (g.M.Memory.seen c.remove-2.new.self).live (g.M.Memory.seen c.remove-2.new.self).stored c.self.inside.marks _ (invariant_of-self g c).0
+returns-clause-live_alone g c = live_alone _ _ _ _ (invariant_of-self g c).0

@@ -19,4 +19,4 @@ invariant_of-self c =
     as_long live c.rewatch.ensures.live_alone
 
 pub returns-clause-live_alone : goal.returns-clause-live_alone
-returns-clause-live_alone c = live_alone c.rewatch.new.self.live c.rewatch.new.self.stored c.self.inside.marks _ (invariant_of-self c).0
+returns-clause-live_alone c = live_alone _ _ _ _ (invariant_of-self c).0

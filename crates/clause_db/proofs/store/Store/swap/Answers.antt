@@ -19,4 +19,4 @@ invariant_of-self c =
     (c.swap.ensures.live x here) c.swap.ensures.live_alone
 
 pub returns-clause-live_alone : goal.returns-clause-live_alone
-returns-clause-live_alone c = live_alone c.swap.new.self.live c.swap.new.self.stored c.self.inside.marks _ (invariant_of-self c).0
+returns-clause-live_alone c = live_alone _ _ _ _ (invariant_of-self c).0

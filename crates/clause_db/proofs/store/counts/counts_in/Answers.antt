@@ -4,11 +4,11 @@ use Rattle.clause_db.proofs.StoreLemmas.Counts.{count_none, count_next, count_wh
 use Rattle.clause_db.proofs.store.counts.counts_in.Goals as goal
 
 pub loop-slot-init : goal.loop-slot-init
-loop-slot-init g c l =
-    count_none (g.M.Memory.seen c.args.memory.now).live l _ (ap count_of (c.new-counts.ensures l))
+loop-slot-init g c l = count_none _ l _ (ap count_of (c.new-counts.ensures l))
 
 pub loop-slot-preserved : goal.loop-slot-preserved
-loop-slot-preserved g c l = count_next (g.M.Memory.seen c.args.memory.now).live c.loop-slot.slot l _ _ (c.loop-slot.invariant l) (c.in_ok-count_slot.ensures l)
+loop-slot-preserved g c l =
+    count_next _ _ l _ _ (c.loop-slot.invariant l) (c.in_ok-count_slot.ensures l)
 
 pub returns : goal.returns
 returns g c l = grind (arith, count_whole)

@@ -1,6 +1,6 @@
 use Rattle.std.proofs.Common.{ℕ}
 use Rattle.clause_db.{specs.Code.Counts.count_of, proofs.StoreLemmas.Counts.IsCountBelow}
-use Rattle.tables.specs.Filled.{at}
+use Rattle.tables.specs.ByKey.{at}
 use Rattle.clause_db.proofs.store.counts.counts_in.Given as goal
 
 abbrev pub invariant-loop-slot : goal.invariant-loop-slot

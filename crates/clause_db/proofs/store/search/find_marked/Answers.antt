@@ -1,7 +1,7 @@
 use Rattle.std.proofs.Common.{ap, sym, ◌∙◌}
 use Rattle.clause_db.specs.Code.{LiteralMarks.is_marked, Matches.is_match_in}
 use Rattle.clause_db.proofs.StoreLemmas.Options.{if_none_then}
-use Rattle.tables.specs.Filled.{at}
+use Rattle.tables.specs.ByKey.{at}
 use Rattle.clause_db.proofs.store.search.find_marked.Goals as goal
 
 pub returns-clause-none : goal.returns-clause-none

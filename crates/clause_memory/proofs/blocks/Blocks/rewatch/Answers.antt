@@ -8,15 +8,17 @@ rewrite-requires-clause-behind c = c.requires.6
 
 pub rewrite-requires-clause-inside : goal.rewrite-requires-clause-inside
 rewrite-requires-clause-inside c =
-    grind (arith, seen_in c.self.invariant c.args.self.now c.self.view_is c.args.slot c.requires.0 c.requires.2, rewrite_inside c.self.invariant c.args.slot)
+    grind (arith, seen_in c.self.invariant _ c.self.view_is c.args.slot, rewrite_inside)
 
 pub invariant_of-self : goal.invariant_of-self
 invariant_of-self c =
-    grind (arith, seen_in c.self.invariant c.args.self.now c.self.view_is c.args.slot c.requires.0, rewritten_memory c.self.invariant c.args.slot c.requires.1 c.args.to c.args.l c.args.other c.args.next)
+    let m = c.self.invariant in
+    let r = rewritten_memory m c.args.slot c.requires.1 c.args.to c.args.l c.args.other c.args.next in
+    grind (arith, seen_in m _ c.self.view_is c.args.slot, r)
 
 pub returns-clause-live : goal.returns-clause-live
 returns-clause-live c d from here low is_l is_other =
-    grind (arith, seen_in c.self.invariant c.args.self.now c.self.view_is c.args.slot, rewritten_clauses c.self.invariant c.args.slot from c.args.to c.args.l c.args.other c.args.next)
+    grind (arith, seen_in c.self.invariant _ c.self.view_is c.args.slot, rewritten_clauses)
 
 pub returns-clause-live_alone : goal.returns-clause-live_alone
 returns-clause-live_alone c = stored_is (invariant_of-self c)

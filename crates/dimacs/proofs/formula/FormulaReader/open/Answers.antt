@@ -4,5 +4,10 @@ use Rattle.dimacs.proofs.HeaderLemmas.{header_refused}
 use Rattle.dimacs.proofs.formula.FormulaReader.open.Goals as goal
 
 pub returns-in-Err-clause-refused : goal.returns-in-Err-clause-refused
-returns-in-Err-clause-refused g c =
-    (c.read_header.new.scanner, search rules, header_refused _ _ _ (search rules) _ c.in-Err.ensures.header, search rules)
+returns-in-Err-clause-refused g c = (
+  c.read_header.new.scanner,
+  search rules,
+  header_refused _ _ _ (search rules) _
+      c.in-Err.ensures.header,
+  search rules,
+)

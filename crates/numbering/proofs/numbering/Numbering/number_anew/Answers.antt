@@ -3,7 +3,7 @@ use Rattle.cnf_base.specs.Literals.{has, variable}
 use Rattle.numbering.{specs.Code.Numbers.number_at, proofs.RecentLemmas.recent_more}
 use Rattle.numbering.proofs.NumberLemmas.{count_most, next_invariant, next_names, next_low}
 use Rattle.numbering.proofs.NumberLemmas.{next_number, next_at, none, wrote}
-use Rattle.tables.specs.Filled.{at}
+use Rattle.tables.specs.ByKey.{at}
 use Rattle.numbering.proofs.numbering.Numbering.number_anew.Goals as goal
 
 pub overflow_add-number : goal.overflow_add-number

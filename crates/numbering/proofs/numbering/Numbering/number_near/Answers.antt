@@ -6,7 +6,7 @@ use Rattle.theory.specs.Renaming.{renamed}
 use Rattle.numbering.specs.{Names.number_in, Code.Numbers.number_at}
 use Rattle.numbering.proofs.NameLemmas.{with_names_push, same_names}
 use Rattle.numbering.proofs.NumberLemmas.{is_met, number_is, number_near}
-use Rattle.tables.specs.Filled.{at}
+use Rattle.tables.specs.ByKey.{at}
 use Rattle.numbering.proofs.numbering.Numbering.number_near.Goals as goal
 
 pub loop-near-preserved : goal.loop-near-preserved

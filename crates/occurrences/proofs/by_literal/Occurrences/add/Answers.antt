@@ -3,11 +3,11 @@ use Rattle.std.proofs.lemmas.Bool.{cases_eq}
 use Rattle.tables.specs.Lists.{list_at}
 use Rattle.occurrences.specs.{Occurrences.occurs}
 use Rattle.occurrences.proofs.TestLemmas.{and_true, and_false, all_weaker}
-use Rattle.occurrences.proofs.EntryLemmas.{reserved, reserved_known, reserved_occurs}
+use Rattle.occurrences.proofs.EntryLemmas.{reserved_known, reserved_occurs}
 use Rattle.occurrences.proofs.by_literal.Occurrences.add.Goals as goal
 
 pub invariant_of-self : goal.invariant_of-self
-invariant_of-self c = grind (arith, reserved, all_weaker, reserved_known)
+invariant_of-self c = grind (arith, all_weaker, reserved_known)
 
 pub returns-in-Err-clause-err : goal.returns-in-Err-clause-err
 unfolding occurs
@@ -20,7 +20,6 @@ returns-in-Err-clause-err c l s =
           c.forget.ensures l s ∙ ap (λ b. occurs refused l s && not b) (eq-eqb s slot e) ∙ and_false (occurs refused l s)
           ∙ sym (ap (occurs old l) e ∙ c.requires.absent l)
       | inr ne ↦
-          let same = reserved old.births c.reserve.new.self slot c.reserve.result c.reserve.ensures.ok c.reserve.ensures.err in
           c.forget.ensures l s ∙ ap (λ b. occurs refused l s && not b) (ne_eqb s slot ne) ∙ and_true (occurs refused l s)
-          ∙ c.in-Err.ensures.others l s ne ∙ reserved_occurs old.births c.reserve.new.self same (list_at old.lists l) s
+          ∙ c.in-Err.ensures.others l s ne ∙ reserved_occurs old.births c.reserve.new.self c.reserve.ensures.same c.reserve.ensures.kept (list_at old.lists l) s
     ]

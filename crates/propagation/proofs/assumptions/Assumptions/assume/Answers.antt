@@ -1,5 +1,5 @@
-use Rattle.std.proofs.Common.{◌≡◌, ◌+◌, filter, [], refl, sym, ap, ◌∙◌, subst, rules}
-use Rattle.propagation.specs.Code.Levels.{IsNumbered, assumptions_of, first_number}
+use Rattle.std.proofs.Common.{◌≡◌, ◌+◌, filter, [], refl, ap, ◌∙◌, rules}
+use Rattle.propagation.specs.Code.Levels.{assumptions_of, first_number}
 use Rattle.trail.specs.Numbers.{number_at}
 use Rattle.propagation.proofs.PropagationLemmas.Levels.{notes_none, pushed_numbered, pushed_seen}
 use Rattle.propagation.proofs.PropagationLemmas.Levels.{pushed_assumed, pushed_assumes}
@@ -16,13 +16,9 @@ returns-then-make_false-clause-assumed g c =
 
 pub invariant_of-self-2 : goal.invariant_of-self-2
 invariant_of-self-2 g c =
-    let s = c.self.inside in let more = c.make_false.new.self in
-    let noted = c.note_all.new.numbers in
-    let number_is : c.in-Some.number ≡ s.made + 1 = search rules in
-    subst (IsNumbered more noted c.in-Some.number) (sym c.pushed-self-inside.ensures)
-    (pushed_numbered s.trail more s.numbers noted s.made c.in-Some.number c.len-start.result
-    s.levels (filter (g.P.Part.keeps c.args.part.now) c.args.clause.now) _ c.self.invariant
-    (ap (λ a. a.assumptions) c.self.view_is)
+    let number_is : c.in-Some.number ≡ c.self.inside.made + 1 = search rules in
+    simp c.pushed-self-inside.ensures
+    (pushed_numbered _ _ _ _ _ _ _ _ _ _ c.self.invariant (ap (λ a. a.assumptions) c.self.view_is)
     c.requires.may number_is c.len-start.ensures.value _ c.first_number-first.ensures
     c.note_all.ensures.notes c.make_false.ensures.begins c.make_false.ensures.longer
     c.if-make_false.ensures.made.added c.note_all.ensures.known c.make_false.ensures.reserved)

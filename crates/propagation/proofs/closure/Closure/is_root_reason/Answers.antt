@@ -1,4 +1,4 @@
-use Rattle.std.proofs.Common.{arith, ◌≡◌, Some, sym, ap, ◌∙◌, subst}
+use Rattle.std.proofs.Common.{arith, sym, ap, ◌∙◌, subst}
 use Rattle.std.specs.FinMap as maps
 use Rattle.std.proofs.lemmas.Option.{same_Some}
 use Rattle.theory.specs.Propagation.{IsRootReason}
@@ -8,22 +8,14 @@ use Rattle.propagation.proofs.closure.Closure.is_root_reason.Goals as goal
 
 pub returns-clause-yes : goal.returns-clause-yes
 returns-clause-yes g c is_reason clause here =
-    let live = maps.get c.args.store.now.live in let found = c.in_ok-found.found in
+    let at = c.clause-clause.ensures.clause ∙ ap (λ s. maps.get s.live c.args.slot) c.take_whole.ensures.same in
     let kept = c.clause-clause.result.now in
-    let at : Some kept ≡ live c.args.slot =
-    c.clause-clause.ensures.clause ∙ ap (λ s. maps.get s.live c.args.slot) c.take_whole.ensures.same
-    in
     let left = sym (c.is_one_at_most-is_reason.ensures ∙ ap (λ left. is_one_at_most left kept) c.left.ensures) ∙ is_reason in
-    subst (IsRootReason live) (same_Some kept clause (at ∙ here))
-    (reason_left live found c.args.slot kept (sym at) c.in_ok-found.ensures.whole.sound left)
+    subst (IsRootReason _) (same_Some _ _ (at ∙ here))
+    (reason_left _ _ _ _ (sym at) c.in_ok-found.ensures.whole.sound left)
 
 pub returns-clause-no : goal.returns-clause-no
 returns-clause-no g c is_none clause here =
-    let kept = c.clause-clause.result.now in
-    let at =
-    c.clause-clause.ensures.clause ∙ ap (λ s. maps.get s.live c.args.slot) c.take_whole.ensures.same
-    in
-    subst (λ d. ¬ IsRootReason (maps.get c.args.store.now.live) d) (same_Some kept clause (at ∙ here))
-    (no_reason_left (maps.get c.args.store.now.live) c.in_ok-found.found c.args.slot kept (sym at)
-    c.in_ok-found.ensures.whole.all
-    (grind arith))
+    let at = c.clause-clause.ensures.clause ∙ ap (λ s. maps.get s.live c.args.slot) c.take_whole.ensures.same in
+    simp (same_Some _ _ (at ∙ here)) at
+    (no_reason_left _ _ _ _ (sym at) c.in_ok-found.ensures.whole.all (grind arith))

@@ -1,4 +1,5 @@
-use Rattle.std.proofs.Common.{sym, ◌∙◌}
+use Rattle.std.proofs.Common.{arith}
+use Rattle.std.proofs.Common.{◌∙◌}
 use Rattle.propagation.proofs.PropagationLemmas.Counts.{none_with, some_with}
 use Rattle.propagation.proofs.PropagationLemmas.SameClauses.{kept_copies}
 use Rattle.propagation.proofs.propagate.Propagate.count_with.Goals as goal
@@ -9,10 +10,8 @@ returns-clause-value g c =
 
 pub returns-clause-none : goal.returns-clause-none
 returns-clause-none g c none =
-    none_with (g.Self.Propagate.state c.args.self.now).live c.args.l
-    (sym (returns-clause-value g c) ∙ none)
+    none_with (g.Self.Propagate.state c.args.self.now).live c.args.l (grind (arith, returns-clause-value))
 
 pub returns-clause-some : goal.returns-clause-some
 returns-clause-some g c some =
-    some_with (g.Self.Propagate.state c.args.self.now).live c.args.l
-    (λ zero. some (returns-clause-value g c ∙ zero))
+    some_with (g.Self.Propagate.state c.args.self.now).live c.args.l (grind (arith, returns-clause-value))

@@ -1,6 +1,6 @@
 use Rattle.root_literals.proofs.RootLemmas.Kept.{entered_idle, entered_taken, entered_true}
 use Rattle.root_literals.proofs.RootLemmas.Kept.{Entering, entered_false, entered_more, entered_set}
-use Rattle.{cnf_base.specs.Literals.Literal, cnf_base.specs.Literals.has, tables.specs.Filled.at}
+use Rattle.{cnf_base.specs.Literals.Literal, cnf_base.specs.Literals.has, tables.specs.ByKey.at}
 use Rattle.std.proofs.Common.{arith, refl, true, ◌≡◌}
 use Rattle.root_literals.proofs.roots.Roots.enter.Goals.{After-enter, Else-set_by}
 use Rattle.root_literals.proofs.roots.Roots.enter.Goals as goal
@@ -9,9 +9,9 @@ use Rattle.root_literals.proofs.roots.Roots.enter.Goals as goal
 entering-clause-kept : (c : After-enter) → Entering c.args.store.now.live c.args.slot c.clause-clause.result.now c.args.self.now c.args.assumptions.now.trail.lits c.args.left c.enter.new.self
 entering-clause-kept c = grind arith
 
-pub returns-then-has_clash-clause-kept : goal.returns-then-has_clash-clause-kept
-returns-then-has_clash-clause-kept c =
-    entered_idle (entering-clause-kept (goal.at.returns-then-has_clash-clause-kept c).After-enter) _ refl refl refl (grind arith) refl
+pub returns-then-has_conflict-clause-kept : goal.returns-then-has_conflict-clause-kept
+returns-then-has_conflict-clause-kept c =
+    entered_idle (entering-clause-kept (goal.at.returns-then-has_conflict-clause-kept c).After-enter) _ refl refl refl (grind arith) refl
 
 pub returns-in-More-clause-kept : goal.returns-in-More-clause-kept
 returns-in-More-clause-kept c =

@@ -1,4 +1,4 @@
-use Rattle.{root_literals.specs.Roots.has_clash, tables.specs.Filled.at, theory.specs.Sets.SameSet}
+use Rattle.{root_literals.specs.Roots.has_conflict, tables.specs.ByKey.at, theory.specs.Sets.SameSet}
 use Rattle.std.proofs.Common.{IsSome, cond, length, ◌+◌, ◌≡◌}
 use Rattle.{cnf_base.specs.Literals.Literal, root_literals.specs.Roots.IsKept, std.proofs.Common.[]}
 use Rattle.root_literals.proofs.roots.Roots.leave.Given as goal
@@ -14,4 +14,4 @@ invariant-loop-place l = record {
 
 -- a clash is given up, or literals are
 abbrev pub decreases-loop-place : goal.decreases-loop-place
-decreases-loop-place l = length l.assumptions.trail.lits + cond (has_clash l.self.kept) 1 0
+decreases-loop-place l = length l.assumptions.trail.lits + cond (has_conflict l.self.kept) 1 0

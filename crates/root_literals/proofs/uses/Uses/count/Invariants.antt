@@ -1,5 +1,5 @@
 use Rattle.{root_literals.specs.Uses.AreCounted, std.proofs.Common.length, std.proofs.Common.◌-◌}
-use Rattle.tables.specs.Filled.{at}
+use Rattle.tables.specs.ByKey.{at}
 use Rattle.std.specs.FinMap as maps
 use Rattle.root_literals.proofs.uses.Uses.count.Given as goal
 

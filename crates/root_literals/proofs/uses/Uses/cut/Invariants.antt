@@ -1,5 +1,5 @@
 use Rattle.std.specs.FinMap as maps
-use Rattle.{root_literals.specs.Uses.AreCounted, tables.specs.Filled.at}
+use Rattle.{root_literals.specs.Uses.AreCounted, tables.specs.ByKey.at}
 use Rattle.root_literals.proofs.uses.Uses.cut.Given as goal
 
 abbrev pub invariant-loop-self : goal.invariant-loop-self

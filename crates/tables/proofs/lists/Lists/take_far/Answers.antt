@@ -1,7 +1,5 @@
-use Rattle.std.proofs.Common.{length, sym, arith, ap, ◌∙◌}
+use Rattle.std.proofs.Common.{arith}
 use Rattle.std.proofs.lemmas.Map.Entries.{sum_by-set_value}
-use Rattle.std.specs.{BTreeMap.is_at, Ordering.nat_cmp, Map.values_of}
-use Rattle.tables.specs.Lists.{total}
 use Rattle.tables.proofs.lists.Lists.take_far.Goals as goal
 
 pub returns-in-Some-clause-total : goal.returns-in-Some-clause-total

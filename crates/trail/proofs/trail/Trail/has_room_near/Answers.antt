@@ -1,20 +1,20 @@
 -- One more variable.
-use Rattle.std.proofs.Common.{◌≡◌, ◌<◌, true, Some, eqb-true, is_some, length, ap, sym, ◌∙◌, inl}
+use Rattle.std.proofs.Common.{◌≡◌, ◌<◌, true, false, Some, eqb-true, unwrap_or, length, ap, sym, ◌∙◌, inl}
 use Rattle.std.proofs.{Common.inr, Common.subst, Common.arith, lemmas.Bool.or_cases}
-use Rattle.std.proofs.lemmas.{Option.same_Some, Option.slice_get-get_or, Bool.Decides.nat_tests}
+use Rattle.std.proofs.lemmas.{Option.slice_get-get_or, Bool.Decides.nat_tests}
 use Rattle.cnf_base.{specs.Literals.has, specs.Literals.variable, proofs.WalkLemmas.has_more}
-use Rattle.tables.specs.Table.{at}
+use Rattle.tables.specs.ByKey.{at}
 use Rattle.trail.proofs.trail.Trail.has_room_near.Goals as goal
 
 pub loop-l-preserved : goal.loop-l-preserved
 loop-l-preserved c l h =
     let x = c.l-item.result in let v = c.var.result in let reserved = c.args.self.now.reserved in
-    let near = c.near-near.result.now in let look = c.in-Some-Some.ensures.lookup in
+    let near = c.near-near.result.now in let look = c.in-Some-true.ensures.lookup in
     let inside : v < length near = grind (arith, nat_tests, look.0) in
-    let seen : at c.self.inside.seen v ≡ Some tt =
-    same_Some _ _ (sym (c.near-near.ensures v inside) ∙ slice_get-get_or near v _ inside) ∙ sym look.1 ∙ c.in-Some-Some.field-0-is in
+    let seen : at c.self.inside.seen v ≡ Some true =
+    grind (arith, slice_get-get_or, inside, look) in
     let here : has reserved v ≡ true =
-    ap (λ t. has t.reserved v) (sym c.self.view_is) ∙ sym (c.self.invariant.0.noted v) ∙ ap is_some seen in
+    ap (λ t. has t.reserved v) (sym c.self.view_is) ∙ sym (c.self.invariant.0.noted v) ∙ ap (λ o. unwrap_or o false) seen in
     elim (or_cases _ _ (sym (has_more c.args.clause.now c.loop-l.l-index c.loop-l-test.true x c.l-item.is l) ∙ h)) [
       | inl old ↦ c.loop-l.invariant l old
       | inr new ↦ subst (λ m. has reserved (variable m) ≡ true) (eqb-true x l new) (subst (λ w. has reserved w ≡ true) c.var.ensures.value here)

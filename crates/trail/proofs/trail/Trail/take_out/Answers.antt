@@ -1,10 +1,9 @@
 use Rattle.std.proofs.Common.{ℕ, Some, cond, eqb, Option, refl, sym, ◌∙◌, subst, ◌<◌, length}
 use Rattle.std.{specs.Vec.vec_capacity, proofs.lemmas.Grind.get_or_default_zero}
-use Rattle.tables.specs.Table.{at}
-use Rattle.trail.specs.Code.Values.{IsTrail, reserved_in}
+use Rattle.tables.specs.ByKey.{at}
+use Rattle.trail.specs.Code.Values.{IsTrail, reserved_in, seen_in}
 use Rattle.trail.specs.declared.value.Value.{TheVariants.Open, Value}
 use Rattle.trail.proofs.TrailLemmas.Without.{out_known, trail_out}
-use Rattle.tables.specs.Filled as filled
 use Rattle.trail.proofs.trail.Trail.take_out.Goals as goal
 
 pub set_both-requires-clause-complement : goal.set_both-requires-clause-complement
@@ -12,17 +11,17 @@ set_both-requires-clause-complement c =
     let t = c.self.inside in
     let inside = subst (λ s. c.args.place < length s.lits) (sym c.self.view_is) c.requires in
     let stands = sym (get_or_default_zero t.lits.items c.args.place c.remove-l.result inside) ∙ sym c.remove-l.ensures.value in
-    (out_known t.lits.items c.args.place inside c.remove-l.result stands (reserved_in (at t.seen)) (vec_capacity t.lits) (at t.seen) (filled.at t.values) c.self.invariant.0).1
+    (out_known t.lits.items c.args.place inside c.remove-l.result stands (reserved_in (seen_in t.seen)) (vec_capacity t.lits) (seen_in t.seen) (at t.values) c.self.invariant.0).1
 
 pub invariant_of-self : goal.invariant_of-self
 invariant_of-self c =
     let t = c.self.inside in let l = c.remove-l.result in
     let inside = subst (λ s. c.args.place < length s.lits) (sym c.self.view_is) c.requires in
     let stands = sym (get_or_default_zero t.lits.items c.args.place l inside) ∙ sym c.remove-l.ensures.value in
-    let first : ℕ → Option Value = λ k. cond (eqb k l) (Some Open) (filled.at t.values k) in
-    let out = trail_out t.lits.items c.args.place inside l stands (reserved_in (at t.seen)) (vec_capacity t.lits) (at t.seen) (filled.at t.values) c.self.invariant.0 first (filled.at c.set_both.new.values) (λ k. refl) c.set_both.ensures in (
-      subst (λ n. IsTrail c.remove-l.new.self.items (reserved_in (at t.seen)) n (at t.seen) (filled.at c.set_both.new.values)) (sym c.remove-l.ensures.capacity)
-          (subst (λ ls. IsTrail ls (reserved_in (at t.seen)) (vec_capacity t.lits) (at t.seen) (filled.at c.set_both.new.values)) (sym c.remove-l.ensures.items) out),
+    let first : ℕ → Option Value = λ k. cond (eqb k l) (Some Open) (at t.values k) in
+    let out = trail_out t.lits.items c.args.place inside l stands (reserved_in (seen_in t.seen)) (vec_capacity t.lits) (seen_in t.seen) (at t.values) c.self.invariant.0 first (at c.set_both.new.values) (λ k. refl) c.set_both.ensures in (
+      subst (λ n. IsTrail c.remove-l.new.self.items (reserved_in (seen_in t.seen)) n (seen_in t.seen) (at c.set_both.new.values)) (sym c.remove-l.ensures.capacity)
+          (subst (λ ls. IsTrail ls (reserved_in (seen_in t.seen)) (vec_capacity t.lits) (seen_in t.seen) (at c.set_both.new.values)) (sym c.remove-l.ensures.items) out),
       c.self.invariant.1,
       c.self.invariant.2,
     )

@@ -16,7 +16,7 @@ use Rattle.watch.proofs.watch.WatchPropagate.insert.Goals as goal
 pub add_entries-requires-clause-no_tautology : goal.add_entries-requires-clause-no_tautology
 add_entries-requires-clause-no_tautology c = let i = c.self.inside in
     let slot = c.in_ok-slot.slot in let none =
-    (tautologies_there i.store.live i.tautologies c.self.invariant.3).listed slot
+    (tautologies_there _ _ c.self.invariant.3).listed slot
     ∙ ap tautology_for c.in_ok-slot.ensures.free in grind (arith, false_from_ne_true, times_has)
 
 pub enter-requires-clause-kept : goal.enter-requires-clause-kept
@@ -42,13 +42,13 @@ invariant_of-self-in-Ok c =
     let is_same = same_trans (in_order w.0) w.0 c.args.lits.now (same-in_order w.0) (same_trans w.0 d.0 c.args.lits.now (grind (arith, same_from)) d.2) in
     let room = room_added held.trail.reserved (each_in_order live) (each_in_order after) slot c.args.lits.now watch.scan.room c.in_ok-reserve_room.ensures.room
     (grind (arith, seen_there)) (grind (arith, get_ordered)) in (
-      watch_added i.is_loading live after i.lists c.add_entries.new.lists i.units c.add_entries.new.units c.reserve_room.new.roots c.enter.new.self held now watch (grind arith)
+      watch_added _ _ _ _ _ _ _ _ _ _ _ watch (grind arith)
           slot w.0 (e.different w.0 w.1) (grind arith) n.kept
           (grind arith)
           c.in_ok-slot.ensures.free (grind (arith, inserted_is)) e.low (e.watched w.0 w.1) (e.fitting w.0 w.1) (e.rest w.0 w.1) (e.more w.0 w.1) (e.longer w.0 w.1),
       c.arrange-arranged.ensures.live_alone ∙ sym (literals_ordered after),
       subst (λ m. IsClosure (maps.get m) c.insert_clause.new.closure) (sym (ordered_alike c.insert_clause.new.store.live after slot d.0 w.0 d.1 w.1 w.2 c.arrange-arranged.ensures.others)) c.insert_clause.ensures.closure,
-      tautologies_added live after i.tautologies c.add_entries.new.tautologies slot w.0 c.self.invariant.3 c.in_ok-slot.ensures.free (inserted_is live after slot w.0 w.1 others) (e.tautologies w.0 w.1),
+      tautologies_added _ _ _ _ _ _ c.self.invariant.3 c.in_ok-slot.ensures.free (inserted_is live after slot w.0 w.1 others) (e.tautologies w.0 w.1),
     )
 
 pub invariant_of-self-in-Err : goal.invariant_of-self-in-Err

@@ -11,17 +11,17 @@ pub invariant_of-self : goal.invariant_of-self
 invariant_of-self c = let i = c.self.inside in let live = i.store.live in
     let after = c.remove_clause.new.store.live in let slot = c.args.slot in
     let left = c.leave.ensures in
-    let watch = watch_put_back i.is_loading live i.lists c.leave.new.lists i.units i.roots i.assumptions left.lists c.self.invariant.0 in
-    let held = c.leave.new.assumptions in let e = c.remove_entries.ensures in
+    let watch = watch_put_back _ _ _ _ _ _ _ left.lists c.self.invariant.0 in
+    let e = c.remove_entries.ensures in
     let d = alive_clause live slot (sym (alive_alike live slot) ∙ ap (λ w. is_some (maps.get w.propagation.live slot)) c.self.view_is ∙ c.requires.alive) in
     let gone = ap each_in_order c.remove_clause.ensures.live ∙ ordered_remove live slot in
     let room = room_removed i.assumptions.trail.reserved (each_in_order live) (each_in_order after) slot gone watch.scan.room in (
-      watch_removed i.is_loading live after c.leave.new.lists c.remove_entries.new.lists i.units c.remove_entries.new.units i.roots c.leave.new.self i.assumptions held watch left.assumptions
+      watch_removed _ _ _ _ _ _ _ _ _ _ _ watch left.assumptions
           slot d.0 (e.different d.0 d.1) (record { each = λ k x here l member. left.reserved (l / 2) ∙ room.each k x here l member })
           (simp c.remove_clause.ensures.live left.kept)
           (λ l h. left.noted l (watch.noted l (sym (left.reserved (l / 2)) ∙ h)))
           d.1 c.remove_clause.ensures.live (e.watched d.0 d.1) (e.fitting d.0 d.1) (e.rest d.0 d.1) (e.fewer d.0 d.1) (e.shorter d.0 d.1),
       c.remove_clause.ensures.live_alone ∙ sym (literals_ordered after),
       c.remove_clause.ensures.closure,
-      tautologies_removed live after i.tautologies c.remove_entries.new.tautologies slot d.0 c.self.invariant.3 d.1 c.remove_clause.ensures.live (e.tautologies d.0 d.1),
+      tautologies_removed _ _ _ _ _ _ c.self.invariant.3 d.1 c.remove_clause.ensures.live (e.tautologies d.0 d.1),
     )
