@@ -333,25 +333,7 @@ fn by_reader(alloc: Global, name: &str, is_called: bool) -> Result<Option<bool>,
     Ok(Some(is_done))
 }
 
-fn by_store(
-    alloc: Global,
-    name: &str,
-    literals: &Literals<'_>,
-    is_called: bool,
-) -> Result<Option<bool>, Fault> {
-    let Literals { few, many, .. } = *literals;
-    let is_done = match name {
-        "quiet_trail" => trail(alloc, many, is_called)?,
-        "quiet_store" => store::<Blocks>(alloc, &few, many, is_called)?,
-        "quiet_slots" => store::<Slots>(alloc, &few, many, is_called)?,
-        "quiet_ids" => ids(alloc, 1, is_called)?,
-        "quiet_far_ids" => ids(alloc, PAGES, is_called)?,
-        _ => return Ok(None),
-    };
-    Ok(Some(is_done))
-}
-
-fn by_session(
+fn by_clauses(
     alloc: Global,
     name: &str,
     literals: &Literals<'_>,
@@ -360,6 +342,11 @@ fn by_session(
     let Literals { few, many, .. } = *literals;
     let [l, other] = few;
     let is_done = match name {
+        "quiet_trail" => trail(alloc, many, is_called)?,
+        "quiet_store" => store::<Blocks>(alloc, &few, many, is_called)?,
+        "quiet_slots" => store::<Slots>(alloc, &few, many, is_called)?,
+        "quiet_ids" => ids(alloc, 1, is_called)?,
+        "quiet_far_ids" => ids(alloc, PAGES, is_called)?,
         "quiet_scan" => clauses(Scan::new(alloc)?, &few, many, l, is_called)?,
         "quiet_watch" => clauses(Watch::new(alloc)?, &few, many, l, is_called)?,
         "quiet_assumption" => assumption(Scan::new(alloc)?, &few, many, is_called)?,
@@ -382,8 +369,5 @@ pub fn carry_out(
     if let Some(is_done) = by_reader(alloc, name, is_called)? {
         return Ok(Some(is_done));
     }
-    if let Some(is_done) = by_store(alloc, name, literals, is_called)? {
-        return Ok(Some(is_done));
-    }
-    by_session(alloc, name, literals, is_called)
+    by_clauses(alloc, name, literals, is_called)
 }

@@ -1,10 +1,9 @@
 //! Command lines: what each one asks for, or that it is refused.
 
-use crate::asserts::{expect_equal, expect_true, expect_true_at};
 use sat_check::{Args, ArgsFault, Tool, read_args};
 use std::alloc::Global;
-use std::process::Abort;
 use std::test::Fail;
+use test_inputs::{expect_equal, expect_true, expect_true_at};
 
 /// Reads a command line that is written out, its words parted by a space.
 fn read(alloc: Global, tool: Tool, line: &str) -> Result<Args, ArgsFault> {
@@ -57,17 +56,18 @@ fn is_refused(alloc: Global, tool: Tool, line: &str) -> bool {
     }
 }
 
-fn expect_refused(rt: &impl Abort, alloc: Global, rows: &[(Tool, &str)]) {
+fn expect_refused(alloc: Global, rows: &[(Tool, &str)]) -> Result<(), Fail> {
     for (tool, line) in rows {
-        expect_true_at(rt, *line, is_refused(alloc, *tool, line));
+        expect_true_at(*line, is_refused(alloc, *tool, line))?;
     }
+    Ok(())
 }
 
 /// What a line says: of the flags binary, trace, strict, pr and keep-units whether they stand in
 /// it, the formula, and the second input where one is named.
 type Expected<'a> = ([bool; 5], &'a str, Option<&'a str>);
 
-fn expect_args(rt: &impl Abort, args: &Args, expected: Expected<'_>) {
+fn expect_args(args: &Args, expected: Expected<'_>) -> Result<(), Fail> {
     let (flags, formula, second) = expected;
     let found = [
         args.binary,
@@ -76,12 +76,13 @@ fn expect_args(rt: &impl Abort, args: &Args, expected: Expected<'_>) {
         args.pr,
         args.keep_units,
     ];
-    expect_equal(rt, found, flags);
-    expect_equal(rt, args.formula.as_str(), formula);
+    expect_equal(found, flags)?;
+    expect_equal(args.formula.as_str(), formula)?;
     match &args.second {
-        Some(found) => expect_equal(rt, Some(found.as_str()), second),
-        None => expect_equal(rt, None, second),
+        Some(found) => expect_equal(Some(found.as_str()), second)?,
+        None => expect_equal(None, second)?,
     }
+    Ok(())
 }
 
 /// Lines that are read, each with what it says.
@@ -122,19 +123,19 @@ const READ: [(Tool, &str, Expected<'static>); 6] = [
 fn reads_what_lines_say(rt: HostRuntime) -> Result<(), Fail> {
     for (tool, line, expected) in &READ {
         let args = read(rt.alloc(), *tool, line)?;
-        expect_args(&rt, &args, *expected);
+        expect_args(&args, *expected)?;
     }
     Ok(())
 }
 
 #[test]
-fn shows_texts(rt: HostRuntime) {
-    expect_refused(&rt, rt.alloc(), &REFUSED);
+fn shows_texts(rt: HostRuntime) -> Result<(), Fail> {
+    expect_refused(rt.alloc(), &REFUSED)
 }
 
 #[test]
-fn empty_list_has_no_name(rt: HostRuntime) {
+fn empty_list_has_no_name(rt: HostRuntime) -> Result<(), Fail> {
     let words: [String; 0] = [];
     let read = read_args(rt.alloc(), Tool::Model, words.as_slice());
-    expect_true(&rt, matches!(&read, Err(ArgsFault::Words(_))));
+    expect_true(matches!(&read, Err(ArgsFault::Words(_))))
 }

@@ -2,16 +2,14 @@
 
 ghost use Rattle.std.specs.Prelude.{Some, false};
 
-use crate::asserts::expect_equal;
 use cnf_base::{Fault, Place, TextFault};
 use filter_io::{Hint, Progress, System, Told, Tool, run_tool};
 use proofs::StepEnd;
 use sat_check::{ArgsFault, InputFault, Status};
 use std::alloc::Global;
 use std::io;
-use std::process::Abort;
 use std::test::Fail;
-use test_inputs::{Stop, Writer};
+use test_inputs::{Stop, Writer, expect_equal};
 use test_rows::{E, E_DRAT, E_PROOF, MODELS, MODELS_OUTPUT};
 use writers::ToWrite;
 
@@ -72,7 +70,7 @@ struct Program<'a> {
     ended: Result<(Status, Told), Status>,
 }
 
-fn expect_run(rt: &impl Abort, alloc: Global, row: &Program<'_>) -> Result<(), Fail> {
+fn expect_run(alloc: Global, row: &Program<'_>) -> Result<(), Fail> {
     let words = words_of(alloc, row.words)?;
     let system = OneFile {
         alloc,
@@ -91,9 +89,8 @@ fn expect_run(rt: &impl Abort, alloc: Global, row: &Program<'_>) -> Result<(), F
         Err(ArgsFault::Words(_)) => Err(Status::Usage),
         Err(ArgsFault::OutOfMemory) => Err(Status::OutOfMemory),
     };
-    expect_equal(rt, found, row.ended);
-    expect_equal(rt, writer.taken.as_slice(), row.written.as_bytes());
-    Ok(())
+    expect_equal(found, row.ended)?;
+    expect_equal(writer.taken.as_slice(), row.written.as_bytes())
 }
 
 const ROWS: [Program<'static>; 8] = [
@@ -182,7 +179,7 @@ const ROWS: [Program<'static>; 8] = [
 #[test]
 fn programs_run(rt: HostRuntime) -> Result<(), Fail> {
     for row in &ROWS {
-        expect_run(&rt, rt.alloc(), row)?;
+        expect_run(rt.alloc(), row)?;
     }
     Ok(())
 }

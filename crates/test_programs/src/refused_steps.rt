@@ -1,13 +1,11 @@
 //! Where a refused step ends.
 
-use crate::asserts::expect_equal;
 use cnf_base::{FromRead, In, Place};
 use proofs::StepEnd;
 use sat_check::{Args, Checked, DratOptions, Status, drat_forward, lrat_check};
 use std::alloc::Global;
-use std::process::Abort;
 use std::test::Fail;
-use test_inputs::{Cut, Pieces, SIZES, Stop, Writer};
+use test_inputs::{Cut, Pieces, SIZES, Stop, Writer, expect_equal};
 use test_rows::{
     BY_BINARY_DRAT, DRAT, DRAT_STRICT, E, E_BINARY, E_DRAT, E_PROOF, G, LRAT, Request,
 };
@@ -84,20 +82,14 @@ fn run_on_pieces(
     run_placed(alloc, request, &mut formula, &mut proof, &mut out)
 }
 
-fn expect_ends(
-    rt: &impl Abort,
-    alloc: Global,
-    rows: &[Row<'_>],
-    cut: Cut,
-    status: Status,
-) -> Result<(), Fail> {
+fn expect_ends(alloc: Global, rows: &[Row<'_>], cut: Cut, status: Status) -> Result<(), Fail> {
     for (request, formula, proof, end) in rows {
         for size in SIZES {
             let formula = Pieces::new(formula, size, Cut::Ends);
             let proof = Pieces::of_bytes(proof, size, cut);
             let checked = run_on_pieces(alloc, *request, formula, proof);
-            expect_equal(rt, checked.status, status);
-            expect_equal(rt, checked.refused, *end);
+            expect_equal(checked.status, status)?;
+            expect_equal(checked.refused, *end)?;
         }
     }
     Ok(())
@@ -132,24 +124,17 @@ fn refused(rt: HostRuntime) -> Result<(), Fail> {
             text(3, 5),
         ),
     ];
-    expect_ends(&rt, rt.alloc(), &rows, Cut::Ends, Status::NotVerified)
+    expect_ends(rt.alloc(), &rows, Cut::Ends, Status::NotVerified)
 }
 
 fn expect_none(
-    rt: &impl Abort,
     alloc: Global,
     runs: &[(Request, &str, &[u8])],
     cut: Cut,
     status: Status,
 ) -> Result<(), Fail> {
     for (request, formula, proof) in runs {
-        expect_ends(
-            rt,
-            alloc,
-            &[(*request, *formula, *proof, None)],
-            cut,
-            status,
-        )?;
+        expect_ends(alloc, &[(*request, *formula, *proof, None)], cut, status)?;
     }
     Ok(())
 }
@@ -163,26 +148,20 @@ fn none_is_refused(rt: HostRuntime) -> Result<(), Fail> {
         (LRAT.request, E, E_PROOF),
         (LRAT.request, "p cnf 0 1\n0\n", b"?"),
     ];
-    expect_none(&rt, alloc, &verified, Cut::Ends, Status::Verified)?;
+    expect_none(alloc, &verified, Cut::Ends, Status::Verified)?;
     let without_empty_clause: [(Request, &str, &[u8]); 3] = [
         (DRAT.request, G, b"3 -1 0\n"),
         (BY_BINARY_DRAT, G, b""),
         (LRAT.request, E, b"5 2 0 1 2 0\n"),
     ];
-    expect_none(
-        &rt,
-        alloc,
-        &without_empty_clause,
-        Cut::Ends,
-        Status::NotVerified,
-    )?;
+    expect_none(alloc, &without_empty_clause, Cut::Ends, Status::NotVerified)?;
     let malformed: [(Request, &str, &[u8]); 4] = [
         (DRAT.request, G, b"3 -1 0\n-1\n"),
         (BY_BINARY_DRAT, G, b"a\x06\x03\x00A"),
         (LRAT.request, E, b"5 2 0 1 2 0\n?\n"),
         (DRAT.request, "p cnf 1 1\n", b"1 0\n"),
     ];
-    expect_none(&rt, alloc, &malformed, Cut::Ends, Status::Malformed)?;
+    expect_none(alloc, &malformed, Cut::Ends, Status::Malformed)?;
     let unread: [(Request, &str, &[u8]); 1] = [(DRAT.request, G, b"3 -1 0\n0")];
-    expect_none(&rt, alloc, &unread, Cut::Fails, Status::ReadFailed)
+    expect_none(alloc, &unread, Cut::Fails, Status::ReadFailed)
 }

@@ -1,16 +1,37 @@
 //! Proofs in DRAT that are cut after each of their bytes, by their end or by a failed read.
 
 use crate::support::{
-    BY_OTHER_RULES, Cuts, Cutting, E_BINARY, E_BY_BINARY, E_BY_BINARY_TRACED, E_BY_DRAT,
-    E_BY_DRAT_TRACED, E_DRAT, E_SHOWN, Expected, Row, UNREAD_AFTER_ONE, UNREAD_PROOF, expect_cuts,
-    expect_equal,
+    BY_OTHER_RULES, E_BINARY, E_BY_BINARY, E_BY_BINARY_TRACED, E_BY_DRAT, E_BY_DRAT_TRACED, E_DRAT,
+    Expected, Row, UNREAD_AFTER_ONE, UNREAD_PROOF, expect_equal, expect_proof_cuts,
 };
 use std::test::Fail;
 
-const E_BY_OTHER_RULES: Row<'static> = Row {
-    request: BY_OTHER_RULES,
-    ..E_BY_DRAT
-};
+// Where a read fails, the first step counts from the byte after its last word on, and in the binary
+// form with its last byte.
+#[test]
+fn texts(rt: HostRuntime) -> Result<(), Fail> {
+    expect_equal(E_DRAT.len(), 6)?;
+    let by_other_rules = Row {
+        request: BY_OTHER_RULES,
+        ..E_BY_DRAT
+    };
+    for row in [E_BY_DRAT, by_other_rules] {
+        let failures = [(4, UNREAD_PROOF), (6, UNREAD_PROOF)];
+        expect_proof_cuts(rt.alloc(), row, &[&STEPS], &failures)?;
+    }
+    let failures = [(4, UNREAD_PROOF), (6, UNREAD_AFTER_ONE)];
+    expect_proof_cuts(rt.alloc(), E_BY_DRAT_TRACED, &[&TRACED_STEPS], &failures)
+}
+
+#[test]
+fn binary(rt: HostRuntime) -> Result<(), Fail> {
+    let alloc = rt.alloc();
+    expect_equal(E_BINARY.len(), 5)?;
+    let failures = [(3, UNREAD_PROOF), (5, UNREAD_PROOF)];
+    expect_proof_cuts(alloc, E_BY_BINARY, &[&BINARY_STEPS], &failures)?;
+    let traced = [(3, UNREAD_PROOF), (5, UNREAD_AFTER_ONE)];
+    expect_proof_cuts(alloc, E_BY_BINARY_TRACED, &[&TRACED_BINARY_STEPS], &traced)
+}
 
 // For the first n bytes of the proof, for each n from 0 to 4. The whole one has 6.
 const STEPS: [Expected<'static>; 5] = [
@@ -46,50 +67,3 @@ const TRACED_BINARY_STEPS: [Expected<'static>; 5] = [
     ("c 1 add rup\nc end: no empty clause", 1),
     ("c 1 add rup\nc proof byte 5: unterminated step", 2),
 ];
-
-// Where a read fails, the first step counts from the byte after its last word on, and in the binary
-// form with its last byte.
-const TEXT: Cuts<'static> = Cuts {
-    input: Cutting::Second(E_BY_DRAT, E_SHOWN),
-    ends: &[&STEPS],
-    failures: &[(4, UNREAD_PROOF), (6, UNREAD_PROOF)],
-};
-
-const OTHER_RULES: Cuts<'static> = Cuts {
-    input: Cutting::Second(E_BY_OTHER_RULES, E_SHOWN),
-    ends: &[&STEPS],
-    failures: &[(4, UNREAD_PROOF), (6, UNREAD_PROOF)],
-};
-
-const TRACED_TEXT: Cuts<'static> = Cuts {
-    input: Cutting::Second(E_BY_DRAT_TRACED, E_SHOWN),
-    ends: &[&TRACED_STEPS],
-    failures: &[(4, UNREAD_PROOF), (6, UNREAD_AFTER_ONE)],
-};
-
-const BINARY: Cuts<'static> = Cuts {
-    input: Cutting::Second(E_BY_BINARY, E_SHOWN),
-    ends: &[&BINARY_STEPS],
-    failures: &[(3, UNREAD_PROOF), (5, UNREAD_PROOF)],
-};
-
-const TRACED_BINARY: Cuts<'static> = Cuts {
-    input: Cutting::Second(E_BY_BINARY_TRACED, E_SHOWN),
-    ends: &[&TRACED_BINARY_STEPS],
-    failures: &[(3, UNREAD_PROOF), (5, UNREAD_AFTER_ONE)],
-};
-
-#[test]
-fn texts(rt: HostRuntime) -> Result<(), Fail> {
-    expect_equal(&rt, E_DRAT.len(), 6);
-    expect_cuts(&rt, rt.alloc(), &TEXT)?;
-    expect_cuts(&rt, rt.alloc(), &OTHER_RULES)?;
-    expect_cuts(&rt, rt.alloc(), &TRACED_TEXT)
-}
-
-#[test]
-fn binary(rt: HostRuntime) -> Result<(), Fail> {
-    expect_equal(&rt, E_BINARY.len(), 5);
-    expect_cuts(&rt, rt.alloc(), &BINARY)?;
-    expect_cuts(&rt, rt.alloc(), &TRACED_BINARY)
-}

@@ -2,7 +2,7 @@
 
 use crate::support::{
     BY_DRAT, Cut, DRAT, E, E_BY_BINARY_TRACED, E_BY_DRAT, E_DRAT, EMPTY_CLAUSE, G, MANY,
-    OUT_OF_RANGE, Row, expect, expect_all, expect_one_piece_further, expect_unread, repeated,
+    OUT_OF_RANGE, Row, expect_all, expect_one_piece_further, expect_unread, expect_unread_lines,
 };
 use std::test::Fail;
 
@@ -19,27 +19,19 @@ fn unread(rt: HostRuntime) -> Result<(), Fail> {
         second_cut: Cut::Fails,
         ..EMPTY_CLAUSE_BY_DRAT
     };
-    expect_unread(&rt, rt.alloc(), &row)?;
-    Ok(())
+    expect_unread(rt.alloc(), &row)
 }
 
 // The step that decides ends with the byte 5, and the whole has 400006.
 #[test]
 fn one_piece_further(rt: HostRuntime) -> Result<(), Fail> {
-    expect_one_piece_further(&rt, rt.alloc(), &E_BY_DRAT, 400006, 400006 - 65536 - 5)
+    expect_one_piece_further(rt.alloc(), &E_BY_DRAT, 400006, 400006 - 65536 - 5)
 }
 
 // Bad tokens after the step that decides, in more than a piece that is read at once.
 #[test]
 fn after_the_verdict(rt: HostRuntime) -> Result<(), Fail> {
-    let proof = repeated(rt.alloc(), E_DRAT, b"?\n", MANY, b"")?;
-    let row = Row {
-        name: "bad tokens",
-        second: proof.as_slice(),
-        second_cut: Cut::Fails,
-        ..E_BY_DRAT
-    };
-    expect(&rt, rt.alloc(), &row)
+    expect_unread_lines(rt.alloc(), &E_BY_DRAT, MANY)
 }
 
 const ROWS: [Row<'static>; 8] = [
@@ -109,5 +101,5 @@ const ROWS: [Row<'static>; 8] = [
 
 #[test]
 fn rows(rt: HostRuntime) -> Result<(), Fail> {
-    expect_all(&rt, rt.alloc(), &ROWS)
+    expect_all(rt.alloc(), &ROWS)
 }

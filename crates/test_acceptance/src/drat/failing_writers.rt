@@ -18,12 +18,11 @@ const ROWS: [Row<'static>; 4] = [
 
 #[test]
 fn ten_bytes(rt: HostRuntime) -> Result<(), Fail> {
-    expect_ten_bytes(&rt, rt.alloc(), &E_BY_DRAT, b"c formula ")?;
-    Ok(())
+    expect_ten_bytes(rt.alloc(), &E_BY_DRAT, b"c formula ")
 }
 
 #[test]
 fn failing_writers(rt: HostRuntime) -> Result<(), Fail> {
-    expect_equal(&rt, E_BY_DRAT.report(rt.alloc())?.len(), 60);
-    expect_any_room(&rt, rt.alloc(), &ROWS)
+    expect_equal(E_BY_DRAT.report(rt.alloc())?.len(), 60)?;
+    expect_any_room(rt.alloc(), &ROWS)
 }

@@ -6,6 +6,11 @@ use std::test::Fail;
 // All clauses of 1 and 2, which have no model, and two others.
 const FORMULA: &str = "p cnf 5 6\n1 2 0\n-1 2 0\n1 -2 0\n-1 -2 0\n3 4 0\n5 0\n";
 
+#[test]
+fn rows(rt: HostRuntime) -> Result<(), Fail> {
+    expect_all(rt.alloc(), &ROWS)
+}
+
 const ROWS: [Row<'static>; 3] = [
     Row {
         name: "a proof with each kind of step",
@@ -35,8 +40,3 @@ const ROWS: [Row<'static>; 3] = [
         ..DRAT_STRICT
     },
 ];
-
-#[test]
-fn rows(rt: HostRuntime) -> Result<(), Fail> {
-    expect_all(&rt, rt.alloc(), &ROWS)
-}

@@ -55,7 +55,7 @@ const OF_DRAT: Cuts<'static> = Cuts {
 
 #[test]
 fn cuts(rt: HostRuntime) -> Result<(), Fail> {
-    expect_equal(&rt, E.len(), 38);
-    expect_cuts(&rt, rt.alloc(), &OF_LRAT)?;
-    expect_cuts(&rt, rt.alloc(), &OF_DRAT)
+    expect_equal(E.len(), 38)?;
+    expect_cuts(rt.alloc(), &OF_LRAT)?;
+    expect_cuts(rt.alloc(), &OF_DRAT)
 }

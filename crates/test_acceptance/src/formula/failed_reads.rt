@@ -3,7 +3,6 @@
 
 use crate::support::{Cut, E_PROOF, LRAT, LRAT_TRACED, Row, expect};
 use std::alloc::Global;
-use std::process::Abort;
 use std::test::Fail;
 
 // Texts that show no fault.
@@ -47,13 +46,7 @@ const UNREAD: [Row<'static>; 3] = [
     },
 ];
 
-fn expect_cut<'a>(
-    rt: &impl Abort,
-    alloc: Global,
-    formula: &'a str,
-    lines: &'a str,
-    status: u8,
-) -> Result<(), Fail> {
+fn expect_cut<'a>(alloc: Global, formula: &'a str, lines: &'a str, status: u8) -> Result<(), Fail> {
     for base in UNREAD {
         let row = Row {
             name: formula,
@@ -63,7 +56,7 @@ fn expect_cut<'a>(
             status,
             ..base
         };
-        expect(rt, alloc, &row)?;
+        expect(alloc, &row)?;
     }
     Ok(())
 }
@@ -71,10 +64,10 @@ fn expect_cut<'a>(
 #[test]
 fn failed_reads(rt: HostRuntime) -> Result<(), Fail> {
     for formula in UNREADABLE {
-        expect_cut(&rt, rt.alloc(), formula, "c cannot read formula", 3)?;
+        expect_cut(rt.alloc(), formula, "c cannot read formula", 3)?;
     }
     for (formula, line) in FAULTS_BEFORE {
-        expect_cut(&rt, rt.alloc(), formula, line, 2)?;
+        expect_cut(rt.alloc(), formula, line, 2)?;
     }
     Ok(())
 }

@@ -1,8 +1,8 @@
 //! Proofs in LRAT that are cut after each of their bytes, by their end or by a failed read.
 
 use crate::support::{
-    Cuts, Cutting, E_BY_LRAT, E_BY_LRAT_TRACED, E_PROOF, E_SHOWN, Expected, UNREAD_AFTER_ONE,
-    UNREAD_PROOF, expect_cuts, expect_equal,
+    E_BY_LRAT, E_BY_LRAT_TRACED, E_PROOF, Expected, UNREAD_AFTER_ONE, UNREAD_PROOF, expect_equal,
+    expect_proof_cuts,
 };
 use std::test::Fail;
 
@@ -35,22 +35,11 @@ const STEPS: [Expected<'static>; 23] = [
     ("c proof 2:11: unterminated step", 2),
 ];
 
-const PROOF: Cuts<'static> = Cuts {
-    input: Cutting::Second(E_BY_LRAT, E_SHOWN),
-    ends: &[&STEPS],
-    failures: &[(24, UNREAD_PROOF)],
-};
-
 // The first step counts from its line feed on.
-const TRACED_PROOF: Cuts<'static> = Cuts {
-    input: Cutting::Second(E_BY_LRAT_TRACED, E_SHOWN),
-    ends: &[],
-    failures: &[(12, UNREAD_PROOF), (24, UNREAD_AFTER_ONE)],
-};
-
 #[test]
 fn cuts(rt: HostRuntime) -> Result<(), Fail> {
-    expect_equal(&rt, E_PROOF.len(), 24);
-    expect_cuts(&rt, rt.alloc(), &PROOF)?;
-    expect_cuts(&rt, rt.alloc(), &TRACED_PROOF)
+    expect_equal(E_PROOF.len(), 24)?;
+    expect_proof_cuts(rt.alloc(), E_BY_LRAT, &[&STEPS], &[(24, UNREAD_PROOF)])?;
+    let failures = [(12, UNREAD_PROOF), (24, UNREAD_AFTER_ONE)];
+    expect_proof_cuts(rt.alloc(), E_BY_LRAT_TRACED, &[], &failures)
 }

@@ -2,7 +2,6 @@
 
 use crate::support::{Cut, E, E_LINE, LRAT, Row, expect_after};
 use std::alloc::Global;
-use std::process::Abort;
 use std::test::Fail;
 
 const CUT: Row<'static> = Row {
@@ -32,24 +31,18 @@ const JUDGED: [(&str, &str, u8); 3] = [
     ("5 9 0 9 0 ", "c step 1: unknown id 9", 1),
 ];
 
-fn expect_cut(
-    rt: &impl Abort,
-    alloc: Global,
-    proof: &str,
-    lines: &str,
-    status: u8,
-) -> Result<(), Fail> {
+fn expect_cut(alloc: Global, proof: &str, lines: &str, status: u8) -> Result<(), Fail> {
     let row = (proof, proof.as_bytes(), lines);
-    expect_after(rt, alloc, &CUT, (E, E_LINE), row, status)
+    expect_after(alloc, &CUT, (E, E_LINE), row, status)
 }
 
 #[test]
 fn failed_reads(rt: HostRuntime) -> Result<(), Fail> {
     for proof in UNREADABLE {
-        expect_cut(&rt, rt.alloc(), proof, "c cannot read proof", 3)?;
+        expect_cut(rt.alloc(), proof, "c cannot read proof", 3)?;
     }
     for (proof, lines, status) in JUDGED {
-        expect_cut(&rt, rt.alloc(), proof, lines, status)?;
+        expect_cut(rt.alloc(), proof, lines, status)?;
     }
     Ok(())
 }

@@ -32,12 +32,11 @@ const ROWS: [Row<'static>; 6] = [
 
 #[test]
 fn ten_bytes(rt: HostRuntime) -> Result<(), Fail> {
-    expect_equal(&rt, E_BY_LRAT.report(rt.alloc())?.len(), 60);
-    expect_ten_bytes(&rt, rt.alloc(), &E_BY_LRAT, b"c formula ")?;
-    Ok(())
+    expect_equal(E_BY_LRAT.report(rt.alloc())?.len(), 60)?;
+    expect_ten_bytes(rt.alloc(), &E_BY_LRAT, b"c formula ")
 }
 
 #[test]
 fn failing_writers(rt: HostRuntime) -> Result<(), Fail> {
-    expect_any_room(&rt, rt.alloc(), &ROWS)
+    expect_any_room(rt.alloc(), &ROWS)
 }

@@ -1,8 +1,8 @@
 //! What is read of a proof, and inputs that can't be opened.
 
 use crate::support::{
-    Cut, E, E_BY_LRAT, E_PROOF, EMPTY_CLAUSE, LRAT, OUT_OF_RANGE, Row, expect, expect_all,
-    expect_one_piece_further, expect_read, expect_unread, repeated,
+    Cut, E, E_BY_LRAT, E_PROOF, EMPTY_CLAUSE, LRAT, OUT_OF_RANGE, Row, expect_all,
+    expect_one_piece_further, expect_read, expect_unread, expect_unread_lines,
 };
 use std::test::Fail;
 
@@ -57,61 +57,54 @@ fn unread(rt: HostRuntime) -> Result<(), Fail> {
                 second_cut,
                 ..row
             };
-            expect_unread(&rt, rt.alloc(), &row)?;
+            expect_unread(rt.alloc(), &row)?;
         }
     }
-    expect_read(&rt, rt.alloc(), &E_BY_LRAT)?;
-    Ok(())
+    expect_read(rt.alloc(), &E_BY_LRAT)
 }
 
-// The proof of `E`, so many further lines, and a failed read.
+// The proof of `E`, and further lines.
 #[test]
 fn after_the_verdict(rt: HostRuntime) -> Result<(), Fail> {
-    let proof = repeated(rt.alloc(), E_PROOF, b"?\n", 10, b"")?;
-    let row = Row {
-        name: "bad tokens",
-        second: proof.as_slice(),
-        second_cut: Cut::Fails,
-        ..E_BY_LRAT
-    };
-    expect(&rt, rt.alloc(), &row)
+    expect_unread_lines(rt.alloc(), &E_BY_LRAT, 10)
 }
 
 // The step that decides ends with the byte 23, and the whole has 400024.
 #[test]
 fn one_piece_further(rt: HostRuntime) -> Result<(), Fail> {
-    expect_one_piece_further(&rt, rt.alloc(), &E_BY_LRAT, 400024, 400024 - 65536 - 23)
+    expect_one_piece_further(rt.alloc(), &E_BY_LRAT, 400024, 400024 - 65536 - 23)
 }
 
-// A file that can't be opened is a reader whose first read fails.
-const UNOPENED: [Row<'static>; 3] = [
-    Row {
-        name: "no proof",
-        formula: E,
-        second_cut: Cut::Fails,
-        lines: "c formula 2 variables 4 clauses\nc cannot read proof",
-        status: 3,
-        ..LRAT
-    },
-    Row {
-        name: "no formula",
-        formula_cut: Cut::Fails,
-        second: E_PROOF,
-        lines: "c cannot read formula",
-        status: 3,
-        ..LRAT
-    },
-    Row {
-        name: "nothing",
-        formula_cut: Cut::Fails,
-        second_cut: Cut::Fails,
-        lines: "c cannot read formula",
-        status: 3,
-        ..LRAT
-    },
-];
+// Without its formula.
+const UNREAD_FORMULA: Row<'static> = Row {
+    formula_cut: Cut::Fails,
+    lines: "c cannot read formula",
+    status: 3,
+    ..LRAT
+};
 
+// A file that can't be opened is a reader whose first read fails.
 #[test]
 fn unopened(rt: HostRuntime) -> Result<(), Fail> {
-    expect_all(&rt, rt.alloc(), &UNOPENED)
+    let rows = [
+        Row {
+            name: "no proof",
+            formula: E,
+            second_cut: Cut::Fails,
+            lines: "c formula 2 variables 4 clauses\nc cannot read proof",
+            status: 3,
+            ..LRAT
+        },
+        Row {
+            name: "no formula",
+            second: E_PROOF,
+            ..UNREAD_FORMULA
+        },
+        Row {
+            name: "nothing",
+            second_cut: Cut::Fails,
+            ..UNREAD_FORMULA
+        },
+    ];
+    expect_all(rt.alloc(), &rows)
 }

@@ -65,8 +65,8 @@ const FORMULA: Cuts<'static> = Cuts {
 
 #[test]
 fn cuts(rt: HostRuntime) -> Result<(), Fail> {
-    expect_equal(&rt, MODELS.len(), 21);
-    expect_equal(&rt, MODELS_OUTPUT.len(), 22);
-    expect_cuts(&rt, rt.alloc(), &OUTPUT)?;
-    expect_cuts(&rt, rt.alloc(), &FORMULA)
+    expect_equal(MODELS.len(), 21)?;
+    expect_equal(MODELS_OUTPUT.len(), 22)?;
+    expect_cuts(rt.alloc(), &OUTPUT)?;
+    expect_cuts(rt.alloc(), &FORMULA)
 }

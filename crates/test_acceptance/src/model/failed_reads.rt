@@ -15,15 +15,14 @@ fn reads_no_further(rt: HostRuntime) -> Result<(), Fail> {
     let mut output = Pieces::new("v 1 -1 0\n", 1, Cut::Ends);
     let writer = Writer::new(alloc, usize::MAX, Stop::TakesNone);
     let (code, _) = Engine::Model.run(alloc, &mut formula, &mut output, writer);
-    expect_equal(&rt, code, 1);
-    expect_equal(&rt, formula.reads, 0);
+    expect_equal(code, 1)?;
+    expect_equal(formula.reads, 0)?;
     let mut formula = Pieces::new("p cnf 2 2\n-1 0\n2 0\n", 1, Cut::Ends);
     let mut output = Pieces::of_bytes(MODELS_OUTPUT, 1, Cut::Ends);
     let writer = Writer::new(alloc, usize::MAX, Stop::TakesNone);
     let (code, _) = Engine::Model.run(alloc, &mut formula, &mut output, writer);
-    expect_equal(&rt, code, 1);
-    expect_equal(&rt, formula.left(), 4);
-    Ok(())
+    expect_equal(code, 1)?;
+    expect_equal(formula.left(), 4)
 }
 
 const UNREAD_OUTPUT: Row<'static> = Row {
@@ -124,5 +123,5 @@ const ROWS: [Row<'static>; 12] = [
 
 #[test]
 fn rows(rt: HostRuntime) -> Result<(), Fail> {
-    expect_all(&rt, rt.alloc(), &ROWS)
+    expect_all(rt.alloc(), &ROWS)
 }

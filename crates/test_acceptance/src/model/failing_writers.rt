@@ -5,6 +5,6 @@ use std::test::Fail;
 
 #[test]
 fn failing_writers(rt: HostRuntime) -> Result<(), Fail> {
-    expect_equal(&rt, MODELS_MET.report(rt.alloc())?.len(), 29);
-    expect_any_room(&rt, rt.alloc(), &[MODELS_MET])
+    expect_equal(MODELS_MET.report(rt.alloc())?.len(), 29)?;
+    expect_any_room(rt.alloc(), &[MODELS_MET])
 }

@@ -1,11 +1,9 @@
 //! Inputs that are cut after some of their bytes, by their end or by a failed read.
 
-use crate::support::asserts::expect_true_at;
 use crate::support::reports::expect;
 use std::alloc::Global;
-use std::process::Abort;
 use std::test::Fail;
-use test_inputs::Cut;
+use test_inputs::{Cut, expect_true_at};
 use test_rows::Row;
 
 // A run, of which one input is cut.
@@ -69,19 +67,13 @@ impl<'a> Cutting<'a> {
     }
 
     // So many bytes of the input.
-    fn expect_cut(
-        &self,
-        rt: &impl Abort,
-        alloc: Global,
-        n: usize,
-        expected: Expected<'_>,
-    ) -> Result<(), Fail> {
+    fn expect_cut(&self, alloc: Global, n: usize, expected: Expected<'_>) -> Result<(), Fail> {
         let whole = self.whole();
         let (formula, second) = match self {
             Cutting::Formula(_) => (whole.formula.get(..n), Some(whole.second)),
             Cutting::Second(..) => (Some(whole.formula), whole.second.get(..n)),
         };
-        expect_true_at(rt, n, formula.is_some() && second.is_some());
+        expect_true_at(n, formula.is_some() && second.is_some())?;
         let formula = formula.unwrap_or(whole.formula);
         let second = second.unwrap_or(whole.second);
         let (formula_length, second_length) = (formula.len(), second.len());
@@ -95,17 +87,11 @@ impl<'a> Cutting<'a> {
             status,
             ..whole
         };
-        expect(rt, alloc, &row)
+        expect(alloc, &row)
     }
 
     // The first n bytes of the input, for each n from this one on.
-    fn expect(
-        &self,
-        rt: &impl Abort,
-        alloc: Global,
-        first: usize,
-        rows: &[Expected<'_>],
-    ) -> Result<(), Fail> {
+    fn expect(&self, alloc: Global, first: usize, rows: &[Expected<'_>]) -> Result<(), Fail> {
         let before = match *self {
             Cutting::Formula(_) => "",
             Cutting::Second(_, before) => before,
@@ -113,7 +99,7 @@ impl<'a> Cutting<'a> {
         let mut n = first;
         for (lines, status) in rows {
             let lines = format!(in alloc; "{before}{lines}")?;
-            self.expect_cut(rt, alloc, n, (lines.as_str(), *status))?;
+            self.expect_cut(alloc, n, (lines.as_str(), *status))?;
             n = n.saturating_add(1);
         }
         Ok(())
@@ -121,48 +107,38 @@ impl<'a> Cutting<'a> {
 
     // The tables say what comes of the first n bytes of the input, for each n from 0 on. With more
     // of them all is read.
-    fn expect_ends(
-        &self,
-        rt: &impl Abort,
-        alloc: Global,
-        tables: &[&[Expected<'_>]],
-    ) -> Result<(), Fail> {
+    fn expect_ends(&self, alloc: Global, tables: &[&[Expected<'_>]]) -> Result<(), Fail> {
         let mut first = 0usize;
         for table in tables {
-            self.expect(rt, alloc, first, table)?;
+            self.expect(alloc, first, table)?;
             first = first.saturating_add(table.len());
         }
-        self.expect_whole(rt, alloc, first)
+        self.expect_whole(alloc, first)
     }
 
     // Each row says what comes of fewer bytes than its number, where a read fails after them. With
     // more of them all is read.
-    fn expect_failures(
-        &self,
-        rt: &impl Abort,
-        alloc: Global,
-        rows: &[(usize, Expected<'_>)],
-    ) -> Result<(), Fail> {
+    fn expect_failures(&self, alloc: Global, rows: &[(usize, Expected<'_>)]) -> Result<(), Fail> {
         let failing = self.failing();
         let mut first = 0;
         for (end, expected) in rows {
             for n in first..*end {
-                failing.expect(rt, alloc, n, &[*expected])?;
+                failing.expect(alloc, n, &[*expected])?;
             }
             first = *end;
         }
-        failing.expect_whole(rt, alloc, first)
+        failing.expect_whole(alloc, first)
     }
 
     // The first n bytes of the input are enough, for each n from this one on.
-    fn expect_whole(&self, rt: &impl Abort, alloc: Global, first: usize) -> Result<(), Fail> {
+    fn expect_whole(&self, alloc: Global, first: usize) -> Result<(), Fail> {
         let whole = self.whole();
         let length = match self {
             Cutting::Formula(row) => row.formula.len(),
             Cutting::Second(row, _) => row.second.len(),
         };
         for n in first..=length {
-            self.expect_cut(rt, alloc, n, (whole.lines, whole.status))?;
+            self.expect_cut(alloc, n, (whole.lines, whole.status))?;
         }
         Ok(())
     }
@@ -179,9 +155,27 @@ pub struct Cuts<'a> {
     pub failures: &'a [(usize, Expected<'a>)],
 }
 
-pub fn expect_cuts(rt: &impl Abort, alloc: Global, cuts: &Cuts<'_>) -> Result<(), Fail> {
+pub fn expect_cuts(alloc: Global, cuts: &Cuts<'_>) -> Result<(), Fail> {
     if !cuts.ends.is_empty() {
-        cuts.input.expect_ends(rt, alloc, cuts.ends)?;
+        cuts.input.expect_ends(alloc, cuts.ends)?;
     }
-    cuts.input.expect_failures(rt, alloc, cuts.failures)
+    cuts.input.expect_failures(alloc, cuts.failures)
+}
+
+// What comes of a proof of `E` that is cut.
+pub fn expect_proof_cuts(
+    alloc: Global,
+    row: Row<'_>,
+    ends: &[&[Expected<'_>]],
+    failures: &[(usize, Expected<'_>)],
+) -> Result<(), Fail> {
+    let input = Cutting::Second(row, E_SHOWN);
+    expect_cuts(
+        alloc,
+        &Cuts {
+            input,
+            ends,
+            failures,
+        },
+    )
 }

@@ -1,24 +1,34 @@
 //! How much is read of a second input.
 
-use crate::support::asserts::{expect_equal, expect_true_at};
+use crate::support::reports::expect;
 use std::alloc::Global;
-use std::process::Abort;
 use std::test::Fail;
-use test_inputs::{MANY, Pieces, Stop, Writer, repeated};
+use test_inputs::{Cut, MANY, Pieces, Stop, Writer, expect_equal, expect_true_at, repeated};
 use test_rows::Row;
+
+// So many lines that can't be read, and a failed read, come after the step that decides.
+pub fn expect_unread_lines(alloc: Global, row: &Row<'_>, count: usize) -> Result<(), Fail> {
+    let bytes = repeated(alloc, row.second, b"?\n", count, b"")?;
+    let row = Row {
+        name: "bad tokens",
+        second: bytes.as_slice(),
+        second_cut: Cut::Fails,
+        ..*row
+    };
+    expect(alloc, &row)
+}
 
 // After the second input come 400000 bytes more, which makes so many. They are handed out in pieces
 // as large as one likes. No more than one piece is read past the step that decides: at least so
 // many bytes are left.
 pub fn expect_one_piece_further(
-    rt: &impl Abort,
     alloc: Global,
     row: &Row<'_>,
     length: usize,
     least: usize,
 ) -> Result<(), Fail> {
     let bytes = repeated(alloc, row.second, b"1 0\n", MANY, b"")?;
-    expect_equal(rt, bytes.len(), length);
+    expect_equal(bytes.len(), length)?;
     let report = row.report(alloc)?;
     let engines = row.request.engines(alloc)?;
     for engine in engines.as_slice() {
@@ -26,10 +36,10 @@ pub fn expect_one_piece_further(
         let mut second = Pieces::of_bytes(bytes.as_slice(), usize::MAX, row.second_cut);
         let writer = Writer::new(alloc, usize::MAX, Stop::TakesNone);
         let (code, written) = engine.run(alloc, &mut formula, &mut second, writer);
-        expect_equal(rt, written.as_slice(), report.as_bytes());
-        expect_equal(rt, code, row.status);
+        expect_equal(written.as_slice(), report.as_bytes())?;
+        expect_equal(code, row.status)?;
         let left = second.left();
-        expect_true_at(rt, (left, engine), left >= least);
+        expect_true_at((left, engine), left >= least)?;
     }
     Ok(())
 }

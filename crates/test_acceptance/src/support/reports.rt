@@ -1,39 +1,34 @@
 //! Rows are run, and what comes out is compared.
 
-use crate::support::asserts::expect_equal_at;
 use std::alloc::{AllocError, Global};
 use std::fmt::Debug;
-use std::process::Abort;
 use std::test::Fail;
-use test_inputs::{Pieces, SIZES, Stop, Writer, text};
+use test_inputs::{Pieces, SIZES, Stop, Writer, expect_equal_at, text};
 use test_rows::{Engine, Row};
 
 // What was written, and the status. The first value tells where a failure is.
 pub fn expect_outcome<N: Copy + Debug>(
-    rt: &impl Abort,
     alloc: Global,
     at: N,
     found: &(u8, Vec<u8>),
     expected: (Option<&str>, u8),
-) -> Result<(), AllocError> {
+) -> Result<(), Fail> {
     let (code, written) = found;
     let (report, status) = expected;
     let written = text(alloc, written.as_slice())?;
-    expect_equal_at(rt, at, Some(written.as_str()), report);
-    expect_equal_at(rt, at, *code, status);
-    Ok(())
+    expect_equal_at(at, Some(written.as_str()), report)?;
+    expect_equal_at(at, *code, status)
 }
 
 // Runs over inputs in pieces of this size, and compares what is written and the status.
 // Where it is given whether the second input is asked for, that is compared too.
 fn expect_run(
-    rt: &impl Abort,
     alloc: Global,
     engine: Engine,
     row: &Row<'_>,
     size: usize,
     is_read: Option<bool>,
-) -> Result<(), AllocError> {
+) -> Result<(), Fail> {
     let mut formula = Pieces::new(row.formula, size, row.formula_cut);
     let mut second = Pieces::of_bytes(row.second, size, row.second_cut);
     let writer = Writer::new(alloc, usize::MAX, Stop::TakesNone);
@@ -41,48 +36,47 @@ fn expect_run(
     let report = row.report(alloc)?;
     let name = row.name;
     let expected = (Some(report.as_str()), row.status);
-    expect_outcome(rt, alloc, (name, engine, size), &found, expected)?;
+    expect_outcome(alloc, (name, engine, size), &found, expected)?;
     if let Some(expected) = is_read {
-        expect_equal_at(rt, (name, engine), second.reads > 0, expected);
+        expect_equal_at((name, engine), second.reads > 0, expected)?;
     }
     Ok(())
 }
 
 fn expect_runs(
-    rt: &impl Abort,
     alloc: Global,
     row: &Row<'_>,
     size: usize,
     is_read: Option<bool>,
-) -> Result<(), AllocError> {
+) -> Result<(), Fail> {
     let engines = row.request.engines(alloc)?;
     for engine in engines.as_slice() {
-        expect_run(rt, alloc, *engine, row, size, is_read)?;
+        expect_run(alloc, *engine, row, size, is_read)?;
     }
     Ok(())
 }
 
 // Nobody asks for the second input.
-pub fn expect_unread(rt: &impl Abort, alloc: Global, row: &Row<'_>) -> Result<(), AllocError> {
-    expect_runs(rt, alloc, row, 7, Some(false))
+pub fn expect_unread(alloc: Global, row: &Row<'_>) -> Result<(), Fail> {
+    expect_runs(alloc, row, 7, Some(false))
 }
 
 // Somebody asks for it: the count counts.
-pub fn expect_read(rt: &impl Abort, alloc: Global, row: &Row<'_>) -> Result<(), AllocError> {
-    expect_runs(rt, alloc, row, 7, Some(true))
+pub fn expect_read(alloc: Global, row: &Row<'_>) -> Result<(), Fail> {
+    expect_runs(alloc, row, 7, Some(true))
 }
 
 // Runs over inputs in pieces of four sizes.
-pub fn expect(rt: &impl Abort, alloc: Global, row: &Row<'_>) -> Result<(), Fail> {
+pub fn expect(alloc: Global, row: &Row<'_>) -> Result<(), Fail> {
     for size in SIZES {
-        expect_runs(rt, alloc, row, size, None)?;
+        expect_runs(alloc, row, size, None)?;
     }
     Ok(())
 }
 
-pub fn expect_all(rt: &impl Abort, alloc: Global, rows: &[Row<'_>]) -> Result<(), Fail> {
+pub fn expect_all(alloc: Global, rows: &[Row<'_>]) -> Result<(), Fail> {
     for row in rows {
-        expect(rt, alloc, row)?;
+        expect(alloc, row)?;
     }
     Ok(())
 }
@@ -90,7 +84,6 @@ pub fn expect_all(rt: &impl Abort, alloc: Global, rows: &[Row<'_>]) -> Result<()
 // A formula and the line of it, with a name, a second input and the lines that come after that of
 // the formula.
 pub fn expect_after(
-    rt: &impl Abort,
     alloc: Global,
     base: &Row<'_>,
     formula: (&str, &str),
@@ -108,5 +101,5 @@ pub fn expect_after(
         status,
         ..*base
     };
-    expect(rt, alloc, &row)
+    expect(alloc, &row)
 }

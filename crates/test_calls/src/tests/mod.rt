@@ -1,5 +1,4 @@
 //! The tests, and what they share.
 
-mod asserts;
 mod propagate;
 mod sessions;

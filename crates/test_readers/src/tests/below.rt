@@ -1,11 +1,11 @@
 //! What a reader and a writer of the standard library are asked, call by call.
 ghost use Rattle.std.specs.Prelude.{◌≤◌, IfOk};
 
-use crate::tests::asserts::{expect_equal_at, expect_true_at};
 use cnf_base::{FromRead, In};
 use std::io;
 use std::io::{ErrorKind, Read, Write};
 use std::test::Fail;
+use test_inputs::{expect_equal_at, expect_true_at};
 use writers::{Out, ToWrite};
 
 /// What the one below answers to a call: a count of bytes, or an error.
@@ -89,13 +89,14 @@ const READS: [([Answer; 3], usize, Option<usize>, usize); 6] = [
     (FAILS, 4, None, 2),
 ];
 
-// The last answer of so many reads, each with room for five bytes.
-fn read_times(reader: &mut impl In, times: usize) -> Option<usize> {
+// The last answer of so many reads, each with room for five bytes, and the error that came.
+fn read_times(below: &mut Scripted<'_>, times: usize) -> (Option<usize>, Option<ErrorKind>) {
+    let mut reader = FromRead::new(below);
     let mut last = None;
     for _ in 0..times {
         last = reader.read(&mut [0; 5]).ok();
     }
-    last
+    (last, reader.failure().map(|error| error.kind()))
 }
 
 // A reader is asked once a read, for as much, and no more once it gave its end or an error.
@@ -103,18 +104,15 @@ fn read_times(reader: &mut impl In, times: usize) -> Option<usize> {
 fn reads_below(rt: HostRuntime) -> Result<(), Fail> {
     for (answers, times, last, calls) in READS {
         let mut below = Scripted::new(&answers);
-        let mut reader = FromRead::new(&mut below);
-        let found = read_times(&mut reader, times);
-        let error = reader.failure().map(|error| error.kind());
-        expect_equal_at(&rt, times, found, last);
-        expect_equal_at(&rt, times, error.is_some(), last.is_none());
+        let (found, error) = read_times(&mut below, times);
+        expect_equal_at(times, found, last)?;
+        expect_equal_at(times, error.is_some(), last.is_none())?;
         expect_true_at(
-            &rt,
             times,
             error.is_none_or(|kind| kind == ErrorKind::StorageFull),
-        );
-        expect_equal_at(&rt, times, below.calls, calls);
-        expect_equal_at(&rt, times, below.bytes, calls.saturating_mul(5));
+        )?;
+        expect_equal_at(times, below.calls, calls)?;
+        expect_equal_at(times, below.bytes, calls.saturating_mul(5))?;
     }
     Ok(())
 }
@@ -128,7 +126,8 @@ const WRITTEN: [Answer; 4] = [
 ];
 
 // The last answer of so many of these calls, each write of three bytes: how many it took.
-fn write_times(writer: &mut impl Out, times: usize) -> Option<usize> {
+fn write_times(below: &mut Scripted<'_>, times: usize) -> Option<usize> {
+    let mut writer = ToWrite::new(below);
     let mut last = None;
     for call in 0..times {
         last = if call % 2 == 0 {
@@ -154,12 +153,11 @@ const WRITES: [(usize, Option<usize>, usize, usize); 4] = [
 fn writes_below(rt: HostRuntime) -> Result<(), Fail> {
     for (times, last, flushes, bytes) in WRITES {
         let mut below = Scripted::new(&WRITTEN);
-        let mut writer = ToWrite::new(&mut below);
-        let found = write_times(&mut writer, times);
-        expect_equal_at(&rt, times, found, last);
-        expect_equal_at(&rt, times, below.calls, times);
-        expect_equal_at(&rt, times, below.flushes, flushes);
-        expect_equal_at(&rt, times, below.bytes, bytes);
+        let found = write_times(&mut below, times);
+        expect_equal_at(times, found, last)?;
+        expect_equal_at(times, below.calls, times)?;
+        expect_equal_at(times, below.flushes, flushes)?;
+        expect_equal_at(times, below.bytes, bytes)?;
     }
     Ok(())
 }

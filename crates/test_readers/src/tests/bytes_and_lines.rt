@@ -1,33 +1,34 @@
 //! Bytes and tokens with their places, and lines out.
 
-use crate::tests::asserts::{expect_equal, expect_equal_at, fail_at};
 use cnf_base::{FromRead, Number, Place, ReadFailed, Scanner, Token, Word};
-use std::process::Abort;
 use std::test::Fail;
-use test_inputs::{Bytes, Cut, Pieces, SIZES, Stop, Writer, open, text};
+use test_inputs::{
+    Bytes, Cut, Pieces, SIZES, Stop, Writer, expect_equal, expect_equal_at, fail_at, open, text,
+};
 use writers::{LineOut, ToWrite, WriteFailed};
 
 // The byte, if there is one, its place and its number.
 fn expect_byte(
-    rt: &impl Abort,
     source: &mut Bytes<'_>,
     byte: Option<u8>,
     place: (u64, u64),
     number: u64,
-) {
+) -> Result<(), Fail> {
     let (line, col) = place;
-    expect_equal(rt, source.place(), Place { line, col });
-    expect_equal(rt, source.byte_no(), number);
+    expect_equal(source.place(), Place { line, col })?;
+    expect_equal(source.byte_no(), number)?;
     for _ in 0..2 {
-        expect_equal(rt, source.peek(), Ok(byte));
+        expect_equal(source.peek(), Ok(byte))?;
     }
+    Ok(())
 }
 
-fn take(rt: &impl Abort, source: &mut Bytes<'_>) {
+fn take(source: &mut Bytes<'_>) -> Result<(), Fail> {
     match source.peek() {
         Ok(Some(_)) => source.bump(),
-        Ok(None) | Err(ReadFailed) => fail_at(rt, "no byte"),
+        Ok(None) | Err(ReadFailed) => fail_at("no byte")?,
     }
+    Ok(())
 }
 
 const PLACES: [(u8, u64, u64); 6] = [
@@ -45,11 +46,11 @@ fn bytes(rt: HostRuntime) -> Result<(), Fail> {
         let mut source = open(rt.alloc(), b"a\n\r\n\nb", size, Cut::Ends)?;
         let mut number = 1u64;
         for (byte, line, col) in PLACES {
-            expect_byte(&rt, &mut source, Some(byte), (line, col), number);
-            take(&rt, &mut source);
+            expect_byte(&mut source, Some(byte), (line, col), number)?;
+            take(&mut source)?;
             number = number.saturating_add(1);
         }
-        expect_byte(&rt, &mut source, None, (4, 2), 7);
+        expect_byte(&mut source, None, (4, 2), 7)?;
         let _ = source.release();
     }
     Ok(())
@@ -58,12 +59,12 @@ fn bytes(rt: HostRuntime) -> Result<(), Fail> {
 #[test]
 fn failed_read(rt: HostRuntime) -> Result<(), Fail> {
     let mut source = open(rt.alloc(), b"a", 7, Cut::Fails)?;
-    expect_byte(&rt, &mut source, Some(b'a'), (1, 1), 1);
-    take(&rt, &mut source);
+    expect_byte(&mut source, Some(b'a'), (1, 1), 1)?;
+    take(&mut source)?;
     for _ in 0..2 {
-        expect_equal(&rt, source.peek(), Err(ReadFailed));
+        expect_equal(source.peek(), Err(ReadFailed))?;
     }
-    expect_equal(&rt, source.byte_no(), 2);
+    expect_equal(source.byte_no(), 2)?;
     let _ = source.release();
     Ok(())
 }
@@ -76,10 +77,14 @@ const fn number(is_negative: bool, size: u64) -> Word {
     Word::Number(Number { is_negative, size })
 }
 
-fn expect_tokens(rt: &impl Abort, scanner: &mut Scanner<FromRead<Pieces<'_>>>, tokens: &[Token]) {
+fn expect_tokens(
+    scanner: &mut Scanner<FromRead<Pieces<'_>>>,
+    tokens: &[Token],
+) -> Result<(), Fail> {
     for token in tokens {
-        expect_equal(rt, scanner.next(), Ok(*token));
+        expect_equal(scanner.next(), Ok(*token))?;
     }
+    Ok(())
 }
 
 #[test]
@@ -108,7 +113,7 @@ fn tokens(rt: HostRuntime) -> Result<(), Fail> {
     ];
     for size in SIZES {
         let mut scanner = Scanner::new(open(rt.alloc(), text.as_bytes(), size, Cut::Ends)?);
-        expect_tokens(&rt, &mut scanner, &tokens);
+        expect_tokens(&mut scanner, &tokens)?;
         let _ = scanner.release();
     }
     Ok(())
@@ -118,9 +123,9 @@ fn tokens(rt: HostRuntime) -> Result<(), Fail> {
 #[test]
 fn tokens_before_a_failed_read(rt: HostRuntime) -> Result<(), Fail> {
     let mut scanner = Scanner::new(open(rt.alloc(), b"1 2", 7, Cut::Fails)?);
-    expect_tokens(&rt, &mut scanner, &[word_token(1, 1, number(false, 1))]);
+    expect_tokens(&mut scanner, &[word_token(1, 1, number(false, 1))])?;
     for _ in 0..2 {
-        expect_equal(&rt, scanner.next(), Err(ReadFailed));
+        expect_equal(scanner.next(), Err(ReadFailed))?;
     }
     let _ = scanner.release();
     Ok(())
@@ -130,14 +135,13 @@ fn tokens_before_a_failed_read(rt: HostRuntime) -> Result<(), Fail> {
 fn lines(rt: HostRuntime) -> Result<(), Fail> {
     let mut writer = Writer::byte_a_call(rt.alloc());
     let mut lines = LineOut::new(ToWrite::new(&mut writer));
-    expect_equal(&rt, lines.line(b"one"), Ok(()));
-    expect_equal(&rt, lines.line(b""), Ok(()));
-    expect_equal(&rt, lines.line(b"three"), Ok(()));
-    expect_equal(&rt, lines.finish(), Ok(()));
+    expect_equal(lines.line(b"one"), Ok(()))?;
+    expect_equal(lines.line(b""), Ok(()))?;
+    expect_equal(lines.line(b"three"), Ok(()))?;
+    expect_equal(lines.finish(), Ok(()))?;
     let _ = lines.release();
     let written = text(rt.alloc(), writer.taken.as_slice())?;
-    expect_equal(&rt, written.as_str(), "one\n\nthree\n");
-    Ok(())
+    expect_equal(written.as_str(), "one\n\nthree\n")
 }
 
 // The bytes of a line, and how often the writer is given some of it, where it takes all that it is
@@ -151,15 +155,11 @@ fn writes(rt: HostRuntime) -> Result<(), Fail> {
     for (length, writes) in WRITES {
         let mut writer = Writer::new(rt.alloc(), usize::MAX, Stop::TakesNone);
         let mut lines = LineOut::new(ToWrite::new(&mut writer));
-        expect_equal(
-            &rt,
-            lines.line(bytes.get(..length).unwrap_or(&bytes)),
-            Ok(()),
-        );
+        expect_equal(lines.line(bytes.get(..length).unwrap_or(&bytes)), Ok(()))?;
         let _ = lines.release();
-        expect_equal_at(&rt, length, writer.writes, writes);
-        expect_equal(&rt, writer.taken.len(), length.saturating_add(1));
-        expect_equal(&rt, writer.taken.last(), Some(&b'\n'));
+        expect_equal_at(length, writer.writes, writes)?;
+        expect_equal(writer.taken.len(), length.saturating_add(1))?;
+        expect_equal(writer.taken.last(), Some(&b'\n'))?;
     }
     Ok(())
 }
@@ -169,12 +169,11 @@ fn writes(rt: HostRuntime) -> Result<(), Fail> {
 fn failed_write(rt: HostRuntime) -> Result<(), Fail> {
     let mut writer = Writer::new(rt.alloc(), 6, Stop::FailsOnce);
     let mut lines = LineOut::new(ToWrite::new(&mut writer));
-    expect_equal(&rt, lines.line(b"one"), Ok(()));
-    expect_equal(&rt, lines.line(b"two"), Err(WriteFailed));
-    expect_equal(&rt, lines.line(b"three"), Err(WriteFailed));
-    expect_equal(&rt, lines.finish(), Err(WriteFailed));
+    expect_equal(lines.line(b"one"), Ok(()))?;
+    expect_equal(lines.line(b"two"), Err(WriteFailed))?;
+    expect_equal(lines.line(b"three"), Err(WriteFailed))?;
+    expect_equal(lines.finish(), Err(WriteFailed))?;
     let _ = lines.release();
     let written = text(rt.alloc(), writer.taken.as_slice())?;
-    expect_equal(&rt, written.as_str(), "one\ntw");
-    Ok(())
+    expect_equal(written.as_str(), "one\ntw")
 }

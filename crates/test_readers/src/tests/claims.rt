@@ -1,12 +1,10 @@
 //! The reader of a solver's output.
 
-use crate::tests::asserts::{expect_equal, expect_equal_at, fail_at};
 use cnf_base::{Fault, FromRead, Lit, OutOfMemory, Place, Source, TextFault};
 use dimacs::{Model, read_claim};
 use std::alloc::Global;
-use std::process::Abort;
 use std::test::Fail;
-use test_inputs::{Cut, Pieces};
+use test_inputs::{Cut, Pieces, expect_equal, expect_equal_at, fail_at};
 
 // The claim of an output. The reader is handed back.
 fn claim_of(alloc: Global, pieces: &mut Pieces<'_>) -> Result<Model, Fault> {
@@ -19,11 +17,12 @@ fn claim_of(alloc: Global, pieces: &mut Pieces<'_>) -> Result<Model, Fault> {
     }
 }
 
-fn expect_held(rt: &impl Abort, model: &Model, number: i32, held: bool) {
+fn expect_held(model: &Model, number: i32, held: bool) -> Result<(), Fail> {
     match Lit::new(number) {
-        Some(lit) => expect_equal_at(rt, number, model.holds(lit), held),
-        None => fail_at(rt, number),
+        Some(lit) => expect_equal_at(number, model.holds(lit), held)?,
+        None => fail_at(number)?,
     }
+    Ok(())
 }
 
 #[test]
@@ -34,13 +33,13 @@ fn listed_literals_hold(rt: HostRuntime) -> Result<(), Fail> {
         match claim_of(rt.alloc(), &mut pieces) {
             Ok(model) => {
                 for listed in [1, -2, -268435455] {
-                    expect_held(&rt, &model, listed, true);
-                    expect_held(&rt, &model, -listed, false);
+                    expect_held(&model, listed, true)?;
+                    expect_held(&model, -listed, false)?;
                 }
-                expect_held(&rt, &model, 3, false);
-                expect_held(&rt, &model, -3, false);
+                expect_held(&model, 3, false)?;
+                expect_held(&model, -3, false)?;
             }
-            Err(_) => fail_at(&rt, "no claim"),
+            Err(_) => fail_at("no claim")?,
         }
     }
     Ok(())
@@ -51,7 +50,6 @@ fn listed_literals_hold(rt: HostRuntime) -> Result<(), Fail> {
 fn reader_is_handed_back(rt: HostRuntime) -> Result<(), Fail> {
     let mut pieces = Pieces::new("s SATISFIABLE\nv 1 x 2 0\n", 1, Cut::Ends);
     let bad = Fault::Text(TextFault::BadToken, Place { line: 2, col: 5 });
-    expect_equal(&rt, claim_of(rt.alloc(), &mut pieces).err(), Some(bad));
-    expect_equal(&rt, pieces.left(), 4);
-    Ok(())
+    expect_equal(claim_of(rt.alloc(), &mut pieces).err(), Some(bad))?;
+    expect_equal(pieces.left(), 4)
 }

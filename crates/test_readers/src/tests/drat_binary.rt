@@ -3,19 +3,17 @@
 use crate::tests::forms::{Form, Step, add, delete, expect_proof};
 use cnf_base::{BinaryFault, Fault};
 use std::alloc::{AllocError, Global};
-use std::process::Abort;
 use std::test::Fail;
 use test_inputs::{Cut, MANY, repeated};
 
 fn expect_bytes(
-    rt: &impl Abort,
     alloc: Global,
     bytes: &[u8],
     cut: Cut,
     steps: &[Step<'_>],
     last: Result<bool, Fault>,
 ) -> Result<(), Fail> {
-    expect_proof(rt, alloc, Form::Binary, (bytes, cut), steps, last)
+    expect_proof(alloc, Form::Binary, (bytes, cut), steps, last)
 }
 
 fn step_of(alloc: Global, number: &[u8]) -> Result<Vec<u8>, AllocError> {
@@ -47,35 +45,27 @@ fn literals(rt: HostRuntime) -> Result<(), Fail> {
         let bytes = step_of(rt.alloc(), number)?;
         let literals = [literal];
         let steps = [add(&literals)];
-        expect_bytes(
-            &rt,
-            rt.alloc(),
-            bytes.as_slice(),
-            Cut::Ends,
-            &steps,
-            Ok(false),
-        )?;
+        expect_bytes(rt.alloc(), bytes.as_slice(), Cut::Ends, &steps, Ok(false))?;
     }
     Ok(())
 }
 
 #[test]
 fn whole(rt: HostRuntime) -> Result<(), Fail> {
-    expect_bytes(&rt, rt.alloc(), b"", Cut::Ends, &[], Ok(false))?;
+    expect_bytes(rt.alloc(), b"", Cut::Ends, &[], Ok(false))?;
     let bytes = b"a\x02\x05\x82\x02\x00d\x02\x02\x00a\x00d\x00";
     let steps = [add(&[1, -2, 129]), delete(&[1, 1]), add(&[]), delete(&[])];
-    expect_bytes(&rt, rt.alloc(), bytes, Cut::Ends, &steps, Ok(false))
+    expect_bytes(rt.alloc(), bytes, Cut::Ends, &steps, Ok(false))
 }
 
 fn expect_faults(
-    rt: &impl Abort,
     alloc: Global,
     steps: &[Step<'_>],
     rows: &[(&[u8], BinaryFault, u64)],
 ) -> Result<(), Fail> {
     for (bytes, kind, byte_no) in rows {
         let fault = Fault::Binary(*kind, *byte_no);
-        expect_bytes(rt, alloc, bytes, Cut::Ends, steps, Err(fault))?;
+        expect_bytes(alloc, bytes, Cut::Ends, steps, Err(fault))?;
     }
     Ok(())
 }
@@ -114,13 +104,13 @@ fn faults(rt: HostRuntime) -> Result<(), Fail> {
             7,
         ),
     ];
-    expect_faults(&rt, rt.alloc(), &[], &rows)?;
+    expect_faults(rt.alloc(), &[], &rows)?;
     let rows = [
         (b"a\x04\x00\x00".as_slice(), BinaryFault::BadTag, 4),
         (b"a\x04\x00d\x01".as_slice(), BinaryFault::BadNumber, 5),
         (b"a\x04\x00d".as_slice(), BinaryFault::UnterminatedStep, 5),
     ];
-    expect_faults(&rt, rt.alloc(), &[add(&[2])], &rows)
+    expect_faults(rt.alloc(), &[add(&[2])], &rows)
 }
 
 // Numbers of many groups, which end so.
@@ -132,7 +122,7 @@ fn long_numbers(rt: HostRuntime) -> Result<(), Fail> {
         (0x80, BinaryFault::UnterminatedStep, 100003),
     ] {
         let bytes = repeated(rt.alloc(), b"a", b"\x80", MANY, &[last])?;
-        expect_faults(&rt, rt.alloc(), &[], &[(bytes.as_slice(), kind, byte_no)])?;
+        expect_faults(rt.alloc(), &[], &[(bytes.as_slice(), kind, byte_no)])?;
     }
     Ok(())
 }
@@ -141,11 +131,10 @@ fn long_numbers(rt: HostRuntime) -> Result<(), Fail> {
 fn failed_reads(rt: HostRuntime) -> Result<(), Fail> {
     for bytes in [b"".as_slice(), b"a", b"d\x02", b"a\x82"] {
         let failed = Err(Fault::ReadFailed);
-        expect_bytes(&rt, rt.alloc(), bytes, Cut::Fails, &[], failed)?;
+        expect_bytes(rt.alloc(), bytes, Cut::Fails, &[], failed)?;
     }
     let failed = Err(Fault::ReadFailed);
     expect_bytes(
-        &rt,
         rt.alloc(),
         b"d\x02\x00",
         Cut::Fails,

@@ -3,19 +3,17 @@
 use crate::tests::forms::{Form, Step, add, delete, expect_proof};
 use cnf_base::{Fault, Place, TextFault};
 use std::alloc::Global;
-use std::process::Abort;
 use std::test::Fail;
 use test_inputs::Cut;
 
 fn expect_text(
-    rt: &impl Abort,
     alloc: Global,
     text: &str,
     cut: Cut,
     steps: &[Step<'_>],
     last: Result<bool, Fault>,
 ) -> Result<(), Fail> {
-    expect_proof(rt, alloc, Form::Drat, (text.as_bytes(), cut), steps, last)
+    expect_proof(alloc, Form::Drat, (text.as_bytes(), cut), steps, last)
 }
 
 #[test]
@@ -37,13 +35,12 @@ fn whole(rt: HostRuntime) -> Result<(), Fail> {
             .as_slice(),
         ),
     ] {
-        expect_text(&rt, rt.alloc(), text, Cut::Ends, steps, Ok(false))?;
+        expect_text(rt.alloc(), text, Cut::Ends, steps, Ok(false))?;
     }
     Ok(())
 }
 
 fn expect_faults(
-    rt: &impl Abort,
     alloc: Global,
     steps: &[Step<'_>],
     rows: &[(&str, TextFault, u64, u64)],
@@ -54,7 +51,7 @@ fn expect_faults(
             col: *col,
         };
         let fault = Fault::Text(*kind, place);
-        expect_text(rt, alloc, text, Cut::Ends, steps, Err(fault))?;
+        expect_text(alloc, text, Cut::Ends, steps, Err(fault))?;
     }
     Ok(())
 }
@@ -83,12 +80,12 @@ fn faults(rt: HostRuntime) -> Result<(), Fail> {
         ("d\n", TextFault::UnterminatedStep, 2, 1),
         ("1 \n", TextFault::UnterminatedStep, 2, 1),
     ];
-    expect_faults(&rt, rt.alloc(), &[], &rows)?;
+    expect_faults(rt.alloc(), &[], &rows)?;
     let rows = [
         ("2 0\n-1", TextFault::UnterminatedStep, 2, 3),
         ("2 0 3 d 0", TextFault::BadToken, 1, 7),
     ];
-    expect_faults(&rt, rt.alloc(), &[add(&[2])], &rows)
+    expect_faults(rt.alloc(), &[add(&[2])], &rows)
 }
 
 // A token that touches a failed read doesn't count.
@@ -102,7 +99,7 @@ fn failed_reads(rt: HostRuntime) -> Result<(), Fail> {
         ("d 1 0 ", [delete(&[1])].as_slice()),
     ] {
         let failed = Err(Fault::ReadFailed);
-        expect_text(&rt, rt.alloc(), text, Cut::Fails, steps, failed)?;
+        expect_text(rt.alloc(), text, Cut::Fails, steps, failed)?;
     }
     Ok(())
 }

@@ -1,12 +1,10 @@
 //! Readers of steps, into one buffer.
 
-use crate::tests::asserts::expect_equal;
 use cnf_base::{Fault, Lit};
 use proofs::{DratBinary, DratText, LratText, StepBuf, StepEnd, StepKind, StepReader};
 use std::alloc::{AllocError, Global};
-use std::process::Abort;
 use std::test::Fail;
-use test_inputs::{Bytes, Cut, SIZES, open};
+use test_inputs::{Bytes, Cut, SIZES, expect_equal, open};
 
 // The forms of a proof.
 #[derive(Clone, Copy, Debug, PartialEq, Eq)]
@@ -36,49 +34,42 @@ pub fn numbers(alloc: Global, lits: &[Lit]) -> Result<Vec<i32>, AllocError> {
     Ok(all)
 }
 
-fn expect_step(
-    rt: &impl Abort,
-    alloc: Global,
-    step: &StepBuf,
-    expected: &Step<'_>,
-) -> Result<(), Fail> {
+fn expect_step(alloc: Global, step: &StepBuf, expected: &Step<'_>) -> Result<(), Fail> {
     let (kind, id, lits, hints) = *expected;
-    expect_equal(rt, step.kind(), kind);
-    expect_equal(rt, step.id(), id);
+    expect_equal(step.kind(), kind)?;
+    expect_equal(step.id(), id)?;
     let found = numbers(alloc, step.lits())?;
-    expect_equal(rt, found.as_slice(), lits);
-    expect_equal(rt, step.hints(), hints);
-    Ok(())
+    expect_equal(found.as_slice(), lits)?;
+    expect_equal(step.hints(), hints)
 }
 
 // The steps, and what comes after them at each further call.
 fn expect_steps<R: StepReader>(
-    rt: &impl Abort,
     alloc: Global,
     reader: &mut R,
     steps: &[Step<'_>],
     last: Result<bool, Fault>,
 ) -> Result<(), Fail> {
     let mut step = StepBuf::new(alloc);
-    expect_step(rt, alloc, &step, &(StepKind::Add, 0, &[], &[]))?;
+    expect_step(alloc, &step, &(StepKind::Add, 0, &[], &[]))?;
     for expected in steps {
-        expect_equal(rt, reader.next(&mut step), Ok(true));
-        expect_step(rt, alloc, &step, expected)?;
+        expect_equal(reader.next(&mut step), Ok(true))?;
+        expect_step(alloc, &step, expected)?;
     }
     for _ in 0..3 {
-        expect_equal(rt, reader.next(&mut step), last);
+        expect_equal(reader.next(&mut step), last)?;
     }
     Ok(())
 }
 
-fn expect_ends<R: StepReader>(rt: &impl Abort, alloc: Global, reader: &mut R, ends: &[StepEnd]) {
+fn expect_ends<R: StepReader>(alloc: Global, reader: &mut R, ends: &[StepEnd]) -> Result<(), Fail> {
     let mut step = StepBuf::new(alloc);
-    expect_equal(rt, reader.step_end(), None);
+    expect_equal(reader.step_end(), None)?;
     for end in ends {
-        expect_equal(rt, reader.next(&mut step), Ok(true));
-        expect_equal(rt, reader.step_end(), Some(*end));
+        expect_equal(reader.next(&mut step), Ok(true))?;
+        expect_equal(reader.step_end(), Some(*end))?;
     }
-    expect_equal(rt, reader.next(&mut step), Ok(false));
+    expect_equal(reader.next(&mut step), Ok(false))
 }
 
 // What a reader has to give.
@@ -91,20 +82,18 @@ enum Expected<'a> {
 }
 
 fn expect_read<R: StepReader>(
-    rt: &impl Abort,
     alloc: Global,
     reader: &mut R,
     expected: Expected<'_>,
 ) -> Result<(), Fail> {
     match expected {
-        Expected::Steps(steps, last) => expect_steps(rt, alloc, reader, steps, last)?,
-        Expected::Ends(ends) => expect_ends(rt, alloc, reader, ends),
+        Expected::Steps(steps, last) => expect_steps(alloc, reader, steps, last)?,
+        Expected::Ends(ends) => expect_ends(alloc, reader, ends)?,
     }
     Ok(())
 }
 
 fn expect_form(
-    rt: &impl Abort,
     alloc: Global,
     form: Form,
     source: Bytes<'_>,
@@ -113,17 +102,17 @@ fn expect_form(
     match form {
         Form::Lrat => {
             let mut reader = LratText::new(source);
-            expect_read(rt, alloc, &mut reader, expected)?;
+            expect_read(alloc, &mut reader, expected)?;
             let _ = reader.release();
         }
         Form::Drat => {
             let mut reader = DratText::new(source);
-            expect_read(rt, alloc, &mut reader, expected)?;
+            expect_read(alloc, &mut reader, expected)?;
             let _ = reader.release();
         }
         Form::Binary => {
             let mut reader = DratBinary::new(source);
-            expect_read(rt, alloc, &mut reader, expected)?;
+            expect_read(alloc, &mut reader, expected)?;
             let _ = reader.release();
         }
     }
@@ -132,7 +121,6 @@ fn expect_form(
 
 // A proof in pieces of four sizes.
 fn expect_pieces(
-    rt: &impl Abort,
     alloc: Global,
     form: Form,
     proof: (&[u8], Cut),
@@ -141,29 +129,27 @@ fn expect_pieces(
     let (bytes, cut) = proof;
     for size in SIZES {
         let source = open(alloc, bytes, size, cut)?;
-        expect_form(rt, alloc, form, source, expected)?;
+        expect_form(alloc, form, source, expected)?;
     }
     Ok(())
 }
 
 pub fn expect_proof(
-    rt: &impl Abort,
     alloc: Global,
     form: Form,
     proof: (&[u8], Cut),
     steps: &[Step<'_>],
     last: Result<bool, Fault>,
 ) -> Result<(), Fail> {
-    expect_pieces(rt, alloc, form, proof, Expected::Steps(steps, last))
+    expect_pieces(alloc, form, proof, Expected::Steps(steps, last))
 }
 
 // Where the steps of a proof end that has no fault.
 pub fn expect_step_ends(
-    rt: &impl Abort,
     alloc: Global,
     form: Form,
     bytes: &[u8],
     ends: &[StepEnd],
 ) -> Result<(), Fail> {
-    expect_pieces(rt, alloc, form, (bytes, Cut::Ends), Expected::Ends(ends))
+    expect_pieces(alloc, form, (bytes, Cut::Ends), Expected::Ends(ends))
 }

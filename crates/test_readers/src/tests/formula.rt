@@ -1,13 +1,11 @@
 //! The reader of formulas, clause by clause.
 
-use crate::tests::asserts::{expect_equal, expect_true, fail_at};
 use crate::tests::forms::numbers;
 use cnf_base::{Fault, FromRead, OutOfMemory, Place, TextFault};
 use dimacs::{ClauseBuf, FormulaReader, Header};
 use std::alloc::Global;
-use std::process::Abort;
 use std::test::Fail;
-use test_inputs::{Cut, Pieces, SIZES, open};
+use test_inputs::{Cut, Pieces, SIZES, expect_equal, expect_true, fail_at, open};
 
 type Reader<'a> = FormulaReader<FromRead<Pieces<'a>>>;
 
@@ -32,43 +30,40 @@ const fn at(kind: TextFault, line: u64, col: u64) -> Fault {
 }
 
 fn expect_next(
-    rt: &impl Abort,
     reader: &mut Reader<'_>,
     clause: &mut ClauseBuf,
     next: Result<bool, Fault>,
-) {
-    expect_equal(rt, reader.next(clause), next);
+) -> Result<(), Fail> {
+    expect_equal(reader.next(clause), next)
 }
 
 // The clauses, and what comes after them at each further call.
 fn expect_clauses(
-    rt: &impl Abort,
     alloc: Global,
     reader: &mut Reader<'_>,
     clauses: &[&[i32]],
     last: Result<bool, Fault>,
 ) -> Result<(), Fail> {
     let mut clause = ClauseBuf::new(alloc);
-    expect_true(rt, clause.lits().is_empty());
+    expect_true(clause.lits().is_empty())?;
     for expected in clauses {
-        expect_next(rt, reader, &mut clause, Ok(true));
+        expect_next(reader, &mut clause, Ok(true))?;
         let found = numbers(alloc, clause.lits())?;
-        expect_equal(rt, found.as_slice(), *expected);
+        expect_equal(found.as_slice(), *expected)?;
     }
     for _ in 0..3 {
-        expect_next(rt, reader, &mut clause, last);
+        expect_next(reader, &mut clause, last)?;
     }
     Ok(())
 }
 
-fn expect_header(rt: &impl Abort, reader: &Reader<'_>, header: Header) {
-    expect_equal(rt, reader.header(), header);
-    expect_equal(rt, reader.vars(), header.vars);
-    expect_equal(rt, reader.clauses(), header.clauses);
+fn expect_header(reader: &Reader<'_>, header: Header) -> Result<(), Fail> {
+    expect_equal(reader.header(), header)?;
+    expect_equal(reader.vars(), header.vars)?;
+    expect_equal(reader.clauses(), header.clauses)
 }
 
 fn expect_formula(
-    rt: &impl Abort,
     alloc: Global,
     text: &str,
     cut: Cut,
@@ -80,11 +75,11 @@ fn expect_formula(
         match open_formula(alloc, text, size, cut) {
             Ok(reader) => {
                 let mut reader = reader;
-                expect_header(rt, &reader, header);
-                expect_clauses(rt, alloc, &mut reader, clauses, last)?;
+                expect_header(&reader, header)?;
+                expect_clauses(alloc, &mut reader, clauses, last)?;
                 let _ = reader.release();
             }
-            Err(fault) => fail_at(rt, fault),
+            Err(fault) => fail_at(fault)?,
         }
     }
     Ok(())
@@ -104,12 +99,12 @@ fn whole(rt: HostRuntime) -> Result<(), Fail> {
         [].as_slice(),
         [2, 2, -2].as_slice(),
     ];
-    expect_formula(&rt, alloc, text, Cut::Ends, header, &clauses, Ok(false))?;
+    expect_formula(alloc, text, Cut::Ends, header, &clauses, Ok(false))?;
     let header = Header {
         vars: 3,
         clauses: 0,
     };
-    expect_formula(&rt, alloc, "p cnf 3 0", Cut::Ends, header, &[], Ok(false))
+    expect_formula(alloc, "p cnf 3 0", Cut::Ends, header, &[], Ok(false))
 }
 
 // What comes after the first clause of three of 1 and 2, and the fault. It is given again at each
@@ -132,20 +127,21 @@ fn faults(rt: HostRuntime) -> Result<(), Fail> {
     for (rest, kind, line, col) in FAULTS {
         let text = format!(in alloc; "p cnf 2 3\n1 2 0\n{rest}")?;
         let last = Err(at(kind, line, col));
-        expect_formula(&rt, alloc, text.as_str(), Cut::Ends, header, &clauses, last)?;
+        expect_formula(alloc, text.as_str(), Cut::Ends, header, &clauses, last)?;
     }
     let text = "p cnf 2 3\n1 2 0\n2";
     let last = Err(Fault::ReadFailed);
-    expect_formula(&rt, alloc, text, Cut::Fails, header, &clauses, last)
+    expect_formula(alloc, text, Cut::Fails, header, &clauses, last)
 }
 
-fn expect_unopened(rt: &impl Abort, alloc: Global, text: &str, cut: Cut, fault: Fault) {
+fn expect_unopened(alloc: Global, text: &str, cut: Cut, fault: Fault) -> Result<(), Fail> {
     for size in SIZES {
         match open_formula(alloc, text, size, cut) {
-            Ok(_) => fail_at(rt, text),
-            Err(found) => expect_equal(rt, found, fault),
+            Ok(_) => fail_at(text)?,
+            Err(found) => expect_equal(found, fault)?,
         }
     }
+    Ok(())
 }
 
 #[test]
@@ -161,7 +157,7 @@ fn unopened(rt: HostRuntime) -> Result<(), Fail> {
             at(TextFault::NumberTooLarge, 1, 7),
         ),
     ] {
-        expect_unopened(&rt, alloc, text, cut, fault);
+        expect_unopened(alloc, text, cut, fault)?;
     }
     Ok(())
 }

@@ -14,7 +14,7 @@ fn two_steps(rt: HostRuntime) -> Result<(), Fail> {
     ];
     let text = "5 2 0 1 2 0\n6 0 5 3 4 0\n";
     let proof = (text.as_bytes(), Cut::Ends);
-    expect_proof(&rt, rt.alloc(), Form::Lrat, proof, &steps, Ok(false))
+    expect_proof(rt.alloc(), Form::Lrat, proof, &steps, Ok(false))
 }
 
 #[test]
@@ -34,7 +34,7 @@ fn all_kinds(rt: HostRuntime) -> Result<(), Fail> {
     let text = "9223372036854775807 268435455 -268435455 -1 -1 0 0\n1 d 9223372036854775807 3 3 0\n\
             1 0 -1 2 2 -9223372036854775807 0 7\nd\nc x\n0 8 0 0";
     let proof = (text.as_bytes(), Cut::Ends);
-    expect_proof(&rt, rt.alloc(), Form::Lrat, proof, &steps, Ok(false))
+    expect_proof(rt.alloc(), Form::Lrat, proof, &steps, Ok(false))
 }
 
 // A fault is given again at each call.
@@ -62,7 +62,7 @@ fn faults(rt: HostRuntime) -> Result<(), Fail> {
         ("5 d 1 0 ", Cut::Fails, Fault::ReadFailed),
     ] {
         let proof = (text.as_bytes(), cut);
-        expect_proof(&rt, rt.alloc(), Form::Lrat, proof, &steps, Err(fault))?;
+        expect_proof(rt.alloc(), Form::Lrat, proof, &steps, Err(fault))?;
     }
     Ok(())
 }

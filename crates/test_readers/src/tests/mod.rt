@@ -1,6 +1,5 @@
 //! The tests, and what they share.
 
-mod asserts;
 mod below;
 mod bytes_and_lines;
 mod claims;

@@ -29,7 +29,7 @@ fn step_ends(rt: HostRuntime) -> Result<(), Fail> {
             [StepEnd::Byte(4), StepEnd::Byte(6)].as_slice(),
         ),
     ] {
-        expect_step_ends(&rt, rt.alloc(), form, bytes, ends)?;
+        expect_step_ends(rt.alloc(), form, bytes, ends)?;
     }
     Ok(())
 }

@@ -1,11 +1,9 @@
 //! What a step lists.
 
-use crate::tests::asserts::expect_equal;
 use proofs::{DratText, StepBuf, StepReader};
 use std::alloc::Global;
-use std::process::Abort;
 use std::test::Fail;
-use test_inputs::{Cut, open};
+use test_inputs::{Cut, expect_equal, open};
 
 // An addition, and how many of its literals are its clause, and how many its set.
 const ROWS: [(&[u8], (usize, usize)); 6] = [
@@ -18,22 +16,21 @@ const ROWS: [(&[u8], (usize, usize)); 6] = [
 ];
 
 fn expect_lengths<R: StepReader>(
-    rt: &impl Abort,
     alloc: Global,
     reader: &mut R,
     lengths: (usize, usize),
-) {
+) -> Result<(), Fail> {
     let mut step = StepBuf::new(alloc);
-    expect_equal(rt, reader.next(&mut step), Ok(true));
+    expect_equal(reader.next(&mut step), Ok(true))?;
     let (clause, set) = step.parts();
-    expect_equal(rt, (clause.len(), set.len()), lengths);
+    expect_equal((clause.len(), set.len()), lengths)
 }
 
 #[test]
 fn divides_a_clause_from_its_set(rt: HostRuntime) -> Result<(), Fail> {
     for (text, lengths) in ROWS {
         let mut reader = DratText::new(open(rt.alloc(), text, 7, Cut::Ends)?);
-        expect_lengths(&rt, rt.alloc(), &mut reader, lengths);
+        expect_lengths(rt.alloc(), &mut reader, lengths)?;
         let _ = reader.release();
     }
     Ok(())

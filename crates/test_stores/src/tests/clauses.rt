@@ -1,12 +1,10 @@
 //! The store of clauses, and its slots.
 
-use crate::tests::asserts::{expect_equal, expect_true, expect_true_at};
 use clause_db::{Blocks, Memory, NoIndex, Slot, Slots, Store};
 use cnf_base::{Lit, OutOfMemory};
 use std::alloc::Global;
-use std::process::Abort;
 use std::test::Fail;
-use test_inputs::{literal, literals};
+use test_inputs::{expect_equal, expect_true, expect_true_at, literal, literals};
 
 /// A call, and what it has to answer.
 #[derive(Clone, Copy, Debug, PartialEq, Eq)]
@@ -49,17 +47,12 @@ fn seen<M: Memory>(store: &mut Store<M>, lits: &[Lit], l: Lit) -> (u64, u64, boo
 
 /// Inserts the clause. Where memory is refused, it sees that nothing has changed, and tries once
 /// more.
-fn insert_again<M: Memory>(
-    rt: &impl Abort,
-    store: &mut Store<M>,
-    lits: &[Lit],
-    l: Lit,
-) -> Result<Slot, Fail> {
+fn insert_again<M: Memory>(store: &mut Store<M>, lits: &[Lit], l: Lit) -> Result<Slot, Fail> {
     let before = seen(store, lits, l);
     match store.insert(lits) {
         Ok(slot) => Ok(slot),
         Err(OutOfMemory) => {
-            expect_equal(rt, seen(store, lits, l), before);
+            expect_equal(seen(store, lits, l), before)?;
             Ok(store.insert(lits)?)
         }
     }
@@ -86,21 +79,17 @@ fn is_answered<M: Memory>(
     Ok(is_answered)
 }
 
-fn expect_calls<M: Memory + Drop>(
-    rt: &impl Abort,
-    alloc: Global,
-    calls: &[Call<'_>],
-) -> Result<(), Fail> {
+fn expect_calls<M: Memory + Drop>(alloc: Global, calls: &[Call<'_>]) -> Result<(), Fail> {
     let mut store = Store::<M>::new(alloc)?;
     let mut last = None;
     for call in calls {
         if let Call::Insert(numbers, with) = call {
             let lits = literals(alloc, numbers)?;
-            let slot = insert_again(rt, &mut store, lits.as_slice(), literal(*with)?)?;
-            expect_true_at(rt, *call, last != Some(slot));
+            let slot = insert_again(&mut store, lits.as_slice(), literal(*with)?)?;
+            expect_true_at(*call, last != Some(slot))?;
             last = Some(slot);
         } else {
-            expect_true_at(rt, *call, is_answered(alloc, &mut store, call)?);
+            expect_true_at(*call, is_answered(alloc, &mut store, call)?)?;
         }
     }
     Ok(())
@@ -138,15 +127,15 @@ const CALLS: [Call<'static>; 21] = [
 
 #[test]
 fn stores_finds_and_removes(rt: HostRuntime) -> Result<(), Fail> {
-    expect_calls::<Blocks>(&rt, rt.alloc(), &CALLS)?;
-    expect_calls::<Slots>(&rt, rt.alloc(), &CALLS)
+    expect_calls::<Blocks>(rt.alloc(), &CALLS)?;
+    expect_calls::<Slots>(rt.alloc(), &CALLS)
 }
 
 #[test]
-fn counts_slots(rt: HostRuntime) {
+fn counts_slots(rt: HostRuntime) -> Result<(), Fail> {
     let second = Slot::first().next();
-    expect_true(&rt, second.is_some());
-    expect_true(&rt, second != Some(Slot::first()));
+    expect_true(second.is_some())?;
+    expect_true(second != Some(Slot::first()))
 }
 
 /// Inserts the clause and takes it out again, and tells for how many clauses there is room then.
@@ -170,9 +159,8 @@ fn keeps_its_room(rt: HostRuntime) -> Result<(), Fail> {
             room = end;
         }
     }
-    expect_equal(&rt, store.end(), room);
-    expect_equal(&rt, store.literals(), 0);
-    Ok(())
+    expect_equal(store.end(), room)?;
+    expect_equal(store.literals(), 0)
 }
 
 fn insert_copies(store: &mut Store, lits: &[Lit], count: u32) -> Result<(), OutOfMemory> {
@@ -198,11 +186,10 @@ fn removes_many_copies(rt: HostRuntime) -> Result<(), Fail> {
     let [a, b] = [literal(1)?, literal(-2)?];
     let mut store = Store::new(rt.alloc())?;
     insert_copies(&mut store, &[a, b], 100000)?;
-    expect_equal(&rt, store.count_with(b), 100000);
-    expect_equal(&rt, take_out_copies(&mut store, &[b, a], 100000), 100000);
-    expect_true(&rt, store.find(&[a, b]).is_none());
-    expect_equal(&rt, store.count_with(a), 0);
-    Ok(())
+    expect_equal(store.count_with(b), 100000)?;
+    expect_equal(take_out_copies(&mut store, &[b, a], 100000), 100000)?;
+    expect_true(store.find(&[a, b]).is_none())?;
+    expect_equal(store.count_with(a), 0)
 }
 
 /// In how many clauses each of the two literals is.
@@ -229,14 +216,13 @@ fn counts_around(
 fn counts_before_and_after_it_keeps_the_counts(rt: HostRuntime) -> Result<(), Fail> {
     let lits = [literal(A)?, literal(B)?];
     let mut store = Store::without_index(rt.alloc())?;
-    expect_equal(&rt, counts_of(&store, lits), (0, 0));
-    expect_equal(&rt, counts_around(&mut store, lits)?, ((2, 1), (1, 0)));
+    expect_equal(counts_of(&store, lits), (0, 0))?;
+    expect_equal(counts_around(&mut store, lits)?, ((2, 1), (1, 0)))?;
     store.keep_counts()?;
-    expect_equal(&rt, counts_of(&store, lits), (1, 0));
-    expect_equal(&rt, counts_around(&mut store, lits)?, ((3, 1), (2, 0)));
+    expect_equal(counts_of(&store, lits), (1, 0))?;
+    expect_equal(counts_around(&mut store, lits)?, ((3, 1), (2, 0)))?;
     store.keep_counts()?;
-    expect_equal(&rt, counts_of(&store, lits), (2, 0));
-    Ok(())
+    expect_equal(counts_of(&store, lits), (2, 0))
 }
 
 #[test]
@@ -251,7 +237,6 @@ fn writes_a_new_watch(rt: HostRuntime) -> Result<(), Fail> {
     let Some(found) = store.find(&lits) else {
         return Err(Fail::from("no clause"));
     };
-    expect_true(&rt, found == slot);
-    expect_true(&rt, store.clause(found) == [other, next, l].as_slice());
-    Ok(())
+    expect_true(found == slot)?;
+    expect_true(store.clause(found) == [other, next, l].as_slice())
 }

@@ -1,12 +1,11 @@
 //! Identifiers, each with the number of its slot.
 
-use crate::tests::asserts::{expect_equal, expect_equal_at, expect_true_at};
 use clause_db::Slot;
 use cnf_base::OutOfMemory;
 use ids::Ids;
 use std::alloc::Global;
-use std::process::Abort;
 use std::test::Fail;
+use test_inputs::{expect_equal, expect_equal_at, expect_true_at};
 
 /// A call, and what it has to answer.
 #[derive(Clone, Copy, Debug, PartialEq, Eq)]
@@ -56,10 +55,10 @@ fn is_answered(ids: &mut Ids, call: Call) -> Result<bool, Fail> {
     Ok(is_answered)
 }
 
-fn expect_calls(rt: &impl Abort, alloc: Global, calls: &[Call]) -> Result<(), Fail> {
+fn expect_calls(alloc: Global, calls: &[Call]) -> Result<(), Fail> {
     let mut ids = Ids::new(alloc)?;
     for call in calls {
-        expect_true_at(rt, *call, is_answered(&mut ids, *call)?);
+        expect_true_at(*call, is_answered(&mut ids, *call)?)?;
     }
     Ok(())
 }
@@ -141,22 +140,11 @@ const FOUR_BYTES: [Call; 4] = [
 
 #[test]
 fn binds_and_unbinds(rt: HostRuntime) -> Result<(), Fail> {
-    expect_calls(&rt, rt.alloc(), &BINDS_AND_UNBINDS)
-}
-
-#[test]
-fn walks_over_far_and_near(rt: HostRuntime) -> Result<(), Fail> {
-    expect_calls(&rt, rt.alloc(), &FAR_AND_NEAR)
-}
-
-#[test]
-fn tells_pages_of_one_line_apart(rt: HostRuntime) -> Result<(), Fail> {
-    expect_calls(&rt, rt.alloc(), &ONE_LINE)
-}
-
-#[test]
-fn has_four_bytes_for_a_slot(rt: HostRuntime) -> Result<(), Fail> {
-    expect_calls(&rt, rt.alloc(), &FOUR_BYTES)
+    let rows: [&[Call]; 4] = [&BINDS_AND_UNBINDS, &FAR_AND_NEAR, &ONE_LINE, &FOUR_BYTES];
+    for calls in rows {
+        expect_calls(rt.alloc(), calls)?;
+    }
+    Ok(())
 }
 
 /// Binds so many identifiers in a row to slot 0.
@@ -168,13 +156,13 @@ fn bind_row(ids: &mut Ids, first: u64, count: u64) -> Result<(), OutOfMemory> {
 }
 
 /// They are bound, and are taken back.
-fn expect_unbound(rt: &impl Abort, ids: &mut Ids, first: u64, count: u64) {
+fn expect_unbound(ids: &mut Ids, first: u64, count: u64) -> Result<(), Fail> {
     for place in 0..count {
         let id = first.wrapping_add(place);
-        expect_equal_at(rt, id, slot_of(ids, id), Some(0));
-        expect_equal_at(rt, id, unbind(ids, id), Some(0));
+        expect_equal_at(id, slot_of(ids, id), Some(0))?;
+        expect_equal_at(id, unbind(ids, id), Some(0))?;
     }
-    expect_equal(rt, next_bound(ids, 0), None);
+    expect_equal(next_bound(ids, 0), None)
 }
 
 #[test]
@@ -182,7 +170,7 @@ fn takes_back_each(rt: HostRuntime) -> Result<(), Fail> {
     let mut ids = Ids::new(rt.alloc())?;
     for id in 1..100000 {
         bind_row(&mut ids, id, 1)?;
-        expect_unbound(&rt, &mut ids, id, 1);
+        expect_unbound(&mut ids, id, 1)?;
     }
     Ok(())
 }
@@ -192,7 +180,7 @@ fn uses_pages_again(rt: HostRuntime) -> Result<(), Fail> {
     let mut ids = Ids::new(rt.alloc())?;
     for round in 0..20u64 {
         bind_row(&mut ids, 102400 * round, 5000)?;
-        expect_unbound(&rt, &mut ids, 102400 * round, 5000);
+        expect_unbound(&mut ids, 102400 * round, 5000)?;
     }
     Ok(())
 }
@@ -204,49 +192,47 @@ fn keeps_far_identifiers(rt: HostRuntime) -> Result<(), Fail> {
     let far = 1u64 << 63;
     let mut ids = Ids::new(rt.alloc())?;
     bind_row(&mut ids, far, 3000)?;
-    expect_equal(&rt, slot_of(&ids, far + 3000), None);
-    expect_equal(&rt, next_bound(&ids, 0), Some((far, 0)));
-    expect_equal(&rt, next_bound(&ids, far + 1024), Some((far + 1024, 0)));
-    expect_equal(&rt, next_bound(&ids, far + 3000), None);
-    expect_unbound(&rt, &mut ids, far, 3000);
-    Ok(())
+    expect_equal(slot_of(&ids, far + 3000), None)?;
+    expect_equal(next_bound(&ids, 0), Some((far, 0)))?;
+    expect_equal(next_bound(&ids, far + 1024), Some((far + 1024, 0)))?;
+    expect_equal(next_bound(&ids, far + 3000), None)?;
+    expect_unbound(&mut ids, far, 3000)
 }
 
 /// Binds it, and once more where memory is refused: nothing is bound then that was not.
-fn bind_again(rt: &impl Abort, ids: &mut Ids, id: u64) -> Result<(), Fail> {
+fn bind_again(ids: &mut Ids, id: u64) -> Result<(), Fail> {
     let before = next_bound(ids, 0);
     if bind_new(ids, id, 0).is_err() {
-        expect_equal_at(rt, id, slot_of(ids, id), None);
-        expect_equal_at(rt, id, next_bound(ids, 0), before);
+        expect_equal_at(id, slot_of(ids, id), None)?;
+        expect_equal_at(id, next_bound(ids, 0), before)?;
         bind_new(ids, id, 0)?;
     }
-    expect_equal_at(rt, id, slot_of(ids, id), Some(0));
-    Ok(())
+    expect_equal_at(id, slot_of(ids, id), Some(0))
 }
 
 #[test]
 fn stays_where_memory_runs_out(rt: HostRuntime) -> Result<(), Fail> {
     let mut ids = Ids::new(rt.alloc())?;
     for id in [5, 9, 2, 7, 1, 8, 3, 6, 4] {
-        bind_again(&rt, &mut ids, id)?;
+        bind_again(&mut ids, id)?;
     }
     Ok(())
 }
 
 /// Binds so many identifiers, each so far past the one before, to slots in a row, and puts them in by
 /// their slots.
-fn expect_by_slot(rt: &impl Abort, alloc: Global, apart: u64, count: usize) -> Result<(), Fail> {
+fn expect_by_slot(alloc: Global, apart: u64, count: usize) -> Result<(), Fail> {
     let mut ids = Ids::new(alloc)?;
     for slot in 0..count {
         bind_new(&mut ids, (slot as u64).wrapping_mul(apart), slot)?;
     }
     let mut by_slot = Vec::new(alloc);
     ids.put_by_slot(&mut by_slot)?;
-    expect_equal(rt, by_slot.len(), count);
+    expect_equal(by_slot.len(), count)?;
     for slot in 0..by_slot.len() {
         let id = (slot as u64).wrapping_mul(apart);
-        expect_equal_at(rt, slot, by_slot[slot], id);
-        expect_equal_at(rt, slot, slot_of(&ids, id), Some(slot));
+        expect_equal_at(slot, by_slot[slot], id)?;
+        expect_equal_at(slot, slot_of(&ids, id), Some(slot))?;
     }
     Ok(())
 }
@@ -255,7 +241,7 @@ fn expect_by_slot(rt: &impl Abort, alloc: Global, apart: u64, count: usize) -> R
 #[test]
 fn puts_identifiers_in_by_their_slots(rt: HostRuntime) -> Result<(), Fail> {
     for apart in [1, 1024, 1024 * 64, 1 << 50] {
-        expect_by_slot(&rt, rt.alloc(), apart, 3000)?;
+        expect_by_slot(rt.alloc(), apart, 3000)?;
     }
     Ok(())
 }

@@ -1,11 +1,10 @@
 //! The lists by key.
 
-use crate::tests::asserts::expect_equal;
 use cnf_base::OutOfMemory;
 use std::alloc::Global;
-use std::process::Abort;
 use std::test::Fail;
 use tables::Lists;
+use test_inputs::expect_equal;
 
 /// For how many entries a list of one has room, after it was put back with room for so many more.
 fn room_kept(alloc: Global, key: u32, more: usize) -> Result<usize, OutOfMemory> {
@@ -23,8 +22,8 @@ fn room_kept(alloc: Global, key: u32, more: usize) -> Result<usize, OutOfMemory>
 #[test]
 fn gives_room_back(rt: HostRuntime) -> Result<(), Fail> {
     for key in [0, 50000, u32::MAX] {
-        expect_equal(&rt, room_kept(rt.alloc(), key, 1999)?, 256);
-        expect_equal(&rt, room_kept(rt.alloc(), key, 7)?, 8);
+        expect_equal(room_kept(rt.alloc(), key, 1999)?, 256)?;
+        expect_equal(room_kept(rt.alloc(), key, 7)?, 8)?;
     }
     Ok(())
 }

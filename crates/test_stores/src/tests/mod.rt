@@ -1,6 +1,5 @@
 //! The tests, and what they share.
 
-mod asserts;
 mod by_key;
 mod clauses;
 mod identifiers;

@@ -4,14 +4,12 @@ ghost use Rattle.std.specs.Prelude.{◌≡◌, [], OnOk};
 ghost use Rattle.propagation.specs.Assumptions.{LastIsAnswered};
 ghost use Rattle.propagation.specs.declared.answer.Answer.TheVariants.{Quiet};
 
-use crate::tests::asserts::{expect_equal, expect_true};
 use crate::tests::propagate::fresh::Fresh;
 use cnf_base::{Lit, OutOfMemory};
 use propagation::{Answer, Propagate, Scan, Value};
 use std::alloc::Global;
-use std::process::Abort;
 use std::test::Fail;
-use test_inputs::literals;
+use test_inputs::{expect_equal, expect_true, literals};
 use trail::LiteralSet;
 use watch::Watch;
 
@@ -87,7 +85,7 @@ fn propagates(rt: HostRuntime) -> Result<(), Fail> {
         (&[[1, 2]], &[-1, 3, 2], Some(&[1, -2, -3])),
     ];
     for row in &rows {
-        expect_true(&rt, both_find(rt.alloc(), row)?);
+        expect_true(both_find(rt.alloc(), row)?)?;
     }
     Ok(())
 }
@@ -140,10 +138,10 @@ fn keeps_what_has_another_reason(rt: HostRuntime) -> Result<(), Fail> {
     for (first, second, expected) in &rows {
         let scanned = left_true::<Scan>(rt.alloc(), &WITH_A_CYCLE, first, second)?;
         let scanned = scanned.as_ref().map(|all| all.as_slice());
-        expect_true(&rt, scanned == *expected);
+        expect_true(scanned == *expected)?;
         let watched = left_true::<Watch>(rt.alloc(), &WITH_A_CYCLE, first, second)?;
         let watched = watched.as_ref().map(|all| all.as_slice());
-        expect_true(&rt, watched == *expected);
+        expect_true(watched == *expected)?;
     }
     Ok(())
 }
@@ -174,14 +172,13 @@ const CLASHING_REST: [[i32; 2]; 2] = [[1, 2], [1, -2]];
 fn assumes_the_rest(rt: HostRuntime) -> Result<(), Fail> {
     let alloc = rt.alloc();
     let scanned = rest_answer::<Scan>(alloc, &QUIET_REST, &[2, 1], 2)?;
-    expect_equal(&rt, scanned, Some(Answer::Quiet));
+    expect_equal(scanned, Some(Answer::Quiet))?;
     let watched = rest_answer::<Watch>(alloc, &QUIET_REST, &[2, 1], 2)?;
-    expect_equal(&rt, watched, Some(Answer::Quiet));
+    expect_equal(watched, Some(Answer::Quiet))?;
     let scanned = rest_answer::<Scan>(alloc, &CLASHING_REST, &[2, 1], 2)?;
-    expect_equal(&rt, scanned, Some(Answer::Clash));
+    expect_equal(scanned, Some(Answer::Clash))?;
     let watched = rest_answer::<Watch>(alloc, &CLASHING_REST, &[2, 1], 2)?;
-    expect_equal(&rt, watched, Some(Answer::Clash));
-    Ok(())
+    expect_equal(watched, Some(Answer::Clash))
 }
 
 /// How a clause is answered but for what the set makes false, where nothing else is assumed; none
@@ -209,12 +206,12 @@ fn unless_answer<P: Fresh>(
     Ok(Some(answer))
 }
 
-fn expect_unless(rt: &impl Abort, alloc: Global, set: &[i32], answer: Answer) -> Result<(), Fail> {
+fn expect_unless(alloc: Global, set: &[i32], answer: Answer) -> Result<(), Fail> {
     for is_filled in [false, true] {
         let scanned = unless_answer::<Scan>(alloc, &[1, 2], set, is_filled)?;
-        expect_equal(rt, scanned, Some(answer));
+        expect_equal(scanned, Some(answer))?;
         let watched = unless_answer::<Watch>(alloc, &[1, 2], set, is_filled)?;
-        expect_equal(rt, watched, Some(answer));
+        expect_equal(watched, Some(answer))?;
     }
     Ok(())
 }
@@ -230,7 +227,7 @@ fn assumes_unless_the_set_makes_it_false(rt: HostRuntime) -> Result<(), Fail> {
         (&[-2, -1], Answer::Quiet),
     ];
     for (set, expected) in &rows {
-        expect_unless(&rt, alloc, set, *expected)?;
+        expect_unless(alloc, set, *expected)?;
     }
     Ok(())
 }
@@ -254,7 +251,7 @@ fn finds_conflicts(rt: HostRuntime) -> Result<(), Fail> {
         (&[268435455, -268435455], true),
     ];
     for (set, expected) in &rows {
-        expect_equal(&rt, has_conflict(alloc, set)?, *expected);
+        expect_equal(has_conflict(alloc, set)?, *expected)?;
     }
     Ok(())
 }
@@ -273,9 +270,8 @@ fn is_refused_again<P: Fresh>(alloc: Global) -> Result<bool, Fail> {
 #[test]
 fn stays_where_memory_runs_out(rt: HostRuntime) -> Result<(), Fail> {
     let alloc = rt.alloc();
-    expect_true(&rt, is_refused_again::<Scan>(alloc)?);
-    expect_true(&rt, is_refused_again::<Watch>(alloc)?);
-    Ok(())
+    expect_true(is_refused_again::<Scan>(alloc)?)?;
+    expect_true(is_refused_again::<Watch>(alloc)?)
 }
 
 /// Whether a clause is the reason of a root-level literal; none where there is no such clause.
@@ -308,7 +304,7 @@ fn tells_root_reasons(rt: HostRuntime) -> Result<(), Fail> {
     for (rows, row, expected) in &rows {
         let scanned = root_reason::<Scan>(alloc, rows, row)?;
         let watched = root_reason::<Watch>(alloc, rows, row)?;
-        expect_true(&rt, scanned == *expected && watched == *expected);
+        expect_true(scanned == *expected && watched == *expected)?;
     }
     Ok(())
 }

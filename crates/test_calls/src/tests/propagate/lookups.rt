@@ -1,15 +1,13 @@
 //! Tests of what both propagations look up: the same of each.
 
-use crate::tests::asserts::{expect_equal, expect_true};
 use crate::tests::propagate::calls::{UNIT_AND_BOTH, fill};
 use crate::tests::propagate::fresh::Fresh;
 use clause_db::Slot;
 use cnf_base::Lit;
 use propagation::{Answer, Propagate, Scan, Value};
 use std::alloc::Global;
-use std::process::Abort;
 use std::test::Fail;
-use test_inputs::literals;
+use test_inputs::{expect_equal, expect_true, literals};
 use watch::Watch;
 
 /// How many clauses the literals touch, and whether the first of them is this row; where the row is
@@ -32,18 +30,11 @@ fn touched_first<P: Fresh>(
     Ok((slots.len(), first == clauses.find(clause.as_slice())))
 }
 
-fn expect_touched(
-    rt: &impl Abort,
-    alloc: Global,
-    lits: &[i32],
-    row: &[i32],
-    count: usize,
-) -> Result<(), Fail> {
+fn expect_touched(alloc: Global, lits: &[i32], row: &[i32], count: usize) -> Result<(), Fail> {
     let scanned = touched_first::<Scan>(alloc, lits, row)?;
-    expect_equal(rt, scanned, (count, true));
+    expect_equal(scanned, (count, true))?;
     let watched = touched_first::<Watch>(alloc, lits, row)?;
-    expect_equal(rt, watched, (count, true));
-    Ok(())
+    expect_equal(watched, (count, true))
 }
 
 #[test]
@@ -58,7 +49,7 @@ fn finds_what_literals_touch(rt: HostRuntime) -> Result<(), Fail> {
         (&[-1, 2], &[1, 2], 2),
     ];
     for (lits, row, count) in &rows {
-        expect_touched(&rt, alloc, lits, row, *count)?;
+        expect_touched(alloc, lits, row, *count)?;
     }
     Ok(())
 }
@@ -87,9 +78,8 @@ fn touched_along<P: Fresh>(alloc: Global) -> Result<(usize, usize, usize), Fail>
 #[test]
 fn touched_clauses_come_and_go(rt: HostRuntime) -> Result<(), Fail> {
     let alloc = rt.alloc();
-    expect_equal(&rt, touched_along::<Scan>(alloc)?, (2, 1, 2));
-    expect_equal(&rt, touched_along::<Watch>(alloc)?, (2, 1, 2));
-    Ok(())
+    expect_equal(touched_along::<Scan>(alloc)?, (2, 1, 2))?;
+    expect_equal(touched_along::<Watch>(alloc)?, (2, 1, 2))
 }
 
 /// What propagation says of the greatest variable where its clause is left with it alone.
@@ -113,21 +103,20 @@ fn looked_up<P: Fresh>(alloc: Global, rows: &[[i32; 2]], number: i32) -> Result<
     Ok((clauses.literals(), slot.is_some()))
 }
 
-fn expect_looked_up(rt: &impl Abort, alloc: Global, number: i32, there: bool) -> Result<(), Fail> {
+fn expect_looked_up(alloc: Global, number: i32, there: bool) -> Result<(), Fail> {
     let scanned = looked_up::<Scan>(alloc, &UNIT_AND_BOTH, number)?;
-    expect_equal(rt, scanned, (5, there));
+    expect_equal(scanned, (5, there))?;
     let watched = looked_up::<Watch>(alloc, &UNIT_AND_BOTH, number)?;
-    expect_equal(rt, watched, (5, there));
-    Ok(())
+    expect_equal(watched, (5, there))
 }
 
 #[test]
 fn looks_up(rt: HostRuntime) -> Result<(), Fail> {
     let alloc = rt.alloc();
-    expect_equal(&rt, greatest::<Scan>(alloc)?, Value::True);
-    expect_equal(&rt, greatest::<Watch>(alloc)?, Value::True);
+    expect_equal(greatest::<Scan>(alloc)?, Value::True)?;
+    expect_equal(greatest::<Watch>(alloc)?, Value::True)?;
     for (number, there) in [(-2, true), (3, false)] {
-        expect_looked_up(&rt, alloc, number, there)?;
+        expect_looked_up(alloc, number, there)?;
     }
     Ok(())
 }
@@ -157,8 +146,7 @@ fn counts_copies(rt: HostRuntime) -> Result<(), Fail> {
     let alloc = rt.alloc();
     let expected = [(2, true), (1, true), (0, false)];
     let scanned = counts_down::<Scan>(alloc, &TWO_COPIES)?;
-    expect_true(&rt, scanned.as_slice() == expected.as_slice());
+    expect_true(scanned.as_slice() == expected.as_slice())?;
     let watched = counts_down::<Watch>(alloc, &TWO_COPIES)?;
-    expect_true(&rt, watched.as_slice() == expected.as_slice());
-    Ok(())
+    expect_true(watched.as_slice() == expected.as_slice())
 }

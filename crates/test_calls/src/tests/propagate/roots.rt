@@ -2,12 +2,11 @@
 
 ghost use Rattle.std.specs.Prelude.{◌≡◌, [], OnOk};
 
-use crate::tests::asserts::{expect_equal, expect_true};
 use crate::tests::propagate::calls::fill;
 use crate::tests::propagate::fresh::{Known, Watching};
 use std::alloc::Global;
 use std::test::Fail;
-use test_inputs::literals;
+use test_inputs::{expect_equal, expect_true, literals};
 use watch::Watch;
 
 /// Takes the clause out, if it is there, where nothing is assumed.
@@ -39,8 +38,7 @@ fn kept<P: Watching>(alloc: Global) -> Result<Vec<Known>, Fail> {
 fn keeps_what_follows(rt: HostRuntime) -> Result<(), Fail> {
     let all = kept::<Watch>(rt.alloc())?;
     let expected = [(true, false, 2), (true, false, 2)];
-    expect_true(&rt, all.as_slice() == expected.as_slice());
-    Ok(())
+    expect_true(all.as_slice() == expected.as_slice())
 }
 
 /// What is known after the removal of a clause, by which the literal 2 follows from the unit clause
@@ -56,10 +54,9 @@ fn removed<P: Watching>(alloc: Global, numbers: &[i32]) -> Result<Known, Fail> {
 #[test]
 fn loses_what_rests_on_a_removed_clause(rt: HostRuntime) -> Result<(), Fail> {
     let kept = removed::<Watch>(rt.alloc(), &[3, 4])?;
-    expect_equal(&rt, kept, (true, false, 2));
+    expect_equal(kept, (true, false, 2))?;
     let lost = removed::<Watch>(rt.alloc(), &[-1, 2])?;
-    expect_equal(&rt, lost, (false, false, 0));
-    Ok(())
+    expect_equal(lost, (false, false, 0))
 }
 
 /// What is known after the removal of a clause, and what is found again.
@@ -87,17 +84,15 @@ const CHAIN: [[i32; 2]; 5] = [[-1, 2], [-2, 3], [-3, 4], [-1, 3], [1, 1]];
 #[test]
 fn cuts_back_to_the_lost_literal(rt: HostRuntime) -> Result<(), Fail> {
     let last = cut_back(rt.alloc(), &CHAIN, &[-3, 4])?;
-    expect_equal(&rt, last, ((false, false, 3), (true, false, 3)));
+    expect_equal(last, ((false, false, 3), (true, false, 3)))?;
     let first = cut_back(rt.alloc(), &CHAIN, &[-1, 2])?;
-    expect_equal(&rt, first, ((false, false, 0), (true, false, 3)));
-    Ok(())
+    expect_equal(first, ((false, false, 0), (true, false, 3)))
 }
 
 #[test]
 fn keeps_a_literal_by_another_reason(rt: HostRuntime) -> Result<(), Fail> {
     let kept = cut_back(rt.alloc(), &CHAIN, &[-1, 3])?;
-    expect_equal(&rt, kept, ((true, false, 4), (true, false, 4)));
-    Ok(())
+    expect_equal(kept, ((true, false, 4), (true, false, 4)))
 }
 
 /// What is known as three copies of the unit clause 1, by which 2 follows, are taken out in turn.
@@ -114,30 +109,27 @@ fn without_copies<P: Watching>(alloc: Global) -> Result<(Known, Known, Known), F
 #[test]
 fn keeps_a_literal_by_a_copy(rt: HostRuntime) -> Result<(), Fail> {
     let (two_left, one_left, none_left) = without_copies::<Watch>(rt.alloc())?;
-    expect_equal(&rt, two_left, (true, false, 2));
-    expect_equal(&rt, one_left, (true, false, 2));
-    expect_equal(&rt, none_left, (false, false, 0));
-    Ok(())
+    expect_equal(two_left, (true, false, 2))?;
+    expect_equal(one_left, (true, false, 2))?;
+    expect_equal(none_left, (false, false, 0))
 }
 
 #[test]
 fn takes_no_reason_from_behind(rt: HostRuntime) -> Result<(), Fail> {
     let cycle = [[1, 1], [-1, 2], [-2, 3], [-3, 2]];
     let lost = cut_back(rt.alloc(), &cycle, &[-1, 2])?;
-    expect_equal(&rt, lost, ((false, false, 0), (true, false, 1)));
-    Ok(())
+    expect_equal(lost, ((false, false, 0), (true, false, 1)))
 }
 
 #[test]
 fn takes_back_alone_what_no_clause_has(rt: HostRuntime) -> Result<(), Fail> {
     let units = [[1, 1], [2, 2], [3, 3], [-3, 4]];
     let unit = cut_back(rt.alloc(), &units, &[1])?;
-    expect_equal(&rt, unit, ((true, false, 3), (true, false, 3)));
+    expect_equal(unit, ((true, false, 3), (true, false, 3)))?;
     let (_, copied) = cut_back(rt.alloc(), &[[1, 1], [1, 1], [2, 2]], &[1])?;
-    expect_equal(&rt, copied, (true, false, 2));
+    expect_equal(copied, (true, false, 2))?;
     let known = cut_back(rt.alloc(), &[[1, 1], [2, 2], [-1, 3]], &[1])?;
-    expect_equal(&rt, known, ((false, false, 0), (true, false, 1)));
-    Ok(())
+    expect_equal(known, ((false, false, 0), (true, false, 1)))
 }
 
 /// How many literals are true with the literal 3 assumed, after it was lost: a clause that was
@@ -156,8 +148,7 @@ fn assumed_again<P: Watching>(alloc: Global) -> Result<usize, Fail> {
 
 #[test]
 fn propagates_what_was_added_above_a_cut(rt: HostRuntime) -> Result<(), Fail> {
-    expect_equal(&rt, assumed_again::<Watch>(rt.alloc())?, 4);
-    Ok(())
+    expect_equal(assumed_again::<Watch>(rt.alloc())?, 4)
 }
 
 /// Whether all is known where two unit clauses contradict, and whether it is a clash.
@@ -171,6 +162,5 @@ fn contradicted<P: Watching>(alloc: Global) -> Result<(bool, bool), Fail> {
 
 #[test]
 fn keeps_a_clash(rt: HostRuntime) -> Result<(), Fail> {
-    expect_equal(&rt, contradicted::<Watch>(rt.alloc())?, (true, true));
-    Ok(())
+    expect_equal(contradicted::<Watch>(rt.alloc())?, (true, true))
 }

@@ -5,14 +5,13 @@ ghost use Rattle.std.specs.Prelude.{◌≡◌, ◌<◌, ℕ, List, [], ◌∷◌
 ghost use Rattle.propagation.specs.Assumptions.{LastIsAnswered};
 ghost use Rattle.propagation.specs.declared.answer.Answer.TheVariants.{Quiet};
 
-use crate::tests::asserts::{expect_equal, expect_true};
 use crate::tests::propagate::calls::fill;
 use crate::tests::propagate::fresh::{Fresh, Watching};
 use cnf_base::Lit;
 use propagation::{Answer, Propagate, Scan, Value};
 use std::alloc::Global;
 use std::test::Fail;
-use test_inputs::literals;
+use test_inputs::{expect_equal, expect_true, literals};
 use watch::Watch;
 
 /// Numbers that look as if thrown.
@@ -173,8 +172,8 @@ fn both_answer_alike(rt: HostRuntime) -> Result<(), Fail> {
     for seed in 0..300 {
         let scanned = answers::<Scan>(alloc, seed, 24)?;
         let watched = answers::<Watch>(alloc, seed, 24)?;
-        expect_true(&rt, scanned.len() > 24);
-        expect_true(&rt, scanned == watched);
+        expect_true(scanned.len() > 24)?;
+        expect_true(scanned == watched)?;
     }
     Ok(())
 }
@@ -197,6 +196,5 @@ fn counts_of<P: Watching>(alloc: Global) -> Result<(u64, usize, usize), Fail> {
 
 #[test]
 fn counts_entries(rt: HostRuntime) -> Result<(), Fail> {
-    expect_equal(&rt, counts_of::<Watch>(rt.alloc())?, (6, 1, 2));
-    Ok(())
+    expect_equal(counts_of::<Watch>(rt.alloc())?, (6, 1, 2))
 }

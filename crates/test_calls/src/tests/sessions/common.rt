@@ -2,33 +2,29 @@
 
 ghost use Rattle.std.specs.Prelude.{◌≡◌, ◌≤◌, false};
 
-use crate::tests::asserts::{expect_equal, expect_true};
 use proofs::{StepBuf, StepReader};
 use std::alloc::Global;
-use std::process::Abort;
 use std::test::Fail;
 use steps::{Accepted, ProofSession, Refusal};
-use test_inputs::literals;
+use test_inputs::{expect_equal, expect_true, literals};
 
 // What a session answers to a step, and after it the greatest sum of sizes, how many literals are
 // kept, and whether it has verified.
 pub type StepAnswer = (Result<Accepted, Refusal>, u64, u64, bool);
 
 fn expect_answer<S: ProofSession>(
-    rt: &impl Abort,
     session: &mut S,
     step: &StepBuf,
     answer: StepAnswer,
-) {
+) -> Result<(), Fail> {
     let (expected, peak, held, verified) = answer;
-    expect_equal(rt, session.step(step), expected);
-    expect_equal(rt, session.peak(), peak);
-    expect_equal(rt, session.held(), held);
-    expect_equal(rt, session.verified(), verified);
+    expect_equal(session.step(step), expected)?;
+    expect_equal(session.peak(), peak)?;
+    expect_equal(session.held(), held)?;
+    expect_equal(session.verified(), verified)
 }
 
 fn expect_answers<S: ProofSession, R: StepReader>(
-    rt: &impl Abort,
     alloc: Global,
     session: &mut S,
     reader: &mut R,
@@ -36,11 +32,10 @@ fn expect_answers<S: ProofSession, R: StepReader>(
 ) -> Result<(), Fail> {
     let mut step = StepBuf::new(alloc);
     for answer in answers {
-        expect_equal(rt, reader.next(&mut step), Ok(true));
-        expect_answer(rt, session, &step, *answer);
+        expect_equal(reader.next(&mut step), Ok(true))?;
+        expect_answer(session, &step, *answer)?;
     }
-    expect_equal(rt, reader.next(&mut step), Ok(false));
-    Ok(())
+    expect_equal(reader.next(&mut step), Ok(false))
 }
 
 // The clauses of a formula.
@@ -56,7 +51,6 @@ pub enum Formula {
 
 // The sum of the sizes, which is the greatest one too.
 fn expect_formula<S: ProofSession>(
-    rt: &impl Abort,
     alloc: Global,
     session: &mut S,
     formula: Formula,
@@ -70,30 +64,28 @@ fn expect_formula<S: ProofSession>(
     let single = literals(alloc, &[-1])?;
     let size = match formula {
         Formula::One => {
-            expect_equal(rt, session.input(both.as_slice()), Ok(()));
+            expect_equal(session.input(both.as_slice()), Ok(()))?;
             2
         }
         Formula::Three => {
-            expect_equal(rt, session.input(both.as_slice()), Ok(()));
-            expect_equal(rt, session.input(twice.as_slice()), Ok(()));
-            expect_equal(rt, session.input(other.as_slice()), Ok(()));
+            expect_equal(session.input(both.as_slice()), Ok(()))?;
+            expect_equal(session.input(twice.as_slice()), Ok(()))?;
+            expect_equal(session.input(other.as_slice()), Ok(()))?;
             5
         }
         Formula::Contradiction => {
-            expect_equal(rt, session.input(twice.as_slice()), Ok(()));
-            expect_equal(rt, session.input(single.as_slice()), Ok(()));
+            expect_equal(session.input(twice.as_slice()), Ok(()))?;
+            expect_equal(session.input(single.as_slice()), Ok(()))?;
             2
         }
     };
-    expect_equal(rt, session.peak(), size);
-    expect_equal(rt, session.held(), size);
-    expect_true(rt, !session.verified());
-    Ok(())
+    expect_equal(session.peak(), size)?;
+    expect_equal(session.held(), size)?;
+    expect_true(!session.verified())
 }
 
 // The answers to the steps of a proof.
 pub fn expect_proof<S: ProofSession, R: StepReader>(
-    rt: &impl Abort,
     alloc: Global,
     session: &mut S,
     reader: &mut R,
@@ -103,13 +95,12 @@ pub fn expect_proof<S: ProofSession, R: StepReader>(
     requires unused { (S.shown session.old).has_stepped ≡ false }
     requires room { 3 ≤ (S.shown session.old).room }
 {
-    expect_formula(rt, alloc, session, formula)?;
-    expect_answers(rt, alloc, session, reader, answers)
+    expect_formula(alloc, session, formula)?;
+    expect_answers(alloc, session, reader, answers)
 }
 
 // The answers to a step that nothing was read into, each time that it is taken.
 pub fn expect_to_new_step<S: ProofSession>(
-    rt: &impl Abort,
     alloc: Global,
     session: &mut S,
     answers: &[StepAnswer],
@@ -118,10 +109,10 @@ pub fn expect_to_new_step<S: ProofSession>(
     requires unused { (S.shown session.old).has_stepped ≡ false }
     requires room { 3 ≤ (S.shown session.old).room }
 {
-    expect_formula(rt, alloc, session, formula)?;
+    expect_formula(alloc, session, formula)?;
     let step = StepBuf::new(alloc);
     for answer in answers {
-        expect_answer(rt, session, &step, *answer);
+        expect_answer(session, &step, *answer)?;
     }
     Ok(())
 }
@@ -133,16 +124,16 @@ pub const EMPTY_CLAUSE: [StepAnswer; 2] = [
 ];
 
 // A step and a clause after the formula's empty clause.
-pub fn expect_ended<S: ProofSession>(rt: &impl Abort, alloc: Global, session: &mut S)
+pub fn expect_ended<S: ProofSession>(alloc: Global, session: &mut S) -> Result<(), Fail>
     requires unused { (S.shown session.old).has_stepped ≡ false }
     requires room { 2 ≤ (S.shown session.old).room }
 {
-    expect_equal(rt, session.input(&[]), Ok(()));
-    expect_true(rt, session.verified());
+    expect_equal(session.input(&[]), Ok(()))?;
+    expect_true(session.verified())?;
     let step = StepBuf::new(alloc);
-    expect_equal(rt, session.step(&step), Err(Refusal::Ended));
-    expect_equal(rt, session.input(&[]), Err(Refusal::Ended));
-    expect_true(rt, session.verified());
-    expect_equal(rt, session.peak(), 0);
-    expect_equal(rt, session.held(), 0);
+    expect_equal(session.step(&step), Err(Refusal::Ended))?;
+    expect_equal(session.input(&[]), Err(Refusal::Ended))?;
+    expect_true(session.verified())?;
+    expect_equal(session.peak(), 0)?;
+    expect_equal(session.held(), 0)
 }

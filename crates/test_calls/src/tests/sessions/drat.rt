@@ -9,7 +9,6 @@ use crate::tests::sessions::common::{
 use proofs::DratText;
 use propagation::{Propagate, Scan};
 use std::alloc::Global;
-use std::process::Abort;
 use std::test::Fail;
 use steps::{Accepted, DratRules, DratSession, Refusal};
 use test_inputs::{Cut, open};
@@ -32,12 +31,7 @@ enum Trial<'a> {
     Ended,
 }
 
-fn expect_by<P: Propagate + Drop>(
-    rt: &impl Abort,
-    alloc: Global,
-    clauses: P,
-    trial: Trial<'_>,
-) -> Result<(), Fail>
+fn expect_by<P: Propagate + Drop>(alloc: Global, clauses: P, trial: Trial<'_>) -> Result<(), Fail>
     requires empty { (P.state clauses).live ≡ maps.empty }
     requires nothing_assumed { (P.state clauses).assumptions ≡ [] }
     requires none_refused { (P.state clauses).has_refused ≡ false }
@@ -60,16 +54,16 @@ fn expect_by<P: Propagate + Drop>(
                 answers,
                 ..
             } = row;
-            expect_proof(rt, alloc, &mut session, &mut reader, formula, answers)?;
+            expect_proof(alloc, &mut session, &mut reader, formula, answers)?;
         }
-        Trial::Ended => expect_ended(rt, alloc, &mut session),
+        Trial::Ended => expect_ended(alloc, &mut session)?,
     }
     Ok(())
 }
 
-fn expect_by_both(rt: &impl Abort, alloc: Global, trial: Trial<'_>) -> Result<(), Fail> {
-    expect_by(rt, alloc, Scan::new(alloc)?, trial)?;
-    expect_by(rt, alloc, Watch::new(alloc)?, trial)
+fn expect_by_both(alloc: Global, trial: Trial<'_>) -> Result<(), Fail> {
+    expect_by(alloc, Scan::new(alloc)?, trial)?;
+    expect_by(alloc, Watch::new(alloc)?, trial)
 }
 
 const ANSWERS: [StepAnswer; 6] = [
@@ -125,12 +119,12 @@ fn proofs(rt: HostRuntime) -> Result<(), Fail> {
         },
     ];
     for row in rows {
-        expect_by_both(&rt, rt.alloc(), Trial::Proof(row))?;
+        expect_by_both(rt.alloc(), Trial::Proof(row))?;
     }
     Ok(())
 }
 
 #[test]
 fn ended(rt: HostRuntime) -> Result<(), Fail> {
-    expect_by_both(&rt, rt.alloc(), Trial::Ended)
+    expect_by_both(rt.alloc(), Trial::Ended)
 }

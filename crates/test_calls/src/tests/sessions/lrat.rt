@@ -5,13 +5,11 @@ use crate::tests::sessions::common::{
 };
 use proofs::LratText;
 use std::alloc::Global;
-use std::process::Abort;
 use std::test::Fail;
 use steps::{Accepted, LratSession, Refusal};
 use test_inputs::{Cut, open};
 
 fn expect_steps(
-    rt: &impl Abort,
     alloc: Global,
     formula: Formula,
     proof: &[u8],
@@ -19,7 +17,7 @@ fn expect_steps(
 ) -> Result<(), Fail> {
     let mut session = LratSession::new(alloc)?;
     let mut reader = LratText::new(open(alloc, proof, 7, Cut::Ends)?);
-    expect_proof(rt, alloc, &mut session, &mut reader, formula, answers)
+    expect_proof(alloc, &mut session, &mut reader, formula, answers)
 }
 
 #[test]
@@ -52,7 +50,7 @@ fn proofs(rt: HostRuntime) -> Result<(), Fail> {
         ),
     ];
     for (formula, proof, answers) in rows {
-        expect_steps(&rt, rt.alloc(), formula, proof, answers)?;
+        expect_steps(rt.alloc(), formula, proof, answers)?;
     }
     Ok(())
 }
@@ -66,13 +64,12 @@ fn step_without_identifier(rt: HostRuntime) -> Result<(), Fail> {
         (Err(Refusal::IdOutOfOrder), 2, 2, false),
         (Err(Refusal::Ended), 2, 2, false),
     ];
-    expect_to_new_step(&rt, alloc, &mut session, &answers, Formula::One)
+    expect_to_new_step(alloc, &mut session, &answers, Formula::One)
 }
 
 #[test]
 fn ended(rt: HostRuntime) -> Result<(), Fail> {
     let alloc = rt.alloc();
     let mut session = LratSession::new(alloc)?;
-    expect_ended(&rt, alloc, &mut session);
-    Ok(())
+    expect_ended(alloc, &mut session)
 }
