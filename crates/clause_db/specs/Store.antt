@@ -1,4 +1,4 @@
--- What a store is seen as; sums over the clauses of a store.
+-- Sums over the clauses of a store, which is seen as its memory is.
 use Rattle.std.specs.FinMap as maps
 use Rattle.std.specs.FinMap.{FinMap}
 use Rattle.std.specs.Ordering.{nat_cmp}
@@ -6,19 +6,10 @@ use Rattle.std.specs.List.{list_any}
 use Rattle.std.specs.Prelude.{◌≡◌, ℕ, Bool, List, Some, IsTrue, if◌then◌else◌}
 use Rattle.cnf_base.specs.Literals.{Clause, Literal, complement, has, size}
 use Rattle.cnf_base.specs.Maps.{sum_over}
-pub use Rattle.clause_memory.specs.Memory.{slots_for}
-
--- a store, as its callers see it
-pub record StoreState : Type 0 where
-  -- the live clauses, each in its slot
-  pub live : FinMap nat_cmp Clause
-  -- how many slots there are, free ones too: no clause is in a slot from this number on
-  pub slots : ℕ
-  -- the sum of the lengths of all lists of literals that it keeps
-  pub stored : ℕ
+pub use Rattle.clause_memory.specs.Memory.{MemoryState, slots_for}
 
 -- a store with nothing in it
-abbrev pub no_clauses : StoreState
+abbrev pub no_clauses : MemoryState
 no_clauses = record { live = maps.empty; slots = 0; stored = 0 }
 
 -- the sum of the sizes of the clauses

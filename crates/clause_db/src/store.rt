@@ -66,14 +66,15 @@ pub struct Store<M: Memory = Blocks, I: Indexing = Index> {
 }
 
 impl<M: Memory, I: Indexing> Model for Store<M, I> {
-    ghost use Rattle.clause_db.specs.Store.{StoreState};
+    ghost use Rattle.clause_memory.specs.Code.Slots.{slots_code};
+    ghost use Rattle.clause_memory.specs.Memory.{MemoryState};
     ghost use Rattle.clause_db.specs.Code.Counts.{AreCounted};
-    ghost use Rattle.clause_db.specs.Code.Fields.{IsStore, store_code};
+    ghost use Rattle.clause_db.specs.Code.Fields.{IsStore};
     ghost use Rattle.clause_db.specs.Code.Kept.{AreKept};
 
-    ghost Value = { StoreState };
+    ghost Value = { MemoryState };
 
-    ghost coded = { store_code };
+    ghost coded = { slots_code };
 
     // Each field has to be named here. Of them the memory alone keeps literals of clauses: the
     // index and the occurrences have slots, and the marks and the counts are tables by literal.
@@ -85,11 +86,7 @@ impl<M: Memory, I: Indexing> Model for Store<M, I> {
       counts = _;
       sum = _;
       occurrences = _;
-    }. record {
-      live = (M.seen memory).live;
-      slots = (M.seen memory).slots;
-      stored = (M.seen memory).stored;
-    } };
+    }. M.seen memory };
 
     ghost invariant = { λ s.
         IsStore (M.seen s.memory).live (M.seen s.memory).stored s.marks s.sum
@@ -140,6 +137,7 @@ fn list_up<I: Indexing>(
 }
 
 impl<M: Memory, I: Indexing> Store<M, I> {
+    #[tactic(auto, using(crate::proofs::StoreLemmas::Fields::sound_empty))]
     fn empty(alloc: Global, seed: u64) -> Self
         ensures { result ≡ no_clauses }
     {
@@ -330,6 +328,7 @@ impl<M: Memory> Store<M, Index> {
     }
 
     /// A slot with the same clause as a set, if there is one. It takes no memory.
+    #[tactic(auto, using(crate::proofs::StoreLemmas::Search::find_steps))]
     pub fn find(&mut self, lits: &[Lit]) -> Option<Slot>
         ensures found { IfSome result (λ slot. (c : Clause) ×
             (maps.get self.old.live slot ≡ Some c) × IsTrue (same_clause c lits.now)) }

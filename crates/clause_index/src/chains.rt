@@ -40,6 +40,7 @@ pub(crate) fn put_in(heads: &mut Vec<u32>, links: &mut Vec<Link>, slot: u32, has
 }
 
 /// The slot before another one in a chain; none where that is the first one.
+#[tactic(auto, using(crate::proofs::IndexLemmas::Walks::walk_facts))]
 pub(crate) fn before(links: &[Link], first: u32, slot: u32) -> Option<u32>
     requires { (chain : List ℕ) × AreLinked links.now first chain
         × (size chain ≡ length chain) × (has chain slot ≡ true)

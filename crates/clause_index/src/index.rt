@@ -302,6 +302,7 @@ impl Indexing for Index {
         Ok(())
     }
 
+    #[tactic(auto, using(crate::proofs::IndexLemmas::Found::inside_facts))]
     fn remove(&mut self, slot: usize, _lits: &[Lit]) {
         self.waiting = 0;
         self.place_all();

@@ -1,13 +1,12 @@
 -- Cells, blocks and words.
-use Rattle.std.proofs.Common.{◌≡◌, ◌≢◌, ℕ, zero, suc, ◌+◌, ◌-◌, ◌*◌, ◌<◌, ◌≤◌, true, false, List}
-use Rattle.std.proofs.Common.{◌++◌, length, take, drop, get_or, refl, ap, ◌∙◌, arith, rules}
-use Rattle.std.proofs.Common.{ext_get_or, get_or-drop, get_or-take, length-append, length-drop}
-use Rattle.std.proofs.Common.{length-take}
-use Rattle.std.proofs.lemmas.{Grind.same_number_lists, List.get_or_past, List.length-replicate}
-use Rattle.std.proofs.lemmas.List.{get_or-append_right, get_or-replicate, get_or_append_left}
 use Rattle.clause_memory.specs.Code.Cells.{IsBlock, blanks, clause_at, is_rest, kept_in, kind_at}
-use Rattle.clause_memory.specs.Code.Cells.{size_at, start_of, written}
-use Rattle.clause_memory.specs.declared.kind.Kind.{Kind, TheVariants.Free}
+use Rattle.clause_memory.specs.{Code.Cells.{size_at, start_of, written}, declared.kind.Kind.Kind}
+use Rattle.{clause_memory.specs.declared.kind.Kind.TheVariants.Free, std.proofs.Common.{List, ap}}
+use Rattle.std.proofs.Common.{arith, drop, ext_get_or, false, get_or, get_or-drop, get_or-take}
+use Rattle.std.proofs.Common.{length, length-append, length-drop, length-take, refl, rules, suc}
+use Rattle.std.proofs.Common.{take, true, zero, ℕ, ◌*◌, ◌++◌, ◌+◌, ◌-◌, ◌<◌, ◌∙◌, ◌≡◌, ◌≢◌, ◌≤◌}
+use Rattle.std.proofs.lemmas.{Grind.same_number_lists, List.{get_or-append_right, get_or-replicate}}
+use Rattle.std.proofs.lemmas.List.{get_or_append_left, get_or_past, length-replicate}
 
 -- ---- Kinds
 

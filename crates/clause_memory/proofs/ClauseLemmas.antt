@@ -1,16 +1,15 @@
 -- The clauses of a memory, as a finite map.
-use Rattle.std.proofs.Common.{◌≡◌, ℕ, zero, suc, ◌+◌, ◌<◌, ◌≤◌, true, Option, Some, None, is_some}
-use Rattle.std.proofs.Common.{List, [], ◌∷◌, length, sym, arith, nat_cmp, length-drop, length-take}
-use Rattle.std.specs.Cmp.{nat_cmp_total}
-use Rattle.std.specs.FinMap as maps
-use Rattle.cnf_base.{specs.Literals.Clause, specs.Maps.sum_over, proofs.MapLemmas.sum_insert}
-use Rattle.cnf_base.proofs.MapLemmas.{get_insert, insert_here, insert_other, same_maps, sum_empty}
-use Rattle.clause_memory.specs.{Blocks.BlocksState, Memory.literals_in}
-use Rattle.clause_memory.specs.{Code.Fields.IsMemory, Code.Fields.seen_as, declared.kind.Kind.Kind}
-use Rattle.clause_memory.specs.Code.Cells.{clause_at, clauses_from, clauses_in, kind_at}
-use Rattle.clause_memory.specs.Code.Cells.{literal_words, size_at, sum_from}
-use Rattle.clause_memory.specs.declared.kind.Kind.TheVariants.{Live, Free, Rest}
 use Rattle.clause_memory.proofs.{BlockLemmas.cells_are, CellLemmas.begins_inside}
+use Rattle.clause_memory.specs.{Blocks.BlocksState, Code.Cells.{clause_at, clauses_from}}
+use Rattle.clause_memory.specs.Code.Cells.{clauses_in, kind_at, literal_words, size_at, sum_from}
+use Rattle.clause_memory.specs.{Code.Fields.{IsMemory, seen_as}, Memory.literals_in}
+use Rattle.clause_memory.specs.declared.kind.Kind.{Kind, TheVariants.{Free, Live, Rest}}
+use Rattle.cnf_base.proofs.MapLemmas.{get_insert, insert_here, insert_other, same_maps, sum_empty}
+use Rattle.cnf_base.{proofs.MapLemmas.sum_insert, specs.{Literals.Clause, Maps.sum_over}}
+use Rattle.std.proofs.Common.{List, None, Option, Some, [], arith, is_some, length, length-drop}
+use Rattle.std.proofs.Common.{length-take, nat_cmp, suc, sym, true, zero, ℕ, ◌+◌, ◌<◌, ◌∷◌, ◌≡◌}
+use Rattle.std.{proofs.Common.◌≤◌, specs.Cmp.nat_cmp_total}
+use Rattle.std.specs.FinMap as maps
 
 -- the clause of a cell of this kind, if it begins one's block
 abbrev pub clause_if : Kind → Clause → Option Clause

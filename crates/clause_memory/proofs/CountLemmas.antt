@@ -1,16 +1,14 @@
 -- How many blocks and how many clauses there are of one size.
-use Rattle.std.proofs.Common.{◌≡◌, ◌≢◌, ℕ, ◌+◌, ◌≤◌, true, cond, eqb, Option, Some, None, is_some}
-use Rattle.std.proofs.Common.{List, length, refl, arith, nat_cmp}
-use Rattle.std.specs.FinMap.{FinMap}
-use Rattle.std.specs.FinMap as maps
-use Rattle.cnf_base.specs.Literals.{Clause}
-use Rattle.cnf_base.proofs.MapLemmas.{inserted_is, remove_here, remove_other, sum_insert}
-use Rattle.cnf_base.proofs.MapLemmas.{sum_lighter, sum_remove, weight_at}
+use Rattle.clause_memory.proofs.{BlockLemmas.block_is, ClauseLemmas.{alive_kind, clause_len}}
+use Rattle.clause_memory.proofs.ClauseLemmas.{few_clauses, get_live, stored_is}
 use Rattle.clause_memory.specs.Blocks.{AddsFewBlocks, blocks_with, cells_for, cells_in}
-use Rattle.clause_memory.specs.{Blocks.clauses_with, declared.kind.Kind.Kind}
-use Rattle.clause_memory.specs.Code.{Fields.IsMemory, Cells.blocks_in, Cells.clauses_in}
-use Rattle.clause_memory.proofs.BlockLemmas.{block_is}
-use Rattle.clause_memory.proofs.ClauseLemmas.{alive_kind, clause_len, few_clauses, get_live, stored_is}
+use Rattle.clause_memory.specs.{Blocks.clauses_with, Code.Cells.{blocks_in, clauses_in}}
+use Rattle.clause_memory.specs.{Code.Fields.IsMemory, declared.kind.Kind.Kind}
+use Rattle.cnf_base.proofs.MapLemmas.{inserted_is, remove_here, remove_other, sum_insert}
+use Rattle.cnf_base.{proofs.MapLemmas.{sum_lighter, sum_remove, weight_at}, specs.Literals.Clause}
+use Rattle.std.proofs.Common.{List, None, Option, Some, arith, cond, eqb, is_some, length, nat_cmp}
+use Rattle.std.{proofs.Common.{refl, true, ℕ, ◌+◌, ◌≡◌, ◌≢◌, ◌≤◌}, specs.FinMap.FinMap}
+use Rattle.std.specs.FinMap as maps
 
 -- ---- Blocks and clauses
 

@@ -1,13 +1,10 @@
 -- Lists of free blocks.
-use Rattle.std.proofs.Common.{◌≡◌, ℕ, ◌+◌, ◌<◌, ◌≤◌, true, cond, eqb, Option, Some, List, [], ◌∷◌}
-use Rattle.std.proofs.Common.{refl, arith, inl, inr, rules}
-use Rattle.std.proofs.lemmas.Bool.{cases_eq}
-use Rattle.cnf_base.specs.Literals.{has}
-use Rattle.cnf_base.proofs.SetLemmas.{has_cases, has_head, has_tail}
+use Rattle.clause_memory.{proofs.CellLemmas.{IsChanged, block_same}, specs.Code.Cells.kind_at}
 use Rattle.clause_memory.specs.Code.Free.{AreListed, LeadsTo, link_at, link_of}
-use Rattle.clause_memory.specs.Code.Cells.{kind_at}
-use Rattle.clause_memory.specs.declared.kind.Kind.{Kind, TheVariants.Live, TheVariants.Free}
-use Rattle.clause_memory.proofs.CellLemmas.{IsChanged, block_same}
+use Rattle.clause_memory.specs.declared.kind.Kind.{Kind, TheVariants.{Free, Live}}
+use Rattle.cnf_base.{proofs.SetLemmas.{has_cases, has_head, has_tail}, specs.Literals.has}
+use Rattle.std.proofs.Common.{List, Option, Some, [], arith, cond, eqb, inl, inr, refl, rules, true}
+use Rattle.std.proofs.{Common.{ℕ, ◌+◌, ◌<◌, ◌∷◌, ◌≡◌, ◌≤◌}, lemmas.Bool.cases_eq}
 
 -- ---- Links
 

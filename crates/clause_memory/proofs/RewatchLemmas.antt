@@ -1,9 +1,8 @@
 -- Three words of a block that are written, so that its literals change places.
-use Rattle.std.proofs.Common.{◌≡◌, ℕ, ◌+◌, ◌-◌, ◌<◌, ◌≤◌, ◌++◌, List, length, take, drop, set}
-use Rattle.std.proofs.Common.{get_or, refl, arith, swap, drop-drop, get_or-set_other}
-use Rattle.std.proofs.Common.{get_or-set_same, length-drop, length-set, length-take-le}
-use Rattle.std.proofs.Common.{take-append-drop}
-use Rattle.std.proofs.lemmas.{Grind.same_number_lists, List.set-append_left, List.set-append_right}
+use Rattle.std.proofs.Common.{List, arith, drop, drop-drop, get_or, get_or-set_other, ◌≤◌}
+use Rattle.std.proofs.Common.{get_or-set_same, length, length-drop, length-set, length-take-le}
+use Rattle.std.proofs.Common.{refl, set, swap, take, take-append-drop, ℕ, ◌++◌, ◌+◌, ◌-◌, ◌<◌, ◌≡◌}
+use Rattle.std.proofs.lemmas.{Grind.same_number_lists, List.{set-append_left, set-append_right}}
 use Rattle.std.proofs.lemmas.List.Edits.{Swapped, length-swap, swapped_from_swap}
 
 -- the first two of the words from a place on, and one behind them

@@ -1,24 +1,23 @@
 -- A memory that gets a further block.
-use Rattle.std.proofs.Common.{◌≡◌, ℕ, ◌+◌, ◌-◌, ◌*◌, ◌<◌, ◌≤◌, true, false, ◌≢◌, cond, eqb, Option}
-use Rattle.std.proofs.Common.{Some, None, is_some, List, [], ◌∷◌, ◌++◌, length, take, drop, get_or}
-use Rattle.std.proofs.Common.{refl, ap, arith, rules, inl, inr, replicate, length-append, length-drop, set}
-use Rattle.std.proofs.lemmas.{Bool.cases_eq, List.take-append-le, Grind.common_steps}
-use Rattle.std.proofs.lemmas.List.{drop-append-le, get_or-append_right, get_or-replicate}
-use Rattle.std.proofs.lemmas.List.{get_or_append_left, get_or_past, length-replicate}
-use Rattle.std.proofs.Math.Seq.{drop-append-add, set-append_seam, take-append_seam}
-use Rattle.std.specs.FinMap as maps
-use Rattle.cnf_base.{proofs.MapLemmas.same_maps, specs.Literals.Clause, specs.Literals.has}
-use Rattle.clause_memory.proofs.ClauseLemmas.{get_clause, get_live}
 use Rattle.clause_memory.proofs.BlockLemmas.{block_before, block_is, get_block, rests_before}
-use Rattle.clause_memory.specs.{Blocks.cells_for, declared.kind.Kind.Kind}
-use Rattle.clause_memory.specs.Code.{Fields.IsMemory, Cells.kind_at, Cells.size_at, Cells.start_of}
-use Rattle.clause_memory.specs.Code.Free.{AreListed, LeadsTo, link_at, link_of}
-use Rattle.clause_memory.specs.Code.Cells.{IsBlock, blanks, blocks_in, clauses_in, is_rest, kept_in}
-use Rattle.clause_memory.specs.declared.kind.Kind.TheVariants.{Live, Free, Rest}
+use Rattle.clause_memory.proofs.CellLemmas.{part_blank, start_alike, start_le, start_run}
+use Rattle.clause_memory.proofs.{ClauseLemmas.{get_clause, get_live}, MemoryLemmas.was_none}
 use Rattle.clause_memory.proofs.FreeLemmas.{HasHead, each_list, leads_same, none_of, with_list}
 use Rattle.clause_memory.proofs.MemoryLemmas.{IsPutIn, put_in_blocks, put_in_clauses, put_in_memory}
-use Rattle.clause_memory.proofs.MemoryLemmas.{was_none}
-use Rattle.clause_memory.proofs.CellLemmas.{part_blank, start_alike, start_le, start_run}
+use Rattle.clause_memory.specs.{Blocks.cells_for, Code.Cells.{kind_at, size_at, start_of}}
+use Rattle.clause_memory.specs.Code.Cells.{IsBlock, blanks, blocks_in, clauses_in, is_rest, kept_in}
+use Rattle.clause_memory.specs.Code.{Fields.IsMemory, Free.{AreListed, LeadsTo, link_at, link_of}}
+use Rattle.clause_memory.specs.declared.kind.Kind.{Kind, TheVariants.{Free, Live, Rest}}
+use Rattle.cnf_base.{proofs.MapLemmas.same_maps, specs.Literals.{Clause, has}}
+use Rattle.std.proofs.Common.{List, None, Option, Some, [], ap, arith, cond, drop, eqb, false}
+use Rattle.std.proofs.Common.{get_or, inl, inr, is_some, length, length-append, length-drop, refl}
+use Rattle.std.proofs.Common.{replicate, rules, set, take, true, ℕ, ◌*◌, ◌++◌, ◌+◌, ◌-◌, ◌<◌, ◌∷◌}
+use Rattle.std.proofs.{Common.{◌≡◌, ◌≢◌, ◌≤◌}, lemmas.{Grind.common_steps, List.take-append-le}}
+use Rattle.std.proofs.Math.Seq.{drop-append-add, set-append_seam, take-append_seam}
+use Rattle.std.proofs.lemmas.Bool.{cases_eq}
+use Rattle.std.proofs.lemmas.List.{drop-append-le, get_or-append_right, get_or-replicate}
+use Rattle.std.proofs.lemmas.List.{get_or_append_left, get_or_past, length-replicate}
+use Rattle.std.specs.FinMap as maps
 
 pub record IsMade (ks : List Kind) (words : List ℕ) (heads heads_now : ℕ → Option ℕ) (n more : ℕ) : Type 0 where
   pub memory : IsMemory ks words heads

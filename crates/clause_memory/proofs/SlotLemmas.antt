@@ -1,14 +1,13 @@
 -- The clauses in slots, as a finite map.
-use Rattle.std.proofs.Common.{◌≡◌, ℕ, zero, suc, ◌+◌, ◌-◌, ◌<◌, ◌≤◌, true, Option, Some, None}
-use Rattle.std.proofs.Common.{refl, is_some, option_map, List, [], ◌∷◌, length, get_or, sym, arith}
-use Rattle.std.{proofs.Common.nat_cmp, proofs.lemmas.List.Sums.sum_by-cons, specs.Cmp.nat_cmp_total}
-use Rattle.std.specs.FinMap as maps
-use Rattle.slab.specs.Slab.{Slab, Updates}
-use Rattle.smallvec.specs.SmallVec.{SmallVec}
-use Rattle.cnf_base.{specs.Literals.Clause, proofs.MapLemmas.sum_empty, proofs.MapLemmas.sum_insert}
-use Rattle.cnf_base.proofs.MapLemmas.{get_remove, insert_here, insert_other, inserted_is, same_maps}
-use Rattle.clause_memory.specs.Memory.{literals_in}
 use Rattle.clause_memory.specs.Code.Slots.{IsSlots, held_from, held_in, slot_len, slot_literals}
+use Rattle.{clause_memory.specs.Memory.literals_in, cnf_base.proofs.MapLemmas.get_remove}
+use Rattle.cnf_base.proofs.MapLemmas.{insert_here, insert_other, inserted_is, same_maps, sum_empty}
+use Rattle.{cnf_base.{proofs.MapLemmas.sum_insert, specs.Literals.Clause}, slab.specs.Slab.Slab}
+use Rattle.{slab.specs.Slab.Updates, smallvec.specs.SmallVec.SmallVec, std.proofs.Common.List}
+use Rattle.std.proofs.Common.{None, Option, Some, [], arith, get_or, is_some, length, nat_cmp}
+use Rattle.std.proofs.Common.{option_map, refl, suc, sym, true, zero, ℕ, ◌+◌, ◌-◌, ◌<◌, ◌∷◌, ◌≡◌}
+use Rattle.std.{proofs.{Common.◌≤◌, lemmas.List.Sums.sum_by-cons}, specs.Cmp.nat_cmp_total}
+use Rattle.std.specs.FinMap as maps
 
 -- the clause of a slot
 abbrev pub items_of : Option (SmallVec ℕ) → Option Clause

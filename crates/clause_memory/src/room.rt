@@ -7,7 +7,7 @@ ghost use Rattle.tables.specs.ByKey.{at};
 ghost use Rattle.clause_memory.specs.Blocks.{AddsFewBlocks, cells_for};
 ghost use Rattle.clause_memory.specs.Code.Fields.{IsMemory};
 ghost use Rattle.clause_memory.specs.Code.Free.{link_of};
-ghost use Rattle.clause_memory.specs.Code.Cells.{blocks_in, clauses_in};
+ghost use Rattle.clause_memory.specs.Code.Cells.{IsPlaced, blocks_in, clauses_in};
 ghost use Rattle.clause_memory.specs.declared.kind.Kind.TheVariants.{Live, Rest};
 
 use crate::kind::Kind;
@@ -39,18 +39,13 @@ fn append(
     heads: &mut ByKey<u32>,
     lits: &[Lit],
 ) -> Result<usize, OutOfMemory>
-    requires memory { IsMemory kinds.old.items words.old.items (at heads.old) }
     requires short { length lits.now ≤ 536870909 }
+    requires memory { IsMemory kinds.old.items words.old.items (at heads.old) }
     requires none { link_of (at heads.old (cells_for (length lits.now))) ≡ 0 }
     ensures memory { IsMemory kinds.new.items words.new.items (at heads.new) }
-    ensures free { IfOk result (λ slot.
-        maps.get (clauses_in kinds.old.items words.old.items) slot ≡ None) }
-    ensures clauses { IfOk result (λ slot. clauses_in kinds.new.items words.new.items ≡
-        maps.insert (clauses_in kinds.old.items words.old.items) slot lits.now) }
-    ensures block { IfOk result (λ slot.
-        maps.get (blocks_in kinds.new.items) slot ≡ Some (cells_for (length lits.now))) }
-    ensures other_blocks { IfOk result (λ slot. (s : ℕ) → s ≢ slot →
-        maps.get (blocks_in kinds.new.items) s ≡ maps.get (blocks_in kinds.old.items) s) }
+    ensures placed { IfOk result (λ slot. IsPlaced
+        (clauses_in kinds.old.items words.old.items) (clauses_in kinds.new.items words.new.items)
+        (blocks_in kinds.old.items) (blocks_in kinds.new.items) slot lits.now) }
     ensures few_blocks { AddsFewBlocks (blocks_in kinds.old.items) (blocks_in kinds.new.items)
         (clauses_in kinds.old.items words.old.items) (cells_for (length lits.now)) }
     ensures low { IfOk result (λ slot. slot < 4294967295) }
@@ -81,14 +76,9 @@ pub(crate) fn place(
 ) -> Result<usize, OutOfMemory>
     requires memory { IsMemory kinds.old.items words.old.items (at heads.old) }
     ensures memory { IsMemory kinds.new.items words.new.items (at heads.new) }
-    ensures free { IfOk result (λ slot.
-        maps.get (clauses_in kinds.old.items words.old.items) slot ≡ None) }
-    ensures clauses { IfOk result (λ slot. clauses_in kinds.new.items words.new.items ≡
-        maps.insert (clauses_in kinds.old.items words.old.items) slot lits.now) }
-    ensures block { IfOk result (λ slot.
-        maps.get (blocks_in kinds.new.items) slot ≡ Some (cells_for (length lits.now))) }
-    ensures other_blocks { IfOk result (λ slot. (s : ℕ) → s ≢ slot →
-        maps.get (blocks_in kinds.new.items) s ≡ maps.get (blocks_in kinds.old.items) s) }
+    ensures placed { IfOk result (λ slot. IsPlaced
+        (clauses_in kinds.old.items words.old.items) (clauses_in kinds.new.items words.new.items)
+        (blocks_in kinds.old.items) (blocks_in kinds.new.items) slot lits.now) }
     ensures none_was_free { IfOk result (λ slot.
         maps.get (blocks_in kinds.old.items) slot ≡ None → (s : ℕ) →
         maps.get (blocks_in kinds.old.items) s ≡ Some (cells_for (length lits.now)) →

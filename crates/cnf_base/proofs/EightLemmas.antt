@@ -1,16 +1,13 @@
 -- Eight bytes as one number: what is done to the number at once is done to each byte.
-use Rattle.std.proofs.Common.{◌≡◌, ℕ, suc, ◌+◌, ◌-◌, ◌*◌, ◌/◌, ◌%◌, ◌^◌, ◌<◌, ◌≤◌, ◌==◌, Bool}
-use Rattle.std.proofs.Common.{true, false, cond, List, [], ◌∷◌, ◌++◌, length, take, map, refl}
-use Rattle.std.proofs.Common.{◌∙◌, arith, rules, fold, slice_index, replicate}
-use Rattle.std.proofs.Common.{bit_and, bit_or, bit_xor, w64, eqb-true, ap}
-use Rattle.std.proofs.lemmas.Nat.{and_block, or_block, xor_block, and_le_r, and_mask, or_lt, xor_lt}
-use Rattle.std.specs.{Int.from_le_bytes, Int.Count.count_trailing_zeros, List.prefix_len}
-use Rattle.std.specs.{Int.from_bool, List.list_all, Simd.Lanes.zip2}
-use Rattle.std.proofs.{lemmas.Bool.Decides.nat_tests, lemmas.List.Sums.prefix_len-le-length}
-use Rattle.std.proofs.{lemmas.Bool.agree_below_at}
-use Rattle.cnf_base.specs.Code.Eight.{packed, eight, from_zero, AreBelow, AreEight, AreFront}
-use Rattle.cnf_base.specs.{Code.Digits.decimal_after, Code.Eight.decimal}
-use Rattle.cnf_base.specs.{Words.is_digit, Code.Eight.unsigned}
+use Rattle.cnf_base.specs.{Code.{Digits.decimal_after, Eight.{packed, unsigned}}, Words.is_digit}
+use Rattle.cnf_base.specs.Code.Eight.{AreBelow, AreEight, AreFront, decimal, eight, from_zero}
+use Rattle.std.proofs.Common.{Bool, List, [], ap, arith, bit_and, bit_or, bit_xor, cond, eqb-true}
+use Rattle.std.proofs.Common.{false, fold, length, map, refl, replicate, rules, slice_index, suc}
+use Rattle.std.proofs.Common.{take, true, w64, ℕ, ◌%◌, ◌*◌, ◌++◌, ◌+◌, ◌-◌, ◌/◌, ◌<◌, ◌==◌, ◌^◌}
+use Rattle.std.proofs.{Common.{◌∙◌, ◌∷◌, ◌≡◌, ◌≤◌}, lemmas.Bool.{agree_below_at, Decides.nat_tests}}
+use Rattle.std.{proofs.lemmas.List.Sums.prefix_len-le-length, specs.Int.{from_bool, from_le_bytes}}
+use Rattle.std.proofs.lemmas.Nat.{and_block, and_le_r, and_mask, or_block, or_lt, xor_block, xor_lt}
+use Rattle.std.specs.{Int.Count.count_trailing_zeros, List.{list_all, prefix_len}, Simd.Lanes.zip2}
 
 -- an operation that works on each byte alone
 bytewise : (op : ℕ → ℕ → ℕ) → op 0 0 ≡ 0 → ((a b r s : ℕ) → r < 256 → s < 256

@@ -1,21 +1,17 @@
 -- A text's words, as it is read, and that a number and a fixed word are spelled in one way.
-use Rattle.std.proofs.Common.{◌≡◌, ℕ, ◌≤◌, ◌==◌, ◌⊎◌, not, Bool, true, false, List, [], ◌∷◌}
-use Rattle.std.proofs.Common.{◌++◌, map, filter, Option, None, Some, refl, ap}
-use Rattle.std.proofs.Common.{append_assoc, arith, rules, codes, flat_map, filter_map, append-nil}
-use Rattle.std.specs.List.{list_all, cons_option, slice_split}
-use Rattle.std.proofs.lemmas.Fmt.{decimal_digit, decimal-digits_value}
-use Rattle.std.proofs.{lemmas.List.Elements.filter_map-append, lemmas.List.Folds.list_all-append}
-use Rattle.std.proofs.{lemmas.Bool.Decides.nat_tests, lemmas.Slice.Eq.bytes_eq-Decides}
-use Rattle.std.proofs.{Common.decimal, lemmas.List.map-append}
-use Rattle.cnf_base.specs.Grammar.{is_word, words_in, word_lines, text_words}
-use Rattle.cnf_base.specs.Text.{is_separator, Spot, spot, one_on, next_line, along, Listed}
-use Rattle.cnf_base.specs.Text.{words_of, is_comment, line_tokens, with_front, Listing}
-use Rattle.cnf_base.specs.Text.{lines_listing, listing_of}
-use Rattle.cnf_base.specs.Words.{is_counting, size_of, number, fixed_word}
-use Rattle.cnf_base.proofs.PrintLemmas.{numerals}
-use Rattle.cnf_base.proofs.TextLemmas.{first_part, is_comment-lines_of}
-use Rattle.cnf_base.specs.{declared.input.Ending.TheVariants.End}
-use Rattle.cnf_base.specs.{Printing.input_of, Words.word_of, declared.word.Word.Word}
+use Rattle.cnf_base.proofs.{PrintLemmas.numerals, TextLemmas.{first_part, is_comment-lines_of}}
+use Rattle.cnf_base.specs.{Grammar.{is_word, text_words, word_lines, words_in}, Printing.input_of}
+use Rattle.cnf_base.specs.Text.{Listed, Listing, Spot, along, is_comment, is_separator, line_tokens}
+use Rattle.cnf_base.specs.Text.{lines_listing, listing_of, next_line, one_on, spot, with_front}
+use Rattle.cnf_base.specs.{Text.words_of, Words.{fixed_word, is_counting, number, size_of, word_of}}
+use Rattle.cnf_base.specs.declared.{input.Ending.TheVariants.End, word.Word.Word}
+use Rattle.std.proofs.Common.{Bool, List, None, Option, Some, [], ap, append-nil, append_assoc}
+use Rattle.std.proofs.Common.{arith, codes, decimal, false, filter, filter_map, flat_map, map, not}
+use Rattle.std.proofs.Common.{refl, rules, true, ℕ, ◌++◌, ◌==◌, ◌∷◌, ◌≡◌, ◌≤◌, ◌⊎◌}
+use Rattle.std.proofs.lemmas.{Bool.Decides.nat_tests, Fmt.{decimal-digits_value, decimal_digit}}
+use Rattle.std.proofs.lemmas.List.{map-append, Elements.filter_map-append, Folds.list_all-append}
+use Rattle.std.{proofs.lemmas.Slice.Eq.bytes_eq-Decides, specs.List.{cons_option, list_all}}
+use Rattle.std.specs.List.{slice_split}
 use Rattle.cnf_base.specs.declared.word.Word.TheVariants as words
 use Rattle.cnf_base.specs.declared.token.Token as tokens
 use Rattle.cnf_base.specs.declared.token.Token.TheVariants as token

@@ -1,10 +1,9 @@
 -- Where the tokens of a text end.
-use Rattle.std.proofs.Common.{ℕ, ◌≤◌, Bool, true, false, List, [], ◌∷◌, ◌++◌, arith, Result}
-use Rattle.std.specs.List.{slice_split}
-use Rattle.cnf_base.specs.Text.{is_separator, Spot, one_on, next_line, along, Listed, words_of}
-use Rattle.cnf_base.specs.Text.{is_comment, line_tokens, last_tokens, Listing, lines_listing}
-use Rattle.cnf_base.specs.{declared.input.Ending.Ending, declared.input.ReadFailed.ReadFailed}
-use Rattle.cnf_base.specs.{Stream.Suffix, Text.listing_at, Text.Gives, declared.place.Place.Place}
+use Rattle.{cnf_base.specs.{Stream.Suffix, Text.{one_on, words_of}}, std.specs.List.slice_split}
+use Rattle.cnf_base.specs.Text.{Gives, Listed, Listing, Spot, along, is_comment, is_separator}
+use Rattle.cnf_base.specs.Text.{last_tokens, line_tokens, lines_listing, listing_at, next_line}
+use Rattle.cnf_base.specs.declared.{input.{Ending.Ending, ReadFailed.ReadFailed}, place.Place.Place}
+use Rattle.std.proofs.Common.{Bool, List, Result, [], arith, false, true, ℕ, ◌++◌, ◌∷◌, ◌≤◌}
 use Rattle.cnf_base.specs.declared.token.Token as tokens
 
 -- each token ends at this offset or later

@@ -1,8 +1,7 @@
 -- What the other lemmas use of literals.
-use Rattle.std.proofs.Common.{◌≡◌, ◌≢◌, ℕ, ◌%◌, ◌<◌, ◌≤◌, arith, bit_and, bit_xor}
-use Rattle.std.specs.Int.Bits.{xor_add_and}
-use Rattle.std.proofs.{lemmas.Nat.and_mask, lemmas.Bool.Decides.nat_tests}
-use Rattle.cnf_base.specs.Literals.{Literal, complement}
+use Rattle.{cnf_base.specs.Literals.{Literal, complement}, std.proofs.Common.{arith, bit_and}}
+use Rattle.std.proofs.{Common.{bit_xor, ℕ, ◌%◌, ◌<◌, ◌≡◌, ◌≢◌, ◌≤◌}, lemmas.Bool.Decides.nat_tests}
+use Rattle.std.{proofs.lemmas.Nat.and_mask, specs.Int.Bits.xor_add_and}
 
 pub complement-complement : (l : Literal) → complement (complement l) ≡ l
 unfolding complement

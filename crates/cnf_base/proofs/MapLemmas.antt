@@ -1,10 +1,9 @@
 -- Finite maps by number: look-ups where one was changed, and sums over what one has.
-use Rattle.std.proofs.Common.{◌≡◌, ◌≢◌, ℕ, zero, suc, ◌+◌, ◌-◌, ◌*◌, ◌≤◌, cond, eqb, eq-eqb, ne_eqb}
-use Rattle.std.proofs.Common.{Option, Some, None, List, [], ◌∷◌, map, sum_by, length, refl, sym}
-use Rattle.std.proofs.{Common.nat_cmp, lemmas.List.nil_from_length, lemmas.List.Sums.sum_by-cons}
-use Rattle.std.proofs.{Common.◌∙◌, Common.arith, Common.◌⊎◌, Common.rules, lemmas.Option.none-some}
-use Rattle.std.specs.{Cmp.nat_cmp_total, Cmp.unsigned_tied, FinMap.FinMap, FinMap.put, FinMap.find}
-use Rattle.cnf_base.specs.Maps.{sum_over}
+use Rattle.{cnf_base.specs.Maps.sum_over, std.proofs.Common.{List, None, Option, Some, [], arith}}
+use Rattle.std.proofs.Common.{cond, eq-eqb, eqb, length, map, nat_cmp, ne_eqb, refl, rules, suc}
+use Rattle.std.proofs.Common.{sum_by, sym, zero, ℕ, ◌*◌, ◌+◌, ◌-◌, ◌∙◌, ◌∷◌, ◌≡◌, ◌≢◌, ◌≤◌, ◌⊎◌}
+use Rattle.std.proofs.lemmas.{List.{nil_from_length, Sums.sum_by-cons}, Option.none-some}
+use Rattle.std.specs.{Cmp.{nat_cmp_total, unsigned_tied}, FinMap.{FinMap, find, put}}
 use Rattle.std.specs.FinMap as maps
 
 -- ---- Look-ups

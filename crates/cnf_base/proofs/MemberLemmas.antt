@@ -1,11 +1,9 @@
 -- Members of lists, by their places.
-use Rattle.std.proofs.Common.{◌≡◌, ℕ, ◌<◌, ◌+◌, true, List, [], ◌∷◌, map, take, length, get_or}
-use Rattle.std.proofs.Common.{nat_eq, arith, inl, inr, ◌⊎◌, refl, add-one, rules, get_or-take}
-use Rattle.std.{proofs.lemmas.List.get_or-map, proofs.lemmas.List.length-map, specs.List.list_any}
-use Rattle.std.proofs.lemmas.{Bool.Decides.nat_tests, List.Folds.list_any_at}
-use Rattle.std.proofs.{Common.length-take, lemmas.Bool.false≢true}
-use Rattle.cnf_base.specs.Literals.{complement, has, variable}
-use Rattle.cnf_base.proofs.SetLemmas.{has_cases}
+use Rattle.cnf_base.{proofs.SetLemmas.has_cases, specs.Literals.{complement, has, variable}}
+use Rattle.std.proofs.Common.{List, [], add-one, arith, get_or, get_or-take, inl, inr, length}
+use Rattle.std.proofs.Common.{length-take, map, nat_eq, refl, rules, take, true, ℕ, ◌+◌, ◌<◌, ◌∷◌}
+use Rattle.std.proofs.{Common.{◌≡◌, ◌⊎◌}, lemmas.Bool.{false≢true, Decides.nat_tests}}
+use Rattle.std.{proofs.lemmas.List.{get_or-map, length-map, Folds.list_any_at}, specs.List.list_any}
 
 pub place_of : (ls : List ℕ) (l : ℕ) → has ls l ≡ true → (i : ℕ) × (i < length ls)
     × (get_or ls i 0 ≡ l)

@@ -1,21 +1,19 @@
 -- Texts that were printed plainly, as they are read.
-use Rattle.std.proofs.Common.{◌≡◌, ℕ, zero, suc, ◌+◌, ◌-◌, ◌*◌, ◌%◌, ◌^◌, ◌<◌, ◌≤◌, ◌==◌, ◌&&◌}
-use Rattle.std.proofs.Common.{nat_le, cond, not, Bool, true, false, List, [], ◌∷◌, ◌++◌, length}
-use Rattle.std.proofs.Common.{fold, Option, Some, refl, ap, ◌∙◌, append_assoc, append-nil}
-use Rattle.std.proofs.Common.{length-append, arith, codes, decimal}
-use Rattle.std.specs.List.{list_all}
-use Rattle.std.proofs.lemmas.Fmt.{decimal_digit, decimal_nonempty, first_decimal, digits_decimal}
+use Rattle.cnf_base.proofs.TextLemmas.{Each, Each-all, IsRun, listing_at-feed, listing_at-run}
+use Rattle.cnf_base.proofs.TextLemmas.{listing_at-separator, more, none}
+use Rattle.{cnf_base.specs.Code.Digits.decimal_value, std.proofs.Common.{◌^◌, ◌∙◌, ◌∷◌, ◌≡◌, ◌≤◌}}
+use Rattle.cnf_base.specs.Code.Text.{col_after, col_along, line_after, listed}
+use Rattle.cnf_base.specs.{Literals.{Literal, variable}, Stream.suffix, declared.place.Place.Place}
+use Rattle.{cnf_base.specs.Printing.{is_literal, literal_text, words_line}, std.specs.List.list_all}
+use Rattle.cnf_base.specs.Text.{Listing, is_comment, is_separator, listing_at, with_front}
+use Rattle.cnf_base.specs.Words.{is_counting, is_digit, number, number_literal, size_of, word_of}
+use Rattle.cnf_base.specs.declared.{input.Ending.TheVariants.End, word.Number.Number}
+use Rattle.std.proofs.Common.{Bool, List, Option, Some, [], ap, append-nil, append_assoc, arith}
+use Rattle.std.proofs.Common.{codes, cond, decimal, false, fold, length, length-append, nat_le, not}
+use Rattle.std.proofs.Common.{refl, suc, true, zero, ℕ, ◌%◌, ◌&&◌, ◌*◌, ◌++◌, ◌+◌, ◌-◌, ◌<◌, ◌==◌}
+use Rattle.std.proofs.lemmas.{Bool.Decides.nat_tests, Fmt.{digits_value-decimal, first_decimal}}
+use Rattle.std.proofs.lemmas.Fmt.{decimal_digit, decimal_nonempty, digits_decimal}
 use Rattle.std.proofs.lemmas.Str.Parse.{IsDigitsTest, IsNumeralModel, numerals_by_fold}
-use Rattle.std.proofs.{lemmas.Bool.Decides.nat_tests, lemmas.Fmt.digits_value-decimal}
-use Rattle.cnf_base.specs.Literals.{Literal, variable}
-use Rattle.cnf_base.specs.Printing.{words_line, is_literal, literal_text}
-use Rattle.cnf_base.specs.Text.{is_separator, is_comment, with_front, Listing, listing_at}
-use Rattle.cnf_base.specs.Code.Text.{col_after, line_after, listed, col_along}
-use Rattle.cnf_base.specs.Words.{is_digit, is_counting, size_of, number, number_literal, word_of}
-use Rattle.cnf_base.proofs.TextLemmas.{Each, Each-all, none, more, IsRun, listing_at-separator}
-use Rattle.cnf_base.proofs.TextLemmas.{listing_at-feed, listing_at-run}
-use Rattle.cnf_base.specs.{declared.input.Ending.TheVariants.End, declared.word.Number.Number}
-use Rattle.cnf_base.specs.{Stream.suffix, Code.Digits.decimal_value, declared.place.Place.Place}
 use Rattle.cnf_base.specs.declared.word.Word.TheVariants as words
 use Rattle.cnf_base.specs.declared.token.Token as tokens
 use Rattle.cnf_base.specs.declared.token.Token.TheVariants as token

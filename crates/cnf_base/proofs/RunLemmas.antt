@@ -1,23 +1,18 @@
 -- What a scanner has seen of a text, byte by byte.
-use Rattle.std.proofs.Common.{◌≡◌, ℕ, ◌+◌, ◌<◌, ◌≤◌, ◌==◌, true, false, List, [], ◌∷◌, length}
-use Rattle.std.proofs.Common.{take, drop, length-drop, refl, sym, ◌∙◌, arith, Some, rules}
-use Rattle.std.proofs.Common.{slice_index, slice_range, ◌-◌, take_all}
-use Rattle.std.proofs.{lemmas.Grind.common_steps}
-use Rattle.cnf_base.specs.Stream.{Stream, Along, IsLook, bumped, most_to_come}
-use Rattle.cnf_base.specs.Text.{is_separator, with_front, skips_at, listing_at}
-use Rattle.cnf_base.specs.Code.Text.{listed, col_along, comment_at}
-use Rattle.cnf_base.proofs.StreamLemmas.{Splits, Along-look, Along-still, Along-map}
-use Rattle.cnf_base.proofs.StreamLemmas.{Along-then, Along-bumped, Along-skipped, shown_byte}
-use Rattle.cnf_base.proofs.TextLemmas.{none, more, Each-all, skips_at-front}
-use Rattle.cnf_base.proofs.TextLemmas.{col_along-length, IsRun}
-use Rattle.cnf_base.proofs.TextLemmas.{listing_at-separator, listing_at-run}
-use Rattle.cnf_base.specs.{declared.input.Ending.TheVariants.Failed}
-use Rattle.cnf_base.specs.{declared.word.Number.Number}
-use Rattle.cnf_base.specs.{declared.place.Place.Place}
-use Rattle.cnf_base.specs.{Stream.tells_failure, Ahead.IsWholeNumber, declared.word.Word.Word}
-use Rattle.cnf_base.specs.{Stream.skipped, Words.word_of, Ahead.IsNumberAhead}
-use Rattle.cnf_base.proofs.{StreamLemmas.most_to_come-bumped, StreamLemmas.most_to_come-look}
-use Rattle.cnf_base.proofs.{TextLemmas.listing_at-cut_run}
+use Rattle.cnf_base.proofs.StreamLemmas.{Along-bumped, Along-look, Along-map, Along-skipped}
+use Rattle.cnf_base.proofs.StreamLemmas.{Along-still, Along-then, Splits, most_to_come-bumped}
+use Rattle.cnf_base.proofs.{StreamLemmas.{most_to_come-look, shown_byte}, TextLemmas.Each-all}
+use Rattle.cnf_base.proofs.TextLemmas.{IsRun, col_along-length, listing_at-cut_run, listing_at-run}
+use Rattle.cnf_base.proofs.TextLemmas.{listing_at-separator, more, none, skips_at-front}
+use Rattle.cnf_base.specs.{Ahead.{IsNumberAhead, IsWholeNumber}, Code.Text.{col_along, comment_at}}
+use Rattle.cnf_base.specs.{Code.Text.listed, Stream.{Along, IsLook, Stream, bumped, most_to_come}}
+use Rattle.cnf_base.specs.{Stream.{skipped, tells_failure}, Text.{is_separator, listing_at}}
+use Rattle.cnf_base.specs.{Text.{skips_at, with_front}, Words.word_of}
+use Rattle.cnf_base.specs.declared.{input.Ending.TheVariants.Failed, place.Place.Place}
+use Rattle.{cnf_base.specs.declared.word.{Number.Number, Word.Word}, std.proofs.Common.{List, Some}}
+use Rattle.std.proofs.Common.{[], arith, drop, false, length, length-drop, refl, rules, slice_index}
+use Rattle.std.proofs.Common.{slice_range, sym, take, take_all, true, ℕ, ◌+◌, ◌-◌, ◌<◌, ◌==◌, ◌∙◌}
+use Rattle.std.proofs.{Common.{◌∷◌, ◌≡◌, ◌≤◌}, lemmas.Grind.common_steps}
 use Rattle.cnf_base.specs.declared.word.Word.TheVariants as words
 use Rattle.cnf_base.specs.declared.token.Token as tokens
 use Rattle.cnf_base.specs.declared.token.Token.TheVariants as token

@@ -1,12 +1,10 @@
 -- What a run saw of its reader.
-use Rattle.std.proofs.Common.{◌≡◌, ℕ, List, [], ◌++◌, Option, None, Some, refl}
-use Rattle.std.proofs.Common.{append_assoc, append-nil, arith}
-use Rattle.std.{proofs.KnownBytes.Consumes-nil}
-use Rattle.cnf_base.specs.Stream.{Input, Suffix, from_start, preceded, Reader, Stream}
-use Rattle.cnf_base.specs.Stream.{MayFollow, MayCome, Along}
-use Rattle.cnf_base.specs.Seen.{Seen, IsSeen, SeenMayBeGiven, SeenIsSome}
 use Rattle.cnf_base.proofs.StreamLemmas.{IsSilent-nothing, MayGive-read, some_input}
+use Rattle.cnf_base.specs.{Seen.{IsSeen, Seen, SeenIsSome, SeenMayBeGiven}, Stream.{Along, Input}}
+use Rattle.cnf_base.specs.Stream.{MayCome, MayFollow, Reader, Stream, Suffix, from_start, preceded}
 use Rattle.cnf_base.specs.{Stream.unread_stream, declared.input.Ending.Ending}
+use Rattle.std.proofs.Common.{List, None, Option, Some, [], append-nil, append_assoc, arith, refl}
+use Rattle.std.proofs.{Common.{ℕ, ◌++◌, ◌≡◌}, KnownBytes.Consumes-nil}
 
 -- nothing was read
 pub Seen-nothing : (reader : Reader) → Seen reader reader

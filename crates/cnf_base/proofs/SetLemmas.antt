@@ -1,10 +1,9 @@
 -- Lists as the sets of their literals.
-use Rattle.std.proofs.Common.{◌≡◌, ◌≢◌, ◌==◌, Bool, true, false, eqb, List, [], ◌∷◌, ◌++◌, filter}
-use Rattle.std.proofs.Common.{refl, ◌⊎◌, eq-eqb, arith}
-use Rattle.std.proofs.lemmas.Bool.{or_left, or_right}
-use Rattle.std.{proofs.lemmas.List.Folds.list_any-append, specs.List.list_any, specs.List.list_all}
-use Rattle.cnf_base.specs.Literals.{Literal, complement, Clause, has, complements, without}
-use Rattle.cnf_base.{specs.Literals.same_clause, proofs.LiteralLemmas.complement-complement}
+use Rattle.cnf_base.{proofs.LiteralLemmas.complement-complement, specs.Literals.{Clause, Literal}}
+use Rattle.cnf_base.specs.Literals.{complement, complements, has, same_clause, without}
+use Rattle.std.proofs.Common.{Bool, List, [], arith, eq-eqb, eqb, false, filter, refl, true, ◌++◌}
+use Rattle.std.proofs.{Common.{◌==◌, ◌∷◌, ◌≡◌, ◌≢◌, ◌⊎◌}, lemmas.Bool.{or_left, or_right}}
+use Rattle.std.{proofs.lemmas.List.Folds.list_any-append, specs.List.{list_all, list_any}}
 
 -- two tests that pass together are equal
 pub both_pass : (a b : Bool) → (a ≡ true → b ≡ true) → (b ≡ true → a ≡ true) → a ≡ b

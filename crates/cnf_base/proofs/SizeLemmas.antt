@@ -1,10 +1,9 @@
 -- Clauses as sets: what is summed over their different literals, and clauses that repeat nothing.
-use Rattle.std.proofs.Common.{◌≡◌, ℕ, ◌+◌, ◌<◌, ◌≤◌, true, false, cond, [], ◌∷◌, ◌++◌, length, take}
-use Rattle.std.proofs.Common.{get_or, zero, suc, refl, ap, arith}
-use Rattle.cnf_base.specs.Literals.{Literal, Clause, has, without, size}
-use Rattle.cnf_base.specs.Code.Literals.{sum_distinct}
-use Rattle.cnf_base.proofs.SetLemmas.{has_head, has_tail, has_append_left, has_append_right}
-use Rattle.cnf_base.proofs.SetLemmas.{has_append_cases, has-without, without_has}
+use Rattle.cnf_base.proofs.SetLemmas.{has-without, has_append_cases, has_append_left}
+use Rattle.cnf_base.proofs.SetLemmas.{has_append_right, has_head, has_tail, without_has}
+use Rattle.cnf_base.specs.{Code.Literals.sum_distinct, Literals.{Clause, Literal, has, size}}
+use Rattle.{cnf_base.specs.Literals.without, std.proofs.Common.{[], ap, arith, cond, false, get_or}}
+use Rattle.std.proofs.Common.{length, refl, suc, take, true, zero, ℕ, ◌++◌, ◌+◌, ◌<◌, ◌∷◌, ◌≡◌, ◌≤◌}
 
 -- each literal of c is one of d
 abbrev pub IsWithin : Clause → Clause → Type 0

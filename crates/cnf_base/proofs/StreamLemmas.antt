@@ -1,15 +1,14 @@
 -- What may still come of an input, from one moment to the next.
-use Rattle.std.proofs.Common.{◌≡◌, ℕ, ◌+◌, ◌-◌, ◌<◌, ◌≤◌, suc, List, [], ◌∷◌, ◌++◌, length, take}
-use Rattle.std.proofs.Common.{drop, Option, None, Some, refl, ap, append_assoc}
-use Rattle.std.proofs.Common.{append-nil, length-append, length-drop, arith, rules, slice_range}
-use Rattle.std.proofs.Common.{slice_index, drop-drop, take-append-drop}
-use Rattle.std.specs.Io.KnownBytes.{Consumes, Keeps}
-use Rattle.std.proofs.KnownBytes.{Consumes-nil, Consumes-kept}
-use Rattle.std.proofs.{lemmas.Grind.common_steps, lemmas.List.drop-take}
-use Rattle.cnf_base.specs.Stream.{Input, Suffix, suffix, from_offset, preceded, Reader, Stream}
-use Rattle.cnf_base.specs.Stream.{MayGive, MayFollow, MayCome, Meets, Moves, Along, IsLook}
-use Rattle.cnf_base.specs.Stream.{IsSilent, bumped, bytes_read, most_to_come, skipped}
-use Rattle.cnf_base.specs.{declared.input.Ending.Ending, declared.input.Ending.TheVariants.End}
+use Rattle.cnf_base.specs.Stream.{Along, Input, IsLook, IsSilent, MayCome, MayFollow, MayGive}
+use Rattle.cnf_base.specs.Stream.{Meets, Moves, Reader, Stream, Suffix, bumped, bytes_read}
+use Rattle.cnf_base.specs.Stream.{from_offset, most_to_come, preceded, skipped, suffix}
+use Rattle.{cnf_base.specs.declared.input.Ending.{Ending, TheVariants.End}, std.proofs.Common.List}
+use Rattle.std.proofs.Common.{None, Option, Some, [], ap, append-nil, append_assoc, arith, drop}
+use Rattle.std.proofs.Common.{drop-drop, length, length-append, length-drop, refl, rules}
+use Rattle.std.proofs.Common.{slice_index, slice_range, suc, take, take-append-drop, ℕ, ◌++◌, ◌+◌}
+use Rattle.std.proofs.{Common.{◌-◌, ◌<◌, ◌∷◌, ◌≡◌, ◌≤◌}, KnownBytes.{Consumes-kept, Consumes-nil}}
+use Rattle.std.{proofs.lemmas.{Grind.common_steps, List.drop-take}, specs.Io.KnownBytes.Consumes}
+use Rattle.std.specs.Io.KnownBytes.{Keeps}
 
 -- what may be given after these bytes were read may be given with them in front
 pub MayGive-read : (left left' : Option (List ℕ)) (read later : List ℕ) (ending : Ending)

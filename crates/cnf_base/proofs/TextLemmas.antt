@@ -1,15 +1,12 @@
 -- A text's listing, byte by byte and run by run.
-use Rattle.std.proofs.Common.{◌≡◌, ℕ, ◌+◌, ◌<◌, ◌==◌, cond, Bool, true, false, List, [], ◌∷◌}
-use Rattle.std.proofs.Common.{◌++◌, length, take, zero, suc, not, refl, ap, append-nil, arith}
-use Rattle.std.specs.List.{slice_split, onto_first, list_all}
-use Rattle.std.proofs.{Common.slice_index, lemmas.Bool.Decides.nat_tests}
-use Rattle.cnf_base.specs.Stream.{more_count, suffix}
-use Rattle.cnf_base.specs.Text.{is_separator, Spot, spot, one_on, along, Listed}
-use Rattle.cnf_base.specs.Text.{words_of, is_comment}
-use Rattle.cnf_base.specs.Text.{with_front, lines_listing, lines_of, skips_at, listing_at}
-use Rattle.cnf_base.specs.Code.Text.{col_after, line_after, listed, col_along}
-use Rattle.cnf_base.specs.declared.input.Ending.TheVariants.{End, Failed}
-use Rattle.cnf_base.specs.{Words.word_of, declared.input.Ending.Ending, declared.place.Place.Place}
+use Rattle.{cnf_base.specs.Code.Text.col_after, std.specs.List.{list_all, onto_first, slice_split}}
+use Rattle.cnf_base.specs.{Code.Text.{col_along, line_after, listed}, declared.place.Place.Place}
+use Rattle.{cnf_base.specs.Stream.{more_count, suffix}, std.proofs.lemmas.Bool.Decides.nat_tests}
+use Rattle.cnf_base.specs.Text.{Listed, Spot, along, is_comment, is_separator, lines_listing}
+use Rattle.cnf_base.specs.Text.{lines_of, listing_at, one_on, skips_at, spot, with_front, words_of}
+use Rattle.cnf_base.specs.{Words.word_of, declared.input.Ending.{Ending, TheVariants.{End, Failed}}}
+use Rattle.std.proofs.Common.{Bool, List, [], ap, append-nil, arith, cond, false, length, not, refl}
+use Rattle.std.proofs.Common.{slice_index, suc, take, true, zero, ℕ, ◌++◌, ◌+◌, ◌<◌, ◌==◌, ◌∷◌, ◌≡◌}
 use Rattle.cnf_base.specs.declared.token.Token.TheVariants as token
 
 pub append_nil : (xs : List ℕ) → xs ++ [] ≡ xs

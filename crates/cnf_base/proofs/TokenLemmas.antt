@@ -1,8 +1,7 @@
 -- The token that a call gave.
-use Rattle.std.proofs.Common.{◌≡◌, [], arith, Result, IsErr}
-use Rattle.cnf_base.specs.{declared.input.Ending.TheVariants.Failed, declared.token.Token.Token}
-use Rattle.cnf_base.specs.{Stream.Stream, Text.listing_at, declared.input.ReadFailed.ReadFailed}
-use Rattle.cnf_base.specs.{Stream.Along, Text.Gives}
+use Rattle.cnf_base.specs.{Stream.Along, declared.{input.ReadFailed.ReadFailed, token.Token.Token}}
+use Rattle.{cnf_base.specs.Stream.Stream, std.proofs.Common.{IsErr, Result, [], arith, ◌≡◌}}
+use Rattle.cnf_base.specs.{Text.{Gives, listing_at}, declared.input.Ending.TheVariants.Failed}
 
 -- a call gave this
 abbrev pub GivesNext : Result Token ReadFailed → Stream → Stream → Type 0

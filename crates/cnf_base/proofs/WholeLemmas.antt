@@ -1,19 +1,16 @@
 -- Numbers that stand whole among bytes.
-use Rattle.std.proofs.Common.{◌≡◌, ℕ, zero, suc, ◌+◌, ◌^◌, ◌<◌, ◌≤◌, ◌==◌, Bool, true, false, List}
-use Rattle.std.proofs.Common.{[], ◌∷◌, length, take, drop, refl, sym, arith, add-one}
-use Rattle.std.proofs.Common.{slice_index, slice_range, take-add, eqb-true, get_or-drop}
-use Rattle.std.proofs.Common.{length-drop, ◌-◌, ◌*◌, ◌&&◌, min, ◌++◌, length-append, rules}
-use Rattle.std.proofs.{lemmas.Bool.Decides.nat_tests, lemmas.List.Folds.list_all-append}
-use Rattle.std.proofs.{Math.Seq.take-length, lemmas.List.Sums.fold-append, lemmas.Bool.and_parts}
-use Rattle.std.specs.{Int.from_bool, List.list_all}
-use Rattle.cnf_base.specs.Code.Digits.{decimal_after, digits_word, AreDigits, with_byte}
-use Rattle.cnf_base.specs.Code.Digits.{begins_number, first_digits, Spells, negative, positive}
-use Rattle.cnf_base.specs.Ahead.{is_inner, IsEnded, IsWholeNumber}
-use Rattle.cnf_base.specs.declared.scanner.digits.Digits.TheVariants.{Counting}
-use Rattle.cnf_base.specs.Words.{is_digit, number, is_counting, size_of, word_of}
-use Rattle.cnf_base.specs.{Code.Eight.unsigned}
-use Rattle.cnf_base.specs.{declared.scanner.digits.Digits.Digits, declared.word.Number.Number}
-use Rattle.cnf_base.specs.{Code.Whole.GoOn}
+use Rattle.cnf_base.specs.{Ahead.{IsEnded, IsWholeNumber, is_inner}, Code.Digits.AreDigits}
+use Rattle.cnf_base.specs.Code.Digits.{Spells, begins_number, decimal_after, digits_word}
+use Rattle.cnf_base.specs.Code.Digits.{first_digits, negative, positive, with_byte}
+use Rattle.cnf_base.specs.{Code.{Eight.unsigned, Whole.GoOn}, Words.{is_counting, is_digit, number}}
+use Rattle.cnf_base.specs.{Words.{size_of, word_of}, declared.scanner.digits.Digits.Digits}
+use Rattle.cnf_base.specs.declared.{scanner.digits.Digits.TheVariants.Counting, word.Number.Number}
+use Rattle.std.proofs.Common.{Bool, List, [], add-one, arith, drop, eqb-true, false, get_or-drop}
+use Rattle.std.proofs.Common.{length, length-append, length-drop, min, refl, rules, slice_index}
+use Rattle.std.proofs.Common.{slice_range, suc, sym, take, take-add, true, zero, ℕ, ◌&&◌, ◌*◌, ◌++◌}
+use Rattle.std.proofs.{Common.{◌+◌, ◌-◌, ◌<◌, ◌==◌, ◌^◌, ◌∷◌, ◌≡◌, ◌≤◌}, Math.Seq.take-length}
+use Rattle.std.proofs.lemmas.{Bool.{and_parts, Decides.nat_tests}, List.Folds.list_all-append}
+use Rattle.std.{proofs.lemmas.List.Sums.fold-append, specs.{Int.from_bool, List.list_all}}
 use Rattle.cnf_base.specs.declared.word.Word.TheVariants as words
 
 -- ---- What a run says, byte by byte

@@ -1,26 +1,24 @@
 -- A solver's output, one token at a time.
-use Rattle.std.proofs.Common.{arith, ◌≡◌, eqb, refl, sym, ap, subst, ◌∙◌, rules, true≢false, ◌||◌}
-use Rattle.std.proofs.Common.{cond, Bool, true, false, List, [], ◌∷◌, Option, None, Some, Result}
-use Rattle.std.proofs.{Common.Ok, Common.Err, lemmas.Bool.false≢true}
+use Rattle.cnf_base.proofs.StreamLemmas.{Along-map, Along-still, Along-then}
+use Rattle.cnf_base.{proofs.TokenLemmas.GivesNext, specs.{Literals.{Literal, has}, Stream.Along}}
+use Rattle.cnf_base.specs.{Stream.{Stream, tells_failure}, Text.{Listed, Listing, listing_at}}
+use Rattle.cnf_base.specs.declared.fault.Fault.{Fault, TheVariants.{ReadFailed, Text}}
+use Rattle.cnf_base.specs.declared.fault.TextFault.{TextFault, TheVariants.{AfterEnd, BadLine}}
+use Rattle.cnf_base.specs.declared.fault.TextFault.TheVariants.{Complement, LiteralTooLarge}
+use Rattle.cnf_base.specs.declared.fault.TextFault.TheVariants.{NotClaimed, SecondStatus}
+use Rattle.cnf_base.specs.declared.input.Ending.{Ending, TheVariants.{End, Failed}}
+use Rattle.cnf_base.specs.declared.{input.ReadFailed.ReadFailed as Cut, place.Place.Place}
+use Rattle.{cnf_base.specs.declared.word.Word.Word, dimacs.specs.Claim.{IsClaim, LinePosition}}
+use Rattle.dimacs.specs.Claim.{Said, after_s, after_status, at_line_start, claim_after, claim_among}
+use Rattle.dimacs.specs.Claim.{claim_on_token, claim_on_word, in_values, on_end, on_first}
+use Rattle.dimacs.specs.Claim.{on_line_end, on_literal, on_status, on_value, placed}
+use Rattle.dimacs.specs.{Code.Claiming.{ComesTo, Takes, with_listed}, Formula.and_then}
+use Rattle.std.proofs.Common.{Bool, Err, List, None, Ok, Option, Result, Some, [], ap, arith, cond}
+use Rattle.std.proofs.Common.{eqb, false, refl, rules, subst, sym, true, true≢false, ◌||◌, ◌∙◌, ◌∷◌}
+use Rattle.std.proofs.{Common.◌≡◌, lemmas.Bool.false≢true}
 use Rattle.cnf_base.specs.declared.word.Word.TheVariants as words
 use Rattle.cnf_base.specs.declared.token.Token as tokens
 use Rattle.cnf_base.specs.declared.token.Token.TheVariants as token
-use Rattle.cnf_base.specs.{Stream.Stream, Stream.Along, Stream.tells_failure, Literals.Literal}
-use Rattle.cnf_base.specs.{Text.listing_at, Text.Listing, Text.Listed, Literals.has}
-use Rattle.cnf_base.specs.declared.input.Ending.{TheVariants.End, TheVariants.Failed, Ending}
-use Rattle.cnf_base.specs.declared.{input.ReadFailed.ReadFailed as Cut, word.Word.Word}
-use Rattle.cnf_base.specs.declared.{fault.TextFault.TheVariants.LiteralTooLarge, place.Place.Place}
-use Rattle.cnf_base.specs.declared.fault.Fault.{TheVariants.Text, TheVariants.ReadFailed, Fault}
-use Rattle.cnf_base.specs.declared.fault.TextFault.TheVariants.{BadLine, SecondStatus, NotClaimed}
-use Rattle.cnf_base.specs.declared.fault.TextFault.TheVariants.{AfterEnd, Complement}
-use Rattle.cnf_base.specs.declared.fault.TextFault.{TextFault}
-use Rattle.cnf_base.proofs.TokenLemmas.{GivesNext}
-use Rattle.cnf_base.proofs.StreamLemmas.{Along-then, Along-map, Along-still}
-use Rattle.dimacs.specs.Claim.{LinePosition, at_line_start, after_s, after_status, in_values, Said}
-use Rattle.dimacs.specs.Claim.{on_first, on_status, on_literal, on_value, claim_on_word}
-use Rattle.dimacs.specs.Claim.{on_line_end, placed, claim_on_token, on_end, claim_among}
-use Rattle.dimacs.specs.{Claim.claim_after, Claim.IsClaim, Formula.and_then}
-use Rattle.dimacs.specs.Code.Claiming.{with_listed, ComesTo, Takes}
 
 -- ---- Only the set of the listed literals counts
 

@@ -1,31 +1,29 @@
 -- A formula's text, as its grammar has it.
-use Rattle.std.proofs.Common.{◌≡◌, ℕ, ◌+◌, ◌≤◌, nat_le, cond, Bool, true, false, List, [], ◌∷◌}
-use Rattle.std.proofs.Common.{◌++◌, length, map, Option, None, Some, Result, Ok, Err, refl, sym, ap}
-use Rattle.std.proofs.Common.{subst, ◌∙◌, append_assoc, arith, rules, if◌then◌else◌, codes}
+use Rattle.cnf_base.proofs.GrammarLemmas.{cnf_spelled, listing_says, number_spelled, p_spelled}
+use Rattle.cnf_base.{proofs.PrintLemmas.{both, count_word}, specs.Grammar.word_lines}
+use Rattle.cnf_base.specs.{Literals.{Clause, Literal, variable}, Printing.{input_of, is_literal}}
+use Rattle.cnf_base.specs.{Printing.{literal_text, literal_words}, Text.{Listed, Listing}}
+use Rattle.cnf_base.specs.{Text.listing_of, Words.{number, number_literal, word_of}}
+use Rattle.cnf_base.specs.declared.fault.{Fault.Fault, TextFault.{TextFault, TheVariants.BadToken}}
+use Rattle.cnf_base.specs.declared.fault.TextFault.TheVariants.{LiteralOutOfRange, NumberTooLarge}
+use Rattle.cnf_base.specs.declared.{fault.TextFault.TheVariants.TooManyClauses, input.Ending.Ending}
+use Rattle.cnf_base.specs.declared.{input.Ending.TheVariants.End, place.Place.Place, word.Word.Word}
+use Rattle.dimacs.proofs.{FormulaPrinting.judged_literal, GrammarWords.{AreSaid, IsSaid, Lines}}
+use Rattle.dimacs.proofs.GrammarWords.{and_so, filled_words, line_then, literal_spelled, said_by}
+use Rattle.dimacs.proofs.GrammarWords.{some_parts, text_lines, went_on, zero_spelled}
+use Rattle.dimacs.{proofs.HeaderLemmas.after_p, specs.Formula.{Body, Formula, body_among}}
+use Rattle.dimacs.specs.Formula.{body_at_end, body_of, count, fixed, formula_of, formula_with}
+use Rattle.dimacs.specs.Formula.{header_of, is_cnf, is_p, judged, line_end, part}
+use Rattle.dimacs.specs.Grammar.{FormulaIsGrammar, FormulaText, all_words, filled_lines}
+use Rattle.dimacs.specs.{Printing.{IsFormula, header_words}, declared.header.Header.Header}
+use Rattle.std.proofs.Common.{Bool, Err, List, None, Ok, Option, Result, Some, [], ap, append_assoc}
+use Rattle.std.proofs.Common.{arith, codes, cond, false, if◌then◌else◌, length, map, nat_le, refl}
+use Rattle.std.proofs.Common.{rules, subst, sym, true, ℕ, ◌++◌, ◌+◌, ◌∙◌, ◌∷◌, ◌≡◌, ◌≤◌}
+use Rattle.std.proofs.lemmas.{Bool.Decides.nat_tests, List.{map-append, Folds.list_all-append}}
+use Rattle.std.specs.{Fmt.decimal, List.{flat_map, list_all}}
 use Rattle.cnf_base.specs.declared.word.Word.TheVariants as words
 use Rattle.cnf_base.specs.declared.token.Token as tokens
 use Rattle.cnf_base.specs.declared.token.Token.TheVariants as token
-use Rattle.std.proofs.lemmas.{List.Folds.list_all-append, List.map-append, Bool.Decides.nat_tests}
-use Rattle.std.specs.{List.flat_map, List.list_all, Fmt.decimal}
-use Rattle.cnf_base.specs.{Literals.Literal, Literals.Clause, Literals.variable, Text.listing_of}
-use Rattle.cnf_base.specs.{Words.number, Words.number_literal, Words.word_of, Text.Listing}
-use Rattle.cnf_base.specs.{declared.input.Ending.Ending, Grammar.word_lines, Text.Listed}
-use Rattle.cnf_base.specs.Printing.{input_of, is_literal, literal_text, literal_words}
-use Rattle.cnf_base.specs.declared.{input.Ending.TheVariants.End, word.Word.Word, place.Place.Place}
-use Rattle.cnf_base.specs.declared.fault.{TextFault.TextFault, Fault.Fault}
-use Rattle.cnf_base.specs.declared.fault.TextFault.TheVariants.{NumberTooLarge, BadToken}
-use Rattle.cnf_base.specs.declared.fault.TextFault.TheVariants.{LiteralOutOfRange, TooManyClauses}
-use Rattle.cnf_base.proofs.GrammarLemmas.{listing_says, number_spelled, p_spelled, cnf_spelled}
-use Rattle.cnf_base.proofs.PrintLemmas.{both, count_word}
-use Rattle.dimacs.specs.Formula.{is_p, is_cnf, fixed, count, line_end, part, header_of, judged}
-use Rattle.dimacs.specs.Formula.{Body, body_at_end, body_among, body_of, Formula, formula_with}
-use Rattle.dimacs.specs.Grammar.{filled_lines, all_words, FormulaText, FormulaIsGrammar}
-use Rattle.dimacs.specs.Printing.{header_words, IsFormula}
-use Rattle.dimacs.specs.{declared.header.Header.Header, Formula.formula_of}
-use Rattle.dimacs.proofs.{FormulaPrinting.judged_literal, HeaderLemmas.after_p}
-use Rattle.dimacs.proofs.GrammarWords.{Lines, and_so, went_on, some_parts, line_then, said_by}
-use Rattle.dimacs.proofs.GrammarWords.{IsSaid, AreSaid, text_lines, filled_words, literal_spelled}
-use Rattle.dimacs.proofs.GrammarWords.{zero_spelled}
 
 -- ---- The clauses, where places and faults don't matter
 

@@ -1,22 +1,20 @@
 -- A formula's tokens, one at a time.
-use Rattle.std.proofs.Common.{◌≡◌, ℕ, ◌<◌, ◌≤◌, List, [], ◌∷◌, ◌++◌, Option, None, Some, refl, sym}
-use Rattle.std.proofs.Common.{ap, ◌∙◌, subst, arith, rules, Bool, true, Result, Ok, Err}
+use Rattle.cnf_base.{proofs.ListingLemmas.{Gives-from, listing_at-from}, specs.Literals.Literal}
+use Rattle.cnf_base.proofs.{StreamLemmas.{Along-map, Along-none, Along-then}, TokenLemmas.GivesNext}
+use Rattle.cnf_base.specs.Stream.{Along, Stream, Suffix, most_to_come, tells_failure}
+use Rattle.cnf_base.specs.{Text.{Gives, Listing, listing_at}, declared.fault.TextFault.TextFault}
+use Rattle.cnf_base.specs.declared.fault.Fault.{Fault, TheVariants.{OutOfMemory, ReadFailed, Text}}
+use Rattle.cnf_base.specs.declared.input.{Ending.TheVariants.End, ReadFailed.ReadFailed as Cut}
+use Rattle.cnf_base.specs.declared.{place.Place.Place, token.Token.Token, word.Word.Word}
+use Rattle.dimacs.proofs.OffsetLemmas.{ends_among-from, gives_no_end, on_word-from}
+use Rattle.dimacs.specs.Code.Reading.{EndsBody, body_left, ends_left}
+use Rattle.dimacs.specs.Formula.{Body, body_at_end, body_of, body_on_word, ends_after, ends_on_word}
+use Rattle.dimacs.specs.{Formula.{faulty_body, judged, whole}, declared.header.Header.Header}
+use Rattle.dimacs.specs.Reading.{FormulaReading, GivesClause, GivesEnd, PassesNoEnd}
+use Rattle.dimacs.specs.Reading.{body_unless_ended, clauses_to_come, ends_to_come}
+use Rattle.std.proofs.Common.{Bool, Err, List, None, Ok, Option, Result, Some, [], ap, arith, refl}
+use Rattle.std.proofs.Common.{rules, subst, sym, true, ℕ, ◌++◌, ◌<◌, ◌∙◌, ◌∷◌, ◌≡◌, ◌≤◌}
 use Rattle.cnf_base.specs.declared.token.Token.TheVariants as token
-use Rattle.cnf_base.specs.Stream.{Suffix, Stream, Along, most_to_come, tells_failure}
-use Rattle.cnf_base.specs.{Text.Listing, Text.listing_at, Text.Gives, declared.place.Place.Place}
-use Rattle.cnf_base.specs.{declared.input.Ending.TheVariants.End, Literals.Literal}
-use Rattle.cnf_base.specs.declared.{input.ReadFailed.ReadFailed as Cut, word.Word.Word}
-use Rattle.cnf_base.specs.declared.{fault.TextFault.TextFault, fault.Fault.Fault, token.Token.Token}
-use Rattle.cnf_base.specs.declared.fault.Fault.TheVariants.{Text, ReadFailed, OutOfMemory}
-use Rattle.cnf_base.proofs.ListingLemmas.{Gives-from, listing_at-from}
-use Rattle.cnf_base.proofs.TokenLemmas.{GivesNext}
-use Rattle.cnf_base.proofs.StreamLemmas.{Along-then, Along-map, Along-none}
-use Rattle.dimacs.specs.Reading.{FormulaReading, clauses_to_come, body_unless_ended, GivesClause}
-use Rattle.dimacs.specs.Code.Reading.{body_left, EndsBody, ends_left}
-use Rattle.dimacs.specs.Formula.{Body, body_of, judged, body_on_word, body_at_end, faulty_body}
-use Rattle.dimacs.specs.{Formula.whole, Formula.ends_on_word, Formula.ends_after, Reading.GivesEnd}
-use Rattle.dimacs.specs.{declared.header.Header.Header, Reading.ends_to_come, Reading.PassesNoEnd}
-use Rattle.dimacs.proofs.OffsetLemmas.{on_word-from, ends_among-from, gives_no_end}
 
 -- a fault is what comes, and it stays
 pub gives_fault : (f : Fault) (c : List Literal) (b : Body) → b ≡ faulty_body f → GivesClause (Err f) c b (faulty_body f)

@@ -1,20 +1,17 @@
 -- Tokens as the words of lines, where places don't matter, and how words are spelled.
-use Rattle.std.proofs.Common.{◌≡◌, ◌⊎◌, inl, inr, ℕ, ◌+◌, ◌*◌, ◌≤◌, nat_le, cond}
-use Rattle.std.proofs.Common.{true, List, [], ◌∷◌, ◌++◌, Option, None, Some, refl, ap, subst}
-use Rattle.std.proofs.Common.{◌∙◌, arith, rules, ◌&&◌, codes}
+use Rattle.cnf_base.proofs.GrammarLemmas.{all_said, is_inside, line_said, listing_says}
+use Rattle.cnf_base.proofs.{GrammarLemmas.{number_spelled, said, text_said}, PrintLemmas.both}
+use Rattle.cnf_base.specs.{Grammar.word_lines, Literals.{Literal, variable}, Printing.input_of}
+use Rattle.cnf_base.specs.{Printing.literal_text, Text.{Listed, listing_of}, Words.number_literal}
+use Rattle.cnf_base.specs.{Words.word_of, declared.word.{Number.Number, Word.Word}}
+use Rattle.{dimacs.specs.Grammar.{all_words, filled_lines}, std.proofs.Common.{List, None, Option}}
+use Rattle.std.proofs.Common.{Some, [], ap, arith, codes, cond, inl, inr, nat_le, refl, rules}
+use Rattle.std.proofs.Common.{subst, true, ℕ, ◌&&◌, ◌*◌, ◌++◌, ◌+◌, ◌∙◌, ◌∷◌, ◌≡◌, ◌≤◌, ◌⊎◌}
+use Rattle.std.{proofs.lemmas.{Bool.Decides.nat_tests, Fmt.decimal_digit}, specs.Bool.then_some}
+use Rattle.std.specs.List.{flat_map, list_all}
 use Rattle.cnf_base.specs.declared.word.Word.TheVariants as words
 use Rattle.cnf_base.specs.declared.token.Token as tokens
 use Rattle.cnf_base.specs.declared.token.Token.TheVariants as token
-use Rattle.std.proofs.lemmas.{Bool.Decides.nat_tests, Fmt.decimal_digit}
-use Rattle.std.specs.{Bool.then_some, List.flat_map, List.list_all}
-use Rattle.cnf_base.specs.{Literals.Literal, Literals.variable, Grammar.word_lines}
-use Rattle.cnf_base.specs.{Printing.input_of, Printing.literal_text, Text.Listed, Text.listing_of}
-use Rattle.cnf_base.specs.Words.{number_literal, word_of}
-use Rattle.cnf_base.specs.declared.word.{Number.Number, Word.Word}
-use Rattle.cnf_base.proofs.GrammarLemmas.{said, is_inside, all_said, line_said, text_said}
-use Rattle.cnf_base.proofs.GrammarLemmas.{listing_says, number_spelled}
-use Rattle.cnf_base.proofs.PrintLemmas.{both}
-use Rattle.dimacs.specs.Grammar.{filled_lines, all_words}
 
 abbrev pub Lines : Type 0
 Lines = List (List (List ℕ))

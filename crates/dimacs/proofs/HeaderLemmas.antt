@@ -1,20 +1,17 @@
 -- A header's parts, one after another.
-use Rattle.std.proofs.Common.{arith, ◌≡◌, ℕ, cond, Bool, List, ◌∷◌, sym, ap, subst, ◌∙◌}
-use Rattle.std.proofs.Common.{rules, if◌then◌else◌, Result, Ok, Err}
+use Rattle.cnf_base.{proofs.ListingLemmas.{EndFrom, Gives-from}, specs.declared.word.Word.Word}
+use Rattle.cnf_base.proofs.{StreamLemmas.{Along-map, Along-none, Along-then}, TokenLemmas.GivesNext}
+use Rattle.cnf_base.specs.{Stream.{Along, Stream, Suffix}, declared.token.Token.Token}
+use Rattle.cnf_base.specs.{Text.{Gives, Listed, Listing, listing_at}, declared.place.Place.Place}
+use Rattle.cnf_base.specs.declared.{fault.Fault.Fault, input.ReadFailed.ReadFailed as Cut}
+use Rattle.cnf_base.specs.declared.fault.{Fault.TheVariants.Text, TextFault.TheVariants.BadHeader}
+use Rattle.{dimacs.proofs.OffsetLemmas.AreFrom, std.proofs.Common.{subst, sym, ℕ, ◌∙◌, ◌∷◌, ◌≡◌}}
+use Rattle.dimacs.specs.{Code.Reading.{GivesHeader, GivesPart, first_end}, Formula.skip_blank}
+use Rattle.dimacs.specs.Formula.{and_then, count, count_of, drop_line_ends, ends_at, fixed}
+use Rattle.dimacs.specs.Formula.{formula_at, header_of, is_cnf, is_p, line_end, next_word, part}
+use Rattle.dimacs.specs.{Reading.{PassesNoEnd, unopened}, declared.header.Header.Header}
+use Rattle.std.proofs.Common.{Bool, Err, List, Ok, Result, ap, arith, cond, if◌then◌else◌, rules}
 use Rattle.cnf_base.specs.declared.token.Token.TheVariants as token
-use Rattle.cnf_base.specs.{Stream.Suffix, Stream.Stream, Stream.Along, Text.Listed, Text.Listing}
-use Rattle.cnf_base.specs.{Text.listing_at, Text.Gives, declared.input.ReadFailed.ReadFailed as Cut}
-use Rattle.cnf_base.specs.declared.{place.Place.Place, word.Word.Word, token.Token.Token}
-use Rattle.cnf_base.specs.declared.fault.Fault.{Fault, TheVariants.Text}
-use Rattle.cnf_base.specs.declared.fault.TextFault.TheVariants.{BadHeader}
-use Rattle.cnf_base.proofs.ListingLemmas.{EndFrom, Gives-from}
-use Rattle.cnf_base.proofs.TokenLemmas.{GivesNext}
-use Rattle.cnf_base.proofs.StreamLemmas.{Along-then, Along-map, Along-none}
-use Rattle.dimacs.specs.Formula.{drop_line_ends, skip_blank, next_word, is_p, is_cnf, fixed}
-use Rattle.dimacs.specs.Formula.{count_of, count, line_end, and_then, part, header_of, formula_at}
-use Rattle.dimacs.{specs.Formula.ends_at, proofs.OffsetLemmas.AreFrom}
-use Rattle.dimacs.specs.Code.Reading.{first_end, GivesHeader, GivesPart}
-use Rattle.dimacs.specs.{Reading.PassesNoEnd, Reading.unopened, declared.header.Header.Header}
 
 -- ---- No token's end was passed
 
@@ -57,6 +54,17 @@ counted_word limit w = and_then (count_of limit w.0 w.1) (λ n. Ok (n, w.2))
 pub fixed_told : (b : Bool) (p : Place) (l : Listing)
     → cond b (Ok l) (Err (Text BadHeader p)) ≡ and_then (cond b (Ok tt) (Err (Text BadHeader p))) (λ (u : Unit {0}). Ok l)
 fixed_told b p l = search rules
+
+-- a word that has to stand there: what refused the one before it, or whether it is the one
+module _ (old new : Stream) (start : Listing → Listing) (test : Word → Bool) (result : Result (Unit {0}) Fault) where
+  pub fixed_refused : (f : Fault) → Part old new start next_word (λ l. Err f) → result ≡ Err f
+      → Part old new start (fixed test) (λ l. and_then result (λ u. Ok l))
+  fixed_refused f run is = search rules
+
+  pub fixed_wanted : (p : Place) (w : Word) → Part old new start next_word (λ l. Ok (p, w, l))
+      → result ≡ cond (test w) (Ok tt) (Err (Text BadHeader p))
+      → Part old new start (fixed test) (λ l. and_then result (λ u. Ok l))
+  fixed_wanted p w run is = search (rules, fixed_told)
 
 -- ---- The parts in turn
 

@@ -1,31 +1,28 @@
 -- A solver's output, as the grammar of a claimed model has it.
-use Rattle.std.proofs.Common.{◌≡◌, ℕ, nat_le, cond, Bool, true, false, List, [], ◌∷◌, ◌++◌, map}
-use Rattle.std.proofs.Common.{reverse, Option, None, Some, Result, Ok, Err, refl, sym, ap, ap₂, ◌∙◌}
-use Rattle.std.proofs.Common.{append_assoc, arith, inl, inr, ◌⊎◌, rules}
-use Rattle.std.proofs.lemmas.{Bool.Decides.nat_tests, Bool.true≢false, Grind.common_steps}
-use Rattle.std.proofs.lemmas.List.{reverse-append, reverse-reverse}
+use Rattle.cnf_base.proofs.GrammarLemmas.{listing_says, s_spelled, satisfiable_spelled, v_spelled}
+use Rattle.cnf_base.proofs.{PrintLemmas.{both, literal_taken, literal_word}, TextLemmas.append_nil}
+use Rattle.cnf_base.{proofs.SetLemmas.has_tail, specs.Literals.{Literal, complement, has, variable}}
+use Rattle.cnf_base.specs.{Grammar.word_lines, declared.{place.Place.Place, word.Word.Word}}
+use Rattle.{cnf_base.specs.{Printing.input_of, Text.{Listed, listing_of}}, std.specs.List.list_all}
+use Rattle.cnf_base.specs.{Printing.{is_literal, literal_words}, Words.{number_literal, word_of}}
+use Rattle.{cnf_base.specs.declared.fault.Fault.Fault, dimacs.proofs.ModelLemmas.IsConsistent-put}
+use Rattle.cnf_base.specs.declared.{fault.TextFault.TextFault, input.Ending.TheVariants.End}
+use Rattle.dimacs.proofs.GrammarWords.{AreSaid, IsSaid, Lines, and_so, line_then, literal_spelled}
+use Rattle.dimacs.proofs.GrammarWords.{said_by, some_parts, text_lines, went_on, zero_spelled}
+use Rattle.dimacs.proofs.ModelPrinting.{AreAmong, among_more, no_complement}
+use Rattle.dimacs.specs.Claim.{IsConsistent, LinePosition, Said, after_s, after_status, placed}
+use Rattle.dimacs.specs.Claim.{at_line_start, claim_among, claim_at_end, claim_of, claim_on_token}
+use Rattle.dimacs.specs.Claim.{claim_on_word, in_values, on_end, on_line_end, on_status, on_value}
+use Rattle.dimacs.specs.{Formula.and_then, Printing.{IsModel, status_words, value_words}}
+use Rattle.dimacs.specs.Grammar.{ModelIsGrammar, ModelText, all_words, filled_lines}
+use Rattle.std.proofs.Common.{Bool, Err, List, None, Ok, Option, Result, Some, [], ap, append_assoc}
+use Rattle.std.proofs.Common.{ap₂, arith, cond, false, inl, inr, map, nat_le, refl, reverse, rules}
+use Rattle.std.proofs.{Common.{sym, true, ℕ, ◌++◌, ◌∙◌, ◌∷◌, ◌≡◌, ◌⊎◌}, lemmas.Grind.common_steps}
+use Rattle.std.{proofs.lemmas.Bool.true≢false, specs.Prelude.{codes, if◌then◌else◌}}
+use Rattle.std.proofs.lemmas.{Bool.Decides.nat_tests, List.{reverse-append, reverse-reverse}}
 use Rattle.std.proofs.lemmas.List.Sorted.{IsPermutation-reverse, list_any-IsPermutation}
-use Rattle.std.specs.{Prelude.if◌then◌else◌, Prelude.codes, List.list_all}
 use Rattle.cnf_base.specs.declared.word.Word.TheVariants as words
 use Rattle.cnf_base.specs.declared.token.Token as tokens
-use Rattle.cnf_base.specs.Literals.{Literal, complement, has, variable}
-use Rattle.cnf_base.specs.Printing.{input_of, is_literal, literal_words}
-use Rattle.cnf_base.specs.Text.{Listed, listing_of}
-use Rattle.cnf_base.specs.{declared.fault.Fault.Fault, Grammar.word_lines, Words.number_literal}
-use Rattle.cnf_base.specs.{declared.input.Ending.TheVariants.End, Words.word_of}
-use Rattle.cnf_base.specs.declared.{fault.TextFault.TextFault, word.Word.Word, place.Place.Place}
-use Rattle.cnf_base.proofs.GrammarLemmas.{listing_says, s_spelled, v_spelled, satisfiable_spelled}
-use Rattle.cnf_base.proofs.{TextLemmas.append_nil, SetLemmas.has_tail}
-use Rattle.cnf_base.proofs.PrintLemmas.{both, literal_word, literal_taken}
-use Rattle.dimacs.{specs.Formula.and_then, proofs.ModelLemmas.IsConsistent-put}
-use Rattle.dimacs.specs.Claim.{LinePosition, at_line_start, after_s, after_status, in_values, Said}
-use Rattle.dimacs.specs.Claim.{on_status, on_value, claim_on_word, on_line_end, claim_at_end}
-use Rattle.dimacs.specs.Claim.{placed, claim_on_token, on_end, claim_among, claim_of, IsConsistent}
-use Rattle.dimacs.specs.Grammar.{filled_lines, all_words, ModelText, ModelIsGrammar}
-use Rattle.dimacs.specs.Printing.{status_words, value_words, IsModel}
-use Rattle.dimacs.proofs.ModelPrinting.{AreAmong, no_complement, among_more}
-use Rattle.dimacs.proofs.GrammarWords.{Lines, and_so, went_on, some_parts, line_then, said_by}
-use Rattle.dimacs.proofs.GrammarWords.{IsSaid, AreSaid, text_lines, literal_spelled, zero_spelled}
 
 -- ---- What is claimed, where places and faults don't matter
 

@@ -1,10 +1,8 @@
 -- A set of literals, where none is there with its complement.
-use Rattle.std.proofs.Common.{◌≡◌, ℕ, eqb, true, false, cond, Bool, List, ◌∷◌, ne_eqb}
-use Rattle.std.proofs.{lemmas.Bool.both_ways, lemmas.Bool.or_from, Common.rules}
-use Rattle.cnf_base.specs.Literals.{Literal, complement, has}
 use Rattle.cnf_base.proofs.LiteralLemmas.{complement-complement, complement-other}
-use Rattle.cnf_base.proofs.SetLemmas.{has_cases}
-use Rattle.dimacs.specs.Claim.{IsConsistent}
+use Rattle.cnf_base.{proofs.SetLemmas.has_cases, specs.Literals.{Literal, complement, has}}
+use Rattle.{dimacs.specs.Claim.IsConsistent, std.proofs.Common.{Bool, List, cond, eqb, false}}
+use Rattle.std.proofs.{Common.{ne_eqb, rules, true, ℕ, ◌∷◌, ◌≡◌}, lemmas.Bool.{both_ways, or_from}}
 
 -- the table has one more key
 pub listed_more : (listed after : ℕ → Bool) (ls : List ℕ) (x : ℕ) → ((l : ℕ) → listed l ≡ has ls l)

@@ -1,7 +1,6 @@
 -- A model that was printed, as it is read.
-use Rattle.std.proofs.Common.{◌≡◌, true, false, List, ◌∷◌, rules}
-use Rattle.cnf_base.specs.Literals.{Literal, complement, has}
-use Rattle.dimacs.specs.Claim.{IsConsistent}
+use Rattle.{cnf_base.specs.Literals.{Literal, complement, has}, dimacs.specs.Claim.IsConsistent}
+use Rattle.std.proofs.Common.{List, false, rules, true, ◌∷◌, ◌≡◌}
 
 -- these literals are among those
 abbrev pub AreAmong : List Literal → List Literal → Type 0

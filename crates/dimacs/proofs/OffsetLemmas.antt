@@ -1,14 +1,13 @@
 -- Where the clauses of a formula end, and the token at fault.
-use Rattle.std.proofs.Common.{◌≡◌, ℕ, ◌≤◌, List, [], ◌∷◌, length, Option, Some, rules, Bool, true}
-use Rattle.std.proofs.{Common.Result, Common.Ok, Common.slice_get, lemmas.Option.none-some}
+use Rattle.cnf_base.{proofs.ListingLemmas.EndFrom, specs.{Literals.Literal, Stream.{Input, Suffix}}}
+use Rattle.cnf_base.specs.{Text.{Listed, Listing, listing_of}, declared.fault.TextFault.TextFault}
+use Rattle.cnf_base.specs.declared.{fault.Fault.Fault, input.Ending.Ending, place.Place.Place}
+use Rattle.dimacs.specs.Formula.{Body, body_among, body_on_word, ends_among, ends_of, ends_on_word}
+use Rattle.dimacs.specs.Formula.{ends_with, formula_of, formula_with, header_of, judged}
+use Rattle.dimacs.specs.{Reading.{GivesEnd, PassesNoEnd}, declared.header.Header.Header}
+use Rattle.std.proofs.Common.{Bool, List, Ok, Option, Result, Some, [], length, rules, slice_get}
+use Rattle.std.proofs.{Common.{true, ℕ, ◌∷◌, ◌≡◌, ◌≤◌}, lemmas.Option.none-some}
 use Rattle.cnf_base.specs.declared.token.Token.TheVariants as token
-use Rattle.cnf_base.specs.{Text.Listed, Text.Listing, Text.listing_of, Stream.Suffix}
-use Rattle.cnf_base.specs.{declared.input.Ending.Ending, Literals.Literal, Stream.Input}
-use Rattle.cnf_base.specs.declared.{place.Place.Place, fault.Fault.Fault, fault.TextFault.TextFault}
-use Rattle.cnf_base.proofs.ListingLemmas.{EndFrom}
-use Rattle.dimacs.specs.Formula.{judged, Body, body_on_word, body_among, header_of, formula_with}
-use Rattle.dimacs.specs.Formula.{formula_of, ends_on_word, ends_among, ends_with, ends_of}
-use Rattle.dimacs.specs.{Reading.PassesNoEnd, Reading.GivesEnd, declared.header.Header.Header}
 
 -- each of these is this offset or a later one
 abbrev pub AreFrom : ℕ → List ℕ → Type 0

@@ -1,7 +1,6 @@
 -- The examples of printed texts.
-use Rattle.std.{proofs.Common.[], proofs.Common.◌∷◌, proofs.Common.rules, specs.Fmt.digits}
-use Rattle.cnf_base.specs.Literals.{complement}
-use Rattle.dimacs.specs.{Printing.FormulasLookSo, Claim.IsConsistent}
+use Rattle.{cnf_base.specs.Literals.complement, dimacs.specs.Printing.FormulasLookSo}
+use Rattle.{dimacs.specs.Claim.IsConsistent, std.{proofs.Common.{[], rules, ◌∷◌}, specs.Fmt.digits}}
 
 consistent : IsConsistent (2 ∷ 5 ∷ 25 ∷ [])
 unfolding complement

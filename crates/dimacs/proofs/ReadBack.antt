@@ -1,19 +1,18 @@
 -- A formula and a model that were printed are read back, since their lines are the grammar's.
-use Rattle.std.proofs.Common.{rules, ◌≡◌, ℕ, ◌≤◌, ◌==◌, true, false, List, [], ◌∷◌, ◌++◌, map}
-use Rattle.std.proofs.Common.{filter, refl, sym, ap, ◌∙◌, append_assoc, subst, arith, append-nil}
-use Rattle.std.proofs.Common.{flat_map}
-use Rattle.std.proofs.lemmas.{List.map-append, List.Folds.list_all-append}
-use Rattle.std.specs.{Prelude.codes, Fmt.decimal, List.concat, List.list_all, List.slice_split}
-use Rattle.cnf_base.specs.{Grammar.is_word, Grammar.words_in, Grammar.word_lines, Literals.Clause}
-use Rattle.cnf_base.specs.{Text.is_separator, Text.is_comment, Text.lines_of, Literals.Literal}
-use Rattle.cnf_base.specs.Printing.{words_line, is_literal, literal_text, literal_words}
-use Rattle.cnf_base.proofs.TextLemmas.{append_nil, Each-feed, split-append}
-use Rattle.cnf_base.proofs.PrintLemmas.{decimal_plain, zero_plain, literal_plain, after_word, both}
-use Rattle.cnf_base.proofs.PrintLemmas.{literal_no_comment, words_line-cons, IsPlain, fixed_plain}
-use Rattle.dimacs.specs.Grammar.{filled_lines, all_words}
-use Rattle.dimacs.specs.Printing.{clause_line, formula_text, value_words, value_line, literals_line}
-use Rattle.dimacs.specs.Printing.{model_text, FormulaIsReadBack, ModelIsReadBack}
-use Rattle.dimacs.proofs.{FormulaGrammar.formula_grammar, ModelGrammar.model_grammar}
+use Rattle.cnf_base.proofs.PrintLemmas.{IsPlain, after_word, both, decimal_plain, fixed_plain}
+use Rattle.cnf_base.proofs.PrintLemmas.{literal_no_comment, literal_plain, words_line-cons}
+use Rattle.cnf_base.proofs.{PrintLemmas.zero_plain, TextLemmas.{Each-feed, append_nil}}
+use Rattle.cnf_base.{proofs.TextLemmas.split-append, specs.Grammar.{is_word, word_lines, words_in}}
+use Rattle.cnf_base.specs.{Literals.{Clause, Literal}, Printing.{is_literal, literal_text}}
+use Rattle.cnf_base.specs.{Printing.{literal_words, words_line}, Text.{is_comment, is_separator}}
+use Rattle.{cnf_base.specs.Text.lines_of, dimacs.proofs.FormulaGrammar.formula_grammar}
+use Rattle.dimacs.{proofs.ModelGrammar.model_grammar, specs.Grammar.{all_words, filled_lines}}
+use Rattle.dimacs.specs.Printing.{FormulaIsReadBack, ModelIsReadBack, clause_line, formula_text}
+use Rattle.dimacs.specs.Printing.{literals_line, model_text, value_line, value_words}
+use Rattle.std.proofs.Common.{List, [], ap, append-nil, append_assoc, arith, false, filter}
+use Rattle.std.proofs.Common.{flat_map, map, refl, rules, subst, sym, true, ℕ, ◌++◌, ◌==◌, ◌∙◌, ◌∷◌}
+use Rattle.std.proofs.{Common.{◌≡◌, ◌≤◌}, lemmas.List.{map-append, Folds.list_all-append}}
+use Rattle.std.specs.{Fmt.decimal, List.{concat, list_all, slice_split}, Prelude.codes}
 
 -- ---- A line of words
 

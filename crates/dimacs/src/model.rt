@@ -1,8 +1,8 @@
 //! The model that a solver claims: the literals that it lists, and a table to look each up.
 
 ghost use Rattle.std.specs.Prelude.{◌≡◌, false, [], ◌∷◌, OnOk};
-ghost use Rattle.cnf_base.specs.Literals.{Literal, complement, has};
 ghost use Rattle.dimacs.specs.Claim.{IsConsistent};
+ghost use Rattle.cnf_base.specs.Literals.{Literal, complement, has};
 
 use cnf_base::{Lit, OutOfMemory};
 use std::alloc::Global;

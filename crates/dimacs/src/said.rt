@@ -28,20 +28,16 @@ impl marker::Model for Said {
 
     ghost Value = { Said };
 
-    // Each field has to be named here.
-    ghost view = { λ record {
-      position = position;
-      has_status = has_status;
-      is_ended = is_ended;
-      model = model;
-    }. record {
-      position = line_position position;
-      has_status = has_status;
-      is_ended = is_ended;
-      listed = model;
+    ghost view = { λ s. record {
+      position = line_position s.position;
+      has_status = s.has_status;
+      is_ended = s.is_ended;
+      listed = s.model;
     } };
 
-    ghost invariant = { λ s. IsConsistent s.model };
+    // Each field has to be named here.
+    ghost invariant = { λ record { position = _; has_status = _; is_ended = _; model = model }.
+        IsConsistent model };
 }
 
 impl Said {

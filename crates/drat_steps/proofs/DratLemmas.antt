@@ -1,3 +1,4 @@
 pub mod Candidates
 pub mod Losses
 pub mod Steps
+pub mod Terms

@@ -70,6 +70,7 @@ impl<P: Propagate> AdditionChecker<P> {
 
     /// The answer to an addition that lists a witness and lacks RUP, where the complements of its
     /// literals are assumed.
+    #[tactic(auto, using(crate::proofs::DratLemmas::Steps::touched_if_reduced))]
     fn judge_pr(&mut self, lits: &[Lit], witness: &[Lit]) -> Result<Accepted, Refusal>
         requires assumed { IsAssumed (P.state self.old.clauses) lits.now }
         requires listed { IsListed self.old.witness lits.now witness.now }
@@ -126,23 +127,7 @@ impl<P: Propagate> AdditionChecker<P> {
     }
 
     /// The answer to an addition, whether it lists a witness or not, over the clauses that are
-    /// alive before it.
-    fn judge_listed(&mut self, lits: &[Lit], witness: &[Lit]) -> Result<Accepted, Refusal>
-        requires idle { IsIdle (P.state self.old.clauses) }
-        requires meets { MeetsIfListed lits.now witness.now }
-        ensures answers { UnlessOutOfMemory result (AnswersListed
-            (slice_get (maps.values (P.state self.old.clauses).live)) lits.now witness.now result) }
-        ensures live { (P.state self.new.clauses).live ≡ (P.state self.old.clauses).live }
-        ensures idle { IsIdle (P.state self.new.clauses) }
-    {
-        self.witness.fill(witness)?;
-        if self.witness.falsifies(witness) {
-            return Err(Refusal::InconsistentSet);
-        }
-        self.judge_consistent(lits, witness)
-    }
-
-    /// The same. What it was found with is emptied again.
+    /// alive before it. What it was found with is emptied again.
     pub(crate) fn judge(&mut self, lits: &[Lit], witness: &[Lit]) -> Result<Accepted, Refusal>
         requires idle { IsIdle (P.state self.old.clauses) }
         requires meets { MeetsIfListed lits.now witness.now }
@@ -153,7 +138,11 @@ impl<P: Propagate> AdditionChecker<P> {
         ensures emptied { IsEmptied self.new.slots.items self.new.last.rest.items
             self.new.looked_at self.new.witness }
     {
-        let answer = self.judge_listed(lits, witness);
+        let answer = match self.witness.fill(witness) {
+            Err(_) => Err(Refusal::OutOfMemory),
+            Ok(()) if self.witness.falsifies(witness) => Err(Refusal::InconsistentSet),
+            Ok(()) => self.judge_consistent(lits, witness),
+        };
         self.slots.clear();
         self.last.clear();
         self.looked_at.clear();

@@ -199,6 +199,7 @@ impl Candidates<'_> {
 
     /// Whether each of them clashes with what is assumed, where the literals touch all that can be
     /// one. It is open what `slots`, `last` and `looked_at` have then.
+    #[tactic(auto, using(crate::proofs::DratLemmas::Candidates::walk_steps))]
     pub(crate) fn all_clash<P: Propagate>(
         &self,
         clauses: &mut P,

@@ -65,6 +65,7 @@ fn is_lost<P: Propagate>(clauses: &mut P, l: Lit) -> Result<bool, OutOfMemory>
 
 /// Takes the clause, which is the reason of a root-level literal, out of its slot, and tells
 /// whether such a literal is lost with it.
+#[tactic(auto, using(crate::proofs::DratLemmas::Losses::fewer_literals))]
 fn remove_reason<P: Propagate>(clauses: &mut P, slot: Slot) -> Result<bool, OutOfMemory>
     requires alive { IsSome (maps.get (P.state clauses.old).live slot) }
     requires reason { (c : Clause) → maps.get (P.state clauses.old).live slot ≡ Some c →

@@ -14,6 +14,7 @@ use propagation::Propagate;
 use theory::{Accepted, DratRules, Refusal};
 
 /// Adds one copy of the clause.
+#[tactic(auto, using(crate::proofs::DratLemmas::Steps::one_more))]
 pub fn add_copy<P: Propagate>(clauses: &mut P, lits: &[Lit]) -> Result<(), OutOfMemory>
     requires { IsIdle (P.state clauses.old) }
     ensures live { OnOk result (SameLive (maps.values (P.state clauses.new).live)
@@ -47,6 +48,7 @@ impl<P: Propagate> AdditionChecker<P> {
 }
 
 /// The clause of an addition, and the witness that it lists where the rules have PR.
+#[tactic(auto, using(crate::proofs::DratLemmas::Steps::parts_meet))]
 pub fn parts_under(rules: DratRules, lits: &[Lit]) -> (&[Lit], &[Lit])
     ensures parts { addition_of rules.pr lits.now ≡ drat.add result.0.now result.1.now }
     ensures meets { MeetsIfListed result.0.now result.1.now }

@@ -1,7 +1,6 @@
 -- An input that was opened by its name is what was asked for.
-use Rattle.std.proofs.Common.{◌≡◌, ℕ, Bool, List, Option, Some, subst, sym}
-use Rattle.cnf_base.specs.Stream.{Reader}
-use Rattle.filter_io.specs.Runs.{Opens}
+use Rattle.{cnf_base.specs.Stream.Reader, filter_io.specs.Runs.Opens, std.proofs.Common.Bool}
+use Rattle.std.proofs.Common.{List, Option, Some, subst, sym, ℕ, ◌≡◌}
 
 pub of_name : (holds : List ℕ → Option (List ℕ)) (may_refuse : List ℕ → Bool)
     (standard asked : Option (List ℕ)) (name : List ℕ) (r : Reader) → asked ≡ Some name

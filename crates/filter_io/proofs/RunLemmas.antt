@@ -1,10 +1,8 @@
 -- What the tool's own check did is what a check of the tool does.
-use Rattle.std.proofs.Common.{◌≡◌, ℕ, Bool, List, Option, subst, sym}
-use Rattle.cnf_base.specs.Stream.{Reader}
+use Rattle.{cnf_base.specs.Stream.Reader, sat_check.specs.declared.checked.Checked.Checked}
 use Rattle.command_line.specs.declared.{args.Args.Args, tool.Tool.Tool}
-use Rattle.filter_io.specs.Runs.{Answers, Checks}
-use Rattle.sat_check.specs.declared.checked.Checked.{Checked}
-use Rattle.report.specs.declared.status.Status.{Status}
+use Rattle.{filter_io.specs.Runs.{Answers, Checks}, report.specs.declared.status.Status.Status}
+use Rattle.std.proofs.Common.{Bool, List, Option, subst, sym, ℕ, ◌≡◌}
 
 pub of_tool : (tool known : Tool) (args : Args)
     (formula formula_new second second_new : Reader) (old new : Option (List ℕ))

@@ -11,13 +11,13 @@ pub(crate) const LIMIT: usize = 1024;
 /// The first bytes of an input, from the first line on that is neither blank nor a comment.
 #[derive(Drop)]
 pub struct FirstBytes {
-    buf: [u8; LIMIT],
-    filled: usize,
     /// Whether that first line was met. Before it, `buf` has what was read of a line that is blank
     /// so far.
     begun: bool,
     /// Whether a comment is being read.
     in_comment: bool,
+    buf: [u8; LIMIT],
+    filled: usize,
 }
 
 impl Model for FirstBytes {
@@ -36,10 +36,10 @@ impl FirstBytes {
         ensures { result ≡ [] }
     {
         FirstBytes {
-            buf: [0; LIMIT],
-            filled: 0,
             begun: false,
             in_comment: false,
+            buf: [0; LIMIT],
+            filled: 0,
         }
     }
 

@@ -16,6 +16,22 @@ pub(crate) struct Line {
     page: u32,
 }
 
+impl Line {
+    ghost use Rattle.ids.specs.Code.Cache.{page_of};
+
+    /// The page of a number, 0 where it isn't in the line.
+    #[inline(always)]
+    fn page_of(self, number: u64) -> u32
+        ensures { result ≡ page_of self number }
+    {
+        if u64::from(self.number) == number {
+            self.page
+        } else {
+            0
+        }
+    }
+}
+
 /// A line that is free.
 const FREE: Line = Line { number: 0, page: 0 };
 
@@ -85,12 +101,7 @@ impl Cache {
     pub(crate) fn get(&self, number: u64) -> u32
         ensures { result ≡ cached_at self.now number }
     {
-        let line = self.lines[number as usize & self.mask];
-        if u64::from(line.number) == number {
-            line.page
-        } else {
-            0
-        }
+        self.lines[number as usize & self.mask].page_of(number)
     }
 
     /// Puts in the page of a number, where no other number has its line, and tells whether it did.

@@ -41,15 +41,9 @@ impl Model for LiveClauses {
 
     ghost coded = { live_clauses_code };
 
-    // Each field has to be named here, those of the owners too. Of them the store alone has lists
-    // of literals: the others have identifiers and slots.
-    ghost view = { λ record {
-      store = store;
-      ids = ids;
-      top = top;
-      owners = record { by_slot = _; is_kept = _ };
-      slots = _;
-    }. record {
+    // Each field has to be named here, and those of the owners in `AreOwners`. Of them the store
+    // alone has lists of literals: the others have identifiers and slots.
+    ghost view = { λ record { store = store; ids = ids; top = top; owners = _; slots = _ }. record {
       live = joined ids store.live;
       top = top;
       stored = store.stored;
@@ -88,6 +82,7 @@ impl LiveClauses {
     }
 
     /// The clause that is alive under the identifier.
+    #[tactic(auto, using(crate::proofs::ClausesLemmas::Joined::joined_is))]
     pub fn get(&self, id: u64) -> Option<&[Lit]>
         ensures { option_copied result ≡ maps.get self.now.live id }
     {
@@ -98,6 +93,7 @@ impl LiveClauses {
     }
 
     /// The lowest identifier from this one on under which a clause is alive, and the clause.
+    #[tactic(auto, using(crate::proofs::ClausesLemmas::Joined::joined_is))]
     pub fn next(&self, from: u64) -> Option<(u64, &[Lit])>
         ensures found { IfSome result (λ e. (from ≤ e.0) ×
             (maps.get self.now.live e.0 ≡ Some e.1.now)) }
@@ -152,6 +148,7 @@ impl LiveClauses {
     }
 
     /// The greatest identifier so far.
+    #[tactic(auto, using(crate::proofs::ClausesLemmas::Joined::joined_is))]
     pub fn top(&self) -> u64
         ensures top { result ≡ self.now.top }
         ensures none_above { (k : ℕ) → self.now.top < k → maps.get self.now.live k ≡ None }
@@ -160,6 +157,7 @@ impl LiveClauses {
     }
 
     /// The sum of the sizes of the live clauses. It saturates.
+    #[tactic(auto, using(crate::proofs::ClausesLemmas::Joined::joined_is))]
     pub fn literals(&self) -> u64
         ensures value { result ≡ min (total (lrat_state self.now)) (2 ^ 64 - 1) }
         ensures live_alone { self.now.stored ≡ total (lrat_state self.now) }

@@ -5,7 +5,8 @@ ghost use Rattle.std.specs.Prelude.{nat_eq};
 ghost use Rattle.std.specs.List.{IsDistinct};
 ghost use Rattle.cnf_base.specs.Literals.{has};
 
-use std::alloc::{AllocError, Global};
+use cnf_base::OutOfMemory;
+use std::alloc::Global;
 use std::collections::BTreeSet;
 use std::marker::Model;
 
@@ -32,13 +33,12 @@ impl IdSet {
     pub fn new(alloc: Global) -> Self
         ensures { result ≡ [] }
     {
-        IdSet {
-            ids: BTreeSet::new(alloc),
-        }
+        let ids = BTreeSet::new(alloc);
+        IdSet { ids }
     }
 
     /// Adds the identifier, and tells whether it is new.
-    pub fn insert(&mut self, id: u64) -> Result<bool, AllocError>
+    pub fn insert(&mut self, id: u64) -> Result<bool, OutOfMemory>
         ensures new { IfOk result (λ is_new. is_new ≡ not (has self.old id)) }
         ensures ids { OnOk result ((k : ℕ) → has self.new k ≡ (has self.old k || (id == k))) }
     {
@@ -54,6 +54,7 @@ impl IdSet {
     }
 
     /// How many there are.
+    #[tactic(auto, using(crate::proofs::ClausesLemmas::Distinct::distinct_from_sorted))]
     pub fn len(&self) -> usize
         ensures len { result ≡ length self.now }
         ensures different { IsDistinct nat_eq self.now }

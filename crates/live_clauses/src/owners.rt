@@ -49,6 +49,7 @@ impl Owners {
     }
 
     /// From now on they are kept.
+    #[tactic(auto, using(crate::proofs::ClausesLemmas::Owners::all_noted))]
     pub(crate) fn keep(&mut self, ids: &Ids) -> Result<(), OutOfMemory>
         requires { (j k slot : ℕ) → maps.get ids.now j ≡ Some slot →
             maps.get ids.now k ≡ Some slot → j ≡ k }

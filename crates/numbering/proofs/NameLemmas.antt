@@ -1,14 +1,11 @@
 -- Lists of the variables that were met.
-use Rattle.std.proofs.Common.{◌≡◌, ◌≢◌, ℕ, ◌<◌, true, false, eqb, List, []}
-use Rattle.std.proofs.Common.{◌∷◌, ◌++◌, map, slice_index_or, length, refl, sym, ap, ◌∙◌}
-use Rattle.std.proofs.Common.{arith, inl, inr, eq-eqb, rules}
-use Rattle.std.proofs.lemmas.{Bool.cases_Bool, Bool.false≢true, Bool.or_parts, List.map-append}
-use Rattle.std.specs.List.{position_or_len}
-use Rattle.theory.specs.Renaming.{renamed}
-use Rattle.cnf_base.specs.Literals.{Literal, variable, has}
-use Rattle.cnf_base.proofs.SetLemmas.{has_head, has_tail, has_cases, has_append_left}
-use Rattle.cnf_base.proofs.SetLemmas.{has_append_right}
-use Rattle.numbering.specs.Names.{number_in, name_in, with_name, with_names}
+use Rattle.cnf_base.proofs.SetLemmas.{has_append_left, has_append_right, has_cases, has_head}
+use Rattle.cnf_base.{proofs.SetLemmas.has_tail, specs.Literals.{Literal, has, variable}}
+use Rattle.numbering.specs.Names.{name_in, number_in, with_name, with_names}
+use Rattle.std.proofs.Common.{List, [], ap, arith, eq-eqb, eqb, false, inl, inr, length, map, refl}
+use Rattle.std.proofs.Common.{rules, slice_index_or, sym, true, ℕ, ◌++◌, ◌<◌, ◌∙◌, ◌∷◌, ◌≡◌, ◌≢◌}
+use Rattle.std.proofs.lemmas.{Bool.{cases_Bool, false≢true, or_parts}, List.map-append}
+use Rattle.{std.specs.List.position_or_len, theory.specs.Renaming.renamed}
 
 -- where a variable stands
 abbrev place : List ℕ → ℕ → ℕ

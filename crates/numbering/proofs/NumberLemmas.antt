@@ -1,12 +1,10 @@
 -- Numbers by variable, and the list of the variables in the order of their numbers.
-use Rattle.std.proofs.Common.{◌≡◌, ◌≢◌, ℕ, zero, suc, ◌+◌, ◌≤◌, ◌<◌, true, false, cond, eqb, List}
-use Rattle.std.proofs.Common.{[], ◌∷◌, ◌++◌, length, length-append, refl, ap, ◌∙◌, arith, inl, inr}
-use Rattle.std.proofs.Common.{eq-eqb, ne_eqb, add-one, Option, Some, unwrap_or, slice_get, rules}
-use Rattle.std.proofs.lemmas.Bool.{cases_eq, cases_lt}
-use Rattle.std.proofs.lemmas.{Bool.Decides.nat_tests, Option.slice_get_past}
-use Rattle.cnf_base.specs.Literals.{has}
-use Rattle.numbering.specs.{Names.number_in, Code.Numbers.IsNumbering}
-use Rattle.numbering.specs.Code.Numbers.{name_up_to, names_of, counted_as, met_up_to, number_or}
+use Rattle.{cnf_base.specs.Literals.has, numbering.specs.{Code.Numbers.number_or, Names.number_in}}
+use Rattle.numbering.specs.Code.Numbers.{IsNumbering, counted_as, met_up_to, name_up_to, names_of}
+use Rattle.std.proofs.Common.{List, Option, Some, [], add-one, ap, arith, cond, eq-eqb, eqb, false}
+use Rattle.std.proofs.Common.{inl, inr, length, length-append, ne_eqb, refl, rules, slice_get, suc}
+use Rattle.std.proofs.Common.{true, unwrap_or, zero, ℕ, ◌++◌, ◌+◌, ◌<◌, ◌∙◌, ◌∷◌, ◌≡◌, ◌≢◌, ◌≤◌}
+use Rattle.std.proofs.lemmas.{Bool.{cases_eq, cases_lt, Decides.nat_tests}, Option.slice_get_past}
 
 -- ---- A list of variables
 

@@ -1,17 +1,15 @@
 -- Entries of lists, and the slots that occur.
-use Rattle.std.proofs.Common.{◌≡◌, ◌≢◌, ℕ, ◌+◌, ◌≤◌, true, false, ◌&&◌, ◌||◌, not, cond, eqb}
-use Rattle.std.proofs.Common.{eq-eqb, eqb-true, is_some, Some, None, ◌<◌, rules}
-use Rattle.std.proofs.Common.{List, [], ◌++◌, filter, map, ◌∙◌, arith, ◌∷◌}
-use Rattle.std.proofs.lemmas.Grind.{get_or_default_zero}
-use Rattle.std.proofs.lemmas.List.Folds.{list_any-append, list_all-append, list_any_at}
+use Rattle.cnf_base.{proofs.{MemberLemmas.place_of, SetLemmas.both_pass}, specs.Literals.has}
+use Rattle.occurrences.proofs.TestLemmas.{all_left, any_alike, any_and, any_filter, any_map}
+use Rattle.occurrences.specs.{Code.Known.{AreAlike, is_known}, Entries.{births_of, counts, is_of}}
+use Rattle.{occurrences.specs.declared.occurrence.Occurrence.Occurrence, std.proofs.Common.List}
+use Rattle.std.proofs.Common.{None, Some, [], arith, cond, eq-eqb, eqb, eqb-true, false, filter}
+use Rattle.std.proofs.Common.{is_some, map, not, rules, true, ℕ, ◌&&◌, ◌++◌, ◌+◌, ◌<◌, ◌||◌, ◌∙◌}
+use Rattle.std.proofs.{Common.{◌∷◌, ◌≡◌, ◌≢◌, ◌≤◌}, lemmas.Grind.get_or_default_zero}
+use Rattle.std.proofs.lemmas.List.Folds.{list_all-append, list_any-append, list_any_at}
 use Rattle.std.proofs.lemmas.List.Kept.{Contains-dedup_nat, Contains-from_dedup}
-use Rattle.std.specs.List.{list_any, list_all, Contains, dedup}
-use Rattle.cnf_base.{specs.Literals.has, proofs.MemberLemmas.place_of, proofs.SetLemmas.both_pass}
-use Rattle.tables.specs.{ByKey.at, declared.by_key.ByKey.ByKey}
-use Rattle.occurrences.specs.Entries.{births_of, counts, is_of}
-use Rattle.occurrences.specs.Code.Known.{is_known, AreAlike}
-use Rattle.occurrences.specs.declared.occurrence.Occurrence.{Occurrence}
-use Rattle.occurrences.proofs.TestLemmas.{any_filter, all_left, any_alike, any_and, any_map}
+use Rattle.{std.specs.List.{Contains, dedup, list_all, list_any}, tables.specs.ByKey.at}
+use Rattle.tables.specs.declared.by_key.ByKey.{ByKey}
 
 -- ---- Lists in the place of others
 

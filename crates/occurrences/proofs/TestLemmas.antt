@@ -1,7 +1,6 @@
 -- Tests of the elements of a list.
-use Rattle.std.proofs.Common.{◌≡◌, Bool, true, false, ◌&&◌, ◌||◌, cond, List, [], ◌∷◌, filter, map}
-use Rattle.std.proofs.Common.{refl, sym, ap, ◌∙◌, arith}
-use Rattle.std.specs.List.{list_any, list_all}
+use Rattle.std.proofs.Common.{Bool, List, [], ap, arith, cond, false, filter, map, refl, sym, true}
+use Rattle.std.{proofs.Common.{◌&&◌, ◌||◌, ◌∙◌, ◌∷◌, ◌≡◌}, specs.List.{list_all, list_any}}
 
 pub and_true : (b : Bool) → (b && true) ≡ b
 and_true b = grind arith

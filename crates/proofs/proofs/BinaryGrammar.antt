@@ -1,25 +1,23 @@
 -- The steps of a binary DRAT proof, both ways.
-use Rattle.std.proofs.Common.{◌≡◌, ℕ, suc, ◌+◌, ◌*◌, ◌%◌, ◌<◌, ◌≤◌, ◌&&◌, nat_le, Bool, true}
-use Rattle.std.proofs.Common.{false, List, [], ◌∷◌, ◌++◌, length, map, Option, None, Some, refl, ap}
-use Rattle.std.proofs.Common.{sym, ◌∙◌, append_assoc, arith, rules, append-nil, option_map, All}
-use Rattle.std.proofs.Common.{flat_map, zero, ◌-◌, ◌/◌, fold, length-append}
-use Rattle.std.{proofs.lemmas.Bool.Decides.nat_tests, specs.List.list_all}
-use Rattle.std.proofs.lemmas.{Int.Digits.digits_of_step, Grind.flat_map-append, List.reverse-append}
-use Rattle.std.proofs.lemmas.List.Elements.{All-cons}
-use Rattle.cnf_base.specs.{Printing.input_of, Printing.is_literal, Stream.next_count}
-use Rattle.cnf_base.proofs.PrintLemmas.{both, literal_range}
-use Rattle.cnf_base.specs.declared.input.Ending.TheVariants.{End}
-use Rattle.proofs.specs.{Steps.Step, Steps.named, Steps.with_literal, Grammar.BinaryIsGrammar}
-use Rattle.proofs.specs.Binary.{groups_value, BinarySpot, at_tag, in_step, in_number, BinaryMove}
-use Rattle.proofs.specs.Binary.{goes, completes, faults, tag_move, group_move, binary_number_move}
-use Rattle.proofs.specs.Binary.{binary_move_of, on_binary_move, binary_steps_among, binary_steps}
-use Rattle.proofs.specs.Printing.{ReadStep, read_of, printed_steps, seven_bit_groups, group_bytes}
-use Rattle.proofs.specs.Printing.{number_bytes, tag_bytes, binary_step, IsDratStep, ReadProof}
-use Rattle.proofs.{proofs.GrammarText.drat_step_is, specs.Printing.proof_of}
-use Rattle.proofs.proofs.GrammarText.{none_some, bare, bare-ReadsAs, bare-with_step, all_more}
-use Rattle.proofs.proofs.GrammarText.{with_read, printed_from, with_literals, drat_step}
-use Rattle.proofs.specs.declared.step_buf.StepKind.{TheVariants.Add, TheVariants.Delete, StepKind}
-use Rattle.proofs.specs.{declared.step_end.StepEnd.TheVariants.Byte, Reading.PlacedStep}
+use Rattle.cnf_base.{proofs.PrintLemmas.{both, literal_range}, specs.Stream.next_count}
+use Rattle.cnf_base.specs.{Printing.{input_of, is_literal}, declared.input.Ending.TheVariants.End}
+use Rattle.proofs.proofs.GrammarText.{all_more, bare, bare-ReadsAs, bare-with_step, drat_step}
+use Rattle.proofs.proofs.GrammarText.{drat_step_is, none_some, printed_from, with_literals}
+use Rattle.proofs.{proofs.GrammarText.with_read, specs.Steps.{Step, named, with_literal}}
+use Rattle.proofs.specs.Binary.{BinaryMove, BinarySpot, at_tag, binary_move_of, binary_number_move}
+use Rattle.proofs.specs.Binary.{binary_steps, binary_steps_among, completes, faults, goes, tag_move}
+use Rattle.proofs.specs.Binary.{group_move, groups_value, in_number, in_step, on_binary_move}
+use Rattle.proofs.specs.{Grammar.BinaryIsGrammar, declared.step_end.StepEnd.TheVariants.Byte}
+use Rattle.proofs.specs.Printing.{IsDratStep, ReadProof, ReadStep, binary_step, group_bytes}
+use Rattle.proofs.specs.Printing.{number_bytes, printed_steps, proof_of, read_of, seven_bit_groups}
+use Rattle.proofs.specs.{Printing.tag_bytes, Reading.PlacedStep}
+use Rattle.proofs.specs.declared.step_buf.StepKind.{StepKind, TheVariants.{Add, Delete}}
+use Rattle.std.proofs.Common.{All, Bool, List, None, Option, Some, [], ap, append-nil, append_assoc}
+use Rattle.std.proofs.Common.{arith, false, flat_map, fold, length, length-append, map, nat_le}
+use Rattle.std.proofs.Common.{option_map, refl, rules, suc, sym, true, zero, ℕ, ◌%◌, ◌&&◌, ◌*◌}
+use Rattle.std.{proofs.Common.{◌++◌, ◌+◌, ◌-◌, ◌/◌, ◌<◌, ◌∙◌, ◌∷◌, ◌≡◌, ◌≤◌}, specs.List.list_all}
+use Rattle.std.proofs.lemmas.{Bool.Decides.nat_tests, Int.Digits.digits_of_step}
+use Rattle.std.proofs.lemmas.{Grind.flat_map-append, List.{reverse-append, Elements.All-cons}}
 
 -- ---- A DRAT proof that was printed in binary, as it is read
 

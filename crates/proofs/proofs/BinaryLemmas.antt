@@ -1,22 +1,21 @@
 -- A binary proof's bytes, one at a time.
-use Rattle.std.proofs.Common.{◌≡◌, ℕ, ◌<◌, ◌≤◌, [], ◌∷◌, length, Option, None, Some, refl, ap, ◌∙◌}
-use Rattle.std.proofs.Common.{arith, rules, Bool, true, Result, Ok, Err, slice_index}
-use Rattle.cnf_base.specs.Stream.{Suffix, Stream, Along, IsLook, bumped, next_count, most_to_come}
-use Rattle.cnf_base.specs.{declared.fault.BinaryFault.BinaryFault, Stream.tells_failure}
-use Rattle.cnf_base.specs.declared.fault.Fault.{TheVariants.Binary, TheVariants.OutOfMemory, Fault}
-use Rattle.cnf_base.proofs.StreamLemmas.{Splits-first, Splits-byte, Along-then, Along-map}
-use Rattle.cnf_base.proofs.StreamLemmas.{Along-look, Along-bumped, Along-still, shown_end}
-use Rattle.cnf_base.proofs.StreamLemmas.{most_to_come-bumped, most_to_come-look, IsLook-still}
-use Rattle.cnf_base.specs.{declared.input.Ending.TheVariants.End, Readers.Keeps}
-use Rattle.proofs.specs.{Reading.Proof, Reading.GivesStep, Reading.PassesNoEnd, Code.Whole.RunsOn}
-use Rattle.proofs.specs.Binary.{BinarySpot, at_tag, BinaryMove, goes, completes, faults}
-use Rattle.proofs.specs.Binary.{binary_move_of, on_binary_move, binary_at_end}
-use Rattle.proofs.proofs.TextLemmas.{on_binary_move-from, binary_steps_among-from, gives_fault}
+use Rattle.cnf_base.proofs.StreamLemmas.{Along-bumped, Along-look, Along-map, Along-still}
+use Rattle.cnf_base.proofs.StreamLemmas.{Along-then, IsLook-still, Splits-byte, Splits-first}
+use Rattle.cnf_base.proofs.StreamLemmas.{most_to_come-bumped, most_to_come-look, shown_end}
+use Rattle.cnf_base.specs.{Readers.Keeps, Stream.tells_failure}
+use Rattle.cnf_base.specs.Stream.{Along, IsLook, Stream, Suffix, bumped, most_to_come, next_count}
+use Rattle.cnf_base.specs.declared.{fault.BinaryFault.BinaryFault, input.Ending.TheVariants.End}
+use Rattle.cnf_base.specs.declared.fault.Fault.{Fault, TheVariants.{Binary, OutOfMemory}}
+use Rattle.proofs.proofs.TextLemmas.{binary_steps_among-from, gives_fault, on_binary_move-from}
+use Rattle.proofs.specs.Binary.{BinaryMove, BinarySpot, at_tag, binary_at_end, binary_move_of}
+use Rattle.proofs.specs.{Binary.{completes, faults, goes, on_binary_move}, Code.Whole.RunsOn}
+use Rattle.proofs.specs.Code.{Binary.{binary_steps_at, binary_steps_from}, TextMoves.EndsProof}
+use Rattle.proofs.specs.Code.{BinaryMoves.{MovesBinary, binary_left}, Reading.proof_unless_ended}
+use Rattle.proofs.specs.{Reading.{GivesStep, PassesNoEnd, Proof}, Steps.{Step, named}}
 use Rattle.proofs.specs.declared.drat_binary.{part.BinaryPart.BinaryPart, stopped.Stopped.Stopped}
-use Rattle.proofs.specs.Code.{BinaryMoves.MovesBinary, BinaryMoves.binary_left, TextMoves.EndsProof}
-use Rattle.proofs.specs.declared.step_end.StepEnd.{TheVariants.Byte, StepEnd}
-use Rattle.proofs.specs.{Code.Binary.binary_steps_from, Code.Binary.binary_steps_at, Steps.Step}
-use Rattle.proofs.specs.{Code.Reading.proof_unless_ended, declared.moved.Moved.Moved, Steps.named}
+use Rattle.proofs.specs.declared.{moved.Moved.Moved, step_end.StepEnd.{StepEnd, TheVariants.Byte}}
+use Rattle.std.proofs.Common.{Bool, Err, None, Ok, Option, Result, Some, [], ap, arith, length}
+use Rattle.std.proofs.Common.{refl, rules, slice_index, true, ℕ, ◌<◌, ◌∙◌, ◌∷◌, ◌≡◌, ◌≤◌}
 
 -- from one moment to another bytes of one step were read
 pub record Between (old now : Stream) (spot : BinarySpot) (s : Step) : Type 0 where
@@ -114,9 +113,19 @@ module _ (old now new : Stream) (spot : BinarySpot) (s : Step) (so_far : Between
       search (rules, looked, shown_end, ends_so, binary_at_end, binary_steps_from, rest-from)
 
 -- literals were taken at once
-pub Between-on : (old now new : Stream) (spot : BinarySpot) (s t : Step) → Between old now spot s
+Between-on : (old now new : Stream) (spot : BinarySpot) (s t : Step) → Between old now spot s
     → RunsOn spot now new s t → Between old new spot t
 Between-on old now new spot s t so_far on = grind (arith, Along-then)
+
+-- a byte was taken, and then literals at once
+pub Between-run : (old now new taken last : Stream) (spot next : BinarySpot) (s t u : Step)
+    → Between old now spot s → IsLook now new → (b : ℕ) → 0 < length new.ahead
+    → b ≡ slice_index new.ahead 0 → binary_move_of spot s new.byte_no b ≡ goes next t
+    → tells_failure new.reader ≡ tells_failure now.reader → taken ≡ bumped new
+    → RunsOn next taken last t u → Between old last next u
+Between-run old now new taken last spot next s t u so_far look b some first is mark bump on =
+    let after = Between-byte old now new spot s so_far look b some first next t is mark in
+    Between-on _ _ _ _ _ _ after (rw (← bump) on)
 
 -- memory was refused there
 pub Between-out : (old now : Stream) (spot : BinarySpot) (s t : Step) → Between old now spot s

@@ -1,24 +1,23 @@
 -- The steps of a DRAT text, both ways.
-use Rattle.std.proofs.Common.{◌≡◌, ℕ, true, List, [], ◌∷◌, ◌++◌, map, fold, refl, ap, ◌∙◌, rules}
-use Rattle.std.proofs.Common.{append_assoc, arith, codes, option_map, suc, ◌+◌, ◌-◌, length, All}
-use Rattle.std.{proofs.lemmas.List.map-append, proofs.Common.flat_map, specs.List.list_all}
-use Rattle.cnf_base.specs.Printing.{is_literal, literal_text, literal_words, input_of, words_line}
-use Rattle.cnf_base.proofs.PrintLemmas.{both, end_of_line, end_of_line-first, literal_word}
-use Rattle.cnf_base.proofs.PrintLemmas.{literal_plain, literal_no_comment, next_line, literal_taken}
-use Rattle.cnf_base.proofs.PrintLemmas.{fixed_plain, first_word, zero_plain}
-use Rattle.cnf_base.proofs.GrammarLemmas.{word_spelled, IsSpelled}
-use Rattle.cnf_base.specs.{Code.Text.col_along, Code.Text.line_after, Literals.Literal}
-use Rattle.cnf_base.specs.declared.{fault.TextFault.TheVariants.LiteralTooLarge, word.Word.Word}
-use Rattle.cnf_base.specs.{declared.place.Place.Place, Words.word_of}
-use Rattle.proofs.specs.Printing.{drat_words, IsDratStep, ReadProof, read_of, proof_of, drat_line}
-use Rattle.proofs.specs.TextSteps.{goes, completes, move_of, faults, literal_or_end}
-use Rattle.proofs.specs.Drat.{DratSpot, at_start, in_literals, drat, drat_steps}
-use Rattle.proofs.proofs.GrammarText.{with_literals, drat_step, drat_step_is, with_read, list_read}
-use Rattle.proofs.proofs.GrammarText.{word_completes, zero_read, lines_read, IsRead, word_steps}
-use Rattle.proofs.proofs.GrammarText.{Spelling, Spells, IsSpelling, text_both_ways, all_more}
-use Rattle.proofs.proofs.GrammarText.{list_words, literal_cases, IsReadOn, first_read}
-use Rattle.proofs.specs.declared.step_buf.StepKind.{TheVariants.Delete, TheVariants.Add, StepKind}
-use Rattle.proofs.specs.{Steps.with_literal, Steps.Step, Steps.named, Grammar.DratIsGrammar}
+use Rattle.cnf_base.{proofs.GrammarLemmas.{IsSpelled, word_spelled}, specs.declared.word.Word.Word}
+use Rattle.cnf_base.proofs.PrintLemmas.{both, end_of_line, end_of_line-first, first_word}
+use Rattle.cnf_base.proofs.PrintLemmas.{fixed_plain, literal_no_comment, literal_plain}
+use Rattle.cnf_base.proofs.PrintLemmas.{literal_taken, literal_word, next_line, zero_plain}
+use Rattle.cnf_base.specs.{Code.Text.{col_along, line_after}, Literals.Literal, Words.word_of}
+use Rattle.cnf_base.specs.Printing.{input_of, is_literal, literal_text, literal_words, words_line}
+use Rattle.cnf_base.specs.declared.{fault.TextFault.TheVariants.LiteralTooLarge, place.Place.Place}
+use Rattle.proofs.proofs.GrammarText.{IsRead, IsReadOn, IsSpelling, Spelling, Spells, all_more}
+use Rattle.proofs.proofs.GrammarText.{drat_step, drat_step_is, first_read, lines_read, list_read}
+use Rattle.proofs.proofs.GrammarText.{list_words, literal_cases, text_both_ways, with_literals}
+use Rattle.proofs.proofs.GrammarText.{with_read, word_completes, word_steps, zero_read}
+use Rattle.proofs.specs.Drat.{DratSpot, at_start, drat, drat_steps, in_literals}
+use Rattle.proofs.specs.{Grammar.DratIsGrammar, Steps.{Step, named, with_literal}}
+use Rattle.proofs.specs.Printing.{IsDratStep, ReadProof, drat_line, drat_words, proof_of, read_of}
+use Rattle.proofs.specs.TextSteps.{completes, faults, goes, literal_or_end, move_of}
+use Rattle.proofs.specs.declared.step_buf.StepKind.{StepKind, TheVariants.{Add, Delete}}
+use Rattle.std.proofs.Common.{All, List, [], ap, append_assoc, arith, codes, flat_map, fold, length}
+use Rattle.std.proofs.Common.{map, option_map, refl, rules, suc, true, ℕ, ◌++◌, ◌+◌, ◌-◌, ◌∙◌, ◌∷◌}
+use Rattle.std.{proofs.{Common.◌≡◌, lemmas.List.map-append}, specs.List.list_all}
 use Rattle.cnf_base.specs.declared.word.Word.TheVariants as words
 
 -- ---- A DRAT proof that was printed as text, as it is read

@@ -1,27 +1,26 @@
 -- The steps of a text by its words alone, in whatever format.
-use Rattle.std.proofs.Common.{◌≡◌, ℕ, suc, ◌+◌, ◌*◌, ◌≤◌, nat_le, cond, Bool, true, List, [], ◌∷◌}
-use Rattle.std.proofs.Common.{◌++◌, map, fold, Option, None, Some, refl, sym, ap, ◌∙◌, append_assoc}
-use Rattle.std.proofs.Common.{arith, rules, All, codes, option_map, flat_map, filter_map, ◌-◌, ◌<◌}
-use Rattle.std.{proofs.Common.ℤ, proofs.Common.false, proofs.Common.length, specs.List.list_all}
-use Rattle.std.proofs.lemmas.{List.Folds.list_all-append, List.Elements.All-cons, Fmt.decimal_digit}
-use Rattle.cnf_base.specs.Text.{Listed, listing_of, Listing, is_comment}
-use Rattle.cnf_base.specs.Printing.{input_of, is_literal, literal_text, words_line}
-use Rattle.cnf_base.proofs.GrammarLemmas.{said, number_text, IsSpelled, listing_says, listing_words}
-use Rattle.cnf_base.proofs.PrintLemmas.{both, first_word, along_from_one, past_from_one, Begins}
-use Rattle.cnf_base.proofs.PrintLemmas.{next_word, next_line, IsPlain, zero_plain, line_from, past}
-use Rattle.cnf_base.proofs.PrintLemmas.{end_of_line, end_of_line-next}
-use Rattle.cnf_base.specs.{declared.word.Number.Number, Grammar.text_words, Literals.Literal}
-use Rattle.cnf_base.specs.declared.{fault.TextFault.TheVariants.LiteralTooLarge, place.Place.Place}
-use Rattle.cnf_base.specs.declared.{input.Ending.TheVariants.End, word.Word.Word}
-use Rattle.cnf_base.specs.{Code.Text.line_after, Code.Text.col_along, declared.fault.Fault.Fault}
-use Rattle.cnf_base.specs.{Words.word_of, Words.number, Stream.suffix}
-use Rattle.proofs.specs.{Steps.with_literal, Reading.with_step, Grammar.IsGrammar, Grammar.IsTextOf}
-use Rattle.proofs.specs.{Grammar.ReadsAs, Steps.with_hint, Reading.Proof, Steps.named, Steps.Step}
-use Rattle.proofs.specs.TextSteps.{Move, goes, completes, faults, Format, move_of, literal_or_end}
-use Rattle.proofs.specs.TextSteps.{literal_or_fault, steps_among, steps_of, steps_from}
-use Rattle.proofs.specs.Printing.{ReadProof, read_of, printed_steps, IsDratStep}
-use Rattle.proofs.specs.declared.{step_buf.StepKind.StepKind, step_end.StepEnd.StepEnd}
-use Rattle.proofs.specs.{Code.TextSteps.steps_listed, Code.TextSteps.steps_at, Reading.PlacedStep}
+use Rattle.cnf_base.proofs.GrammarLemmas.{IsSpelled, listing_says, listing_words, number_text, said}
+use Rattle.cnf_base.proofs.PrintLemmas.{Begins, IsPlain, along_from_one, both, end_of_line}
+use Rattle.cnf_base.proofs.PrintLemmas.{end_of_line-next, first_word, line_from, next_line}
+use Rattle.cnf_base.proofs.PrintLemmas.{next_word, past, past_from_one, zero_plain}
+use Rattle.cnf_base.specs.{Code.Text.{col_along, line_after}, Grammar.text_words, Literals.Literal}
+use Rattle.cnf_base.specs.{Printing.{input_of, is_literal, literal_text, words_line}, Stream.suffix}
+use Rattle.cnf_base.specs.{Text.{Listed, Listing, is_comment, listing_of}, Words.{number, word_of}}
+use Rattle.cnf_base.specs.declared.fault.{Fault.Fault, TextFault.TheVariants.LiteralTooLarge}
+use Rattle.cnf_base.specs.declared.{input.Ending.TheVariants.End, place.Place.Place}
+use Rattle.cnf_base.specs.declared.word.{Number.Number, Word.Word}
+use Rattle.proofs.specs.{Code.TextSteps.{steps_at, steps_listed}, Grammar.{IsGrammar, IsTextOf}}
+use Rattle.proofs.specs.{Grammar.ReadsAs, Printing.{IsDratStep, ReadProof, printed_steps, read_of}}
+use Rattle.proofs.specs.{Reading.{PlacedStep, Proof, with_step}, Steps.{Step, named, with_hint}}
+use Rattle.proofs.specs.{Steps.with_literal, TextSteps.{Format, Move, completes, faults, goes}}
+use Rattle.proofs.specs.TextSteps.{literal_or_end, literal_or_fault, move_of, steps_among}
+use Rattle.proofs.specs.{TextSteps.{steps_from, steps_of}, declared.step_buf.StepKind.StepKind}
+use Rattle.{proofs.specs.declared.step_end.StepEnd.StepEnd, std.proofs.Common.{All, Bool, List}}
+use Rattle.std.proofs.Common.{None, Option, Some, [], ap, append_assoc, arith, codes, cond, false}
+use Rattle.std.proofs.Common.{filter_map, flat_map, fold, length, map, nat_le, option_map, refl}
+use Rattle.std.proofs.Common.{rules, suc, sym, true, ℕ, ℤ, ◌*◌, ◌++◌, ◌+◌, ◌-◌, ◌<◌, ◌∙◌, ◌∷◌, ◌≡◌}
+use Rattle.std.proofs.{Common.◌≤◌, lemmas.{Fmt.decimal_digit, List.Elements.All-cons}}
+use Rattle.std.{proofs.lemmas.List.Folds.list_all-append, specs.List.list_all}
 use Rattle.cnf_base.specs.declared.word.Word.TheVariants as words
 use Rattle.cnf_base.specs.declared.token.Token.TheVariants as token
 

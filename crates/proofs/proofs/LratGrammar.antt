@@ -1,29 +1,28 @@
 -- The steps of an LRAT text, both ways.
-use Rattle.std.proofs.Common.{◌≡◌, ℕ, ◌≤◌, cond, Bool, true, false, List, [], ◌∷◌, ◌++◌, map, fold}
-use Rattle.std.proofs.Common.{Option, refl, sym, ap, ◌∙◌, append_assoc, arith, rules, append-nil, ℤ}
-use Rattle.std.proofs.Common.{codes, pos, neg_ℤ, option_map, decimal, suc, ◌+◌, ◌-◌, ◌&&◌, nat_le}
-use Rattle.std.proofs.Common.{length, All, negsuc, flat_map}
-use Rattle.std.proofs.lemmas.List.{map-append}
-use Rattle.std.{proofs.lemmas.Bool.Decides.nat_tests, specs.Fmt.signed_decimal, specs.List.list_all}
-use Rattle.cnf_base.specs.Printing.{is_literal, literal_text, literal_words, input_of, words_line}
-use Rattle.cnf_base.proofs.PrintLemmas.{both, end_of_line, end_of_line-next, end_of_line-first}
-use Rattle.cnf_base.proofs.PrintLemmas.{IsPlain, fixed_plain, decimal_plain, minus_plain}
-use Rattle.cnf_base.proofs.PrintLemmas.{decimal_no_comment, decimal_word, minus_word, zero_plain}
-use Rattle.cnf_base.proofs.PrintLemmas.{literal_word, literal_plain, literal_taken}
-use Rattle.cnf_base.proofs.GrammarLemmas.{number_text, IsSpelled, word_spelled}
-use Rattle.cnf_base.specs.{Words.word_of, Words.number, declared.word.Word.Word, Literals.Literal}
+use Rattle.cnf_base.proofs.GrammarLemmas.{IsSpelled, number_text, word_spelled}
+use Rattle.cnf_base.proofs.PrintLemmas.{IsPlain, both, decimal_no_comment, decimal_plain}
+use Rattle.cnf_base.proofs.PrintLemmas.{decimal_word, end_of_line, end_of_line-first}
+use Rattle.cnf_base.proofs.PrintLemmas.{end_of_line-next, fixed_plain, literal_plain, literal_taken}
+use Rattle.cnf_base.proofs.PrintLemmas.{literal_word, minus_plain, minus_word, zero_plain}
+use Rattle.cnf_base.specs.{Literals.Literal, Words.{number, word_of}, declared.word.Word.Word}
+use Rattle.cnf_base.specs.Printing.{input_of, is_literal, literal_text, literal_words, words_line}
 use Rattle.cnf_base.specs.declared.{fault.TextFault.TheVariants.LiteralTooLarge, word.Number.Number}
-use Rattle.proofs.specs.Steps.{Step, is_small, is_hint, named, with_literal, with_hint}
-use Rattle.proofs.specs.TextSteps.{Move, goes, completes, faults, move_of, literal_or_end}
-use Rattle.proofs.specs.Lrat.{LratSpot, at_identifier, after_identifier, in_literals, in_hints}
-use Rattle.proofs.specs.Lrat.{in_deletion, lrat, literal, hint, deleted, lrat_steps}
-use Rattle.proofs.specs.Printing.{hint_words, lrat_words, IsLratStep, ReadProof, read_of, proof_of}
-use Rattle.proofs.specs.{Grammar.LratIsGrammar, Printing.lrat_line}
-use Rattle.proofs.proofs.GrammarText.{with_literals, with_hints, with_read, IsRead, list_read}
-use Rattle.proofs.proofs.GrammarText.{IsReadOn, first_read, word_read, zero_read, lines_read}
-use Rattle.proofs.proofs.GrammarText.{on_word, word_steps, Spelling, Spells, IsSpelling, zero_text}
-use Rattle.proofs.proofs.GrammarText.{text_both_ways, list_words, all_more, literal_cases}
-use Rattle.proofs.specs.declared.step_buf.StepKind.{TheVariants.Delete, TheVariants.Add, StepKind}
+use Rattle.proofs.proofs.GrammarText.{IsRead, IsReadOn, IsSpelling, Spelling, Spells, all_more}
+use Rattle.proofs.proofs.GrammarText.{first_read, lines_read, list_read, list_words, literal_cases}
+use Rattle.proofs.proofs.GrammarText.{on_word, text_both_ways, with_hints, with_literals, with_read}
+use Rattle.proofs.proofs.GrammarText.{word_read, word_steps, zero_read, zero_text}
+use Rattle.{proofs.specs.Grammar.LratIsGrammar, std.specs.{Fmt.signed_decimal, List.list_all}}
+use Rattle.proofs.specs.Lrat.{LratSpot, after_identifier, at_identifier, deleted, hint, in_deletion}
+use Rattle.proofs.specs.Lrat.{in_hints, in_literals, literal, lrat, lrat_steps}
+use Rattle.proofs.specs.Printing.{IsLratStep, ReadProof, hint_words, lrat_line, lrat_words}
+use Rattle.{proofs.specs.Printing.{proof_of, read_of}, std.proofs.lemmas.Bool.Decides.nat_tests}
+use Rattle.proofs.specs.Steps.{Step, is_hint, is_small, named, with_hint, with_literal}
+use Rattle.proofs.specs.TextSteps.{Move, completes, faults, goes, literal_or_end, move_of}
+use Rattle.proofs.specs.declared.step_buf.StepKind.{StepKind, TheVariants.{Add, Delete}}
+use Rattle.std.proofs.Common.{All, Bool, List, Option, [], ap, append-nil, append_assoc, arith}
+use Rattle.std.proofs.Common.{codes, cond, decimal, false, flat_map, fold, length, map, nat_le}
+use Rattle.std.proofs.Common.{neg_ℤ, negsuc, option_map, pos, refl, rules, suc, sym, true, ℕ, ℤ}
+use Rattle.std.proofs.{Common.{◌&&◌, ◌++◌, ◌+◌, ◌-◌, ◌∙◌, ◌∷◌, ◌≡◌, ◌≤◌}, lemmas.List.map-append}
 use Rattle.cnf_base.specs.declared.word.Word.TheVariants as words
 
 -- ---- An LRAT proof that was printed, as it is read

@@ -1,23 +1,22 @@
 -- A proof's tokens, one at a time.
-use Rattle.std.proofs.Common.{◌≡◌, ℕ, ◌<◌, ◌≤◌, [], Option, None, Some, ap, ◌∙◌, arith, rules, Bool}
-use Rattle.std.proofs.Common.{true, Result, Ok, Err, suc, List, ◌∷◌}
-use Rattle.cnf_base.specs.Stream.{Suffix, Stream, Along, most_to_come, tells_failure, next_count}
-use Rattle.cnf_base.specs.{Text.Listing, Text.listing_at, Text.Gives, Text.Listed, Readers.Keeps}
-use Rattle.cnf_base.proofs.ListingLemmas.{Gives-from, listing_at-from, EndFrom}
-use Rattle.cnf_base.proofs.StreamLemmas.{Along-then, Along-map, Along-none, Along-still}
-use Rattle.cnf_base.specs.declared.{input.Ending.TheVariants.End, place.Place.Place, word.Word.Word}
-use Rattle.cnf_base.specs.declared.input.{ReadFailed.ReadFailed as Cut, Ending.Ending}
-use Rattle.cnf_base.specs.declared.fault.Fault.{TheVariants.ReadFailed, TheVariants.Text, Fault}
-use Rattle.cnf_base.specs.declared.{fault.TextFault.TextFault, token.Token.Token}
-use Rattle.proofs.specs.TextSteps.{steps_from, Move, goes, completes, faults, Format, move_of}
-use Rattle.proofs.specs.TextSteps.{on_move, at_end, steps_among}
-use Rattle.proofs.specs.Reading.{Proof, clean, faulty_proof, IsFaulty, GivesStep, PassesNoEnd}
-use Rattle.proofs.specs.{Steps.named, Steps.Step, Code.Reading.proof_unless_ended, Reading.EndsFrom}
-use Rattle.proofs.specs.Code.TextMoves.{fault_at, text_left, EndsProof, MovesText}
-use Rattle.proofs.specs.Binary.{binary_at_end, binary_steps_among, BinarySpot, BinaryMove}
-use Rattle.proofs.specs.{Binary.binary_move_of, Binary.on_binary_move, declared.moved.Moved.Moved}
-use Rattle.proofs.specs.declared.{step_end.StepEnd.StepEnd, stopped.Stopped.Stopped}
-use Rattle.proofs.specs.Code.TextSteps.{steps_listed, steps_at}
+use Rattle.cnf_base.proofs.ListingLemmas.{EndFrom, Gives-from, listing_at-from}
+use Rattle.cnf_base.proofs.StreamLemmas.{Along-map, Along-none, Along-still, Along-then}
+use Rattle.{cnf_base.specs.Readers.Keeps, std.proofs.Common.{suc, true, ℕ, ◌<◌, ◌∙◌, ◌∷◌, ◌≡◌, ◌≤◌}}
+use Rattle.cnf_base.specs.Stream.{Along, Stream, Suffix, most_to_come, next_count, tells_failure}
+use Rattle.cnf_base.specs.{Text.{Gives, Listed, Listing, listing_at}, declared.input.Ending.Ending}
+use Rattle.{cnf_base.specs.declared.fault.Fault.Fault, proofs.specs.Code.Reading.proof_unless_ended}
+use Rattle.cnf_base.specs.declared.fault.{Fault.TheVariants.{ReadFailed, Text}, TextFault.TextFault}
+use Rattle.cnf_base.specs.declared.input.{Ending.TheVariants.End, ReadFailed.ReadFailed as Cut}
+use Rattle.cnf_base.specs.declared.{place.Place.Place, token.Token.Token, word.Word.Word}
+use Rattle.proofs.specs.Binary.{BinaryMove, BinarySpot, binary_at_end, binary_move_of}
+use Rattle.proofs.specs.{Binary.{binary_steps_among, on_binary_move}, declared.moved.Moved.Moved}
+use Rattle.proofs.specs.Code.TextMoves.{EndsProof, MovesText, fault_at, text_left}
+use Rattle.proofs.specs.{Code.TextSteps.{steps_at, steps_listed}, declared.step_end.StepEnd.StepEnd}
+use Rattle.proofs.specs.Reading.{EndsFrom, GivesStep, IsFaulty, PassesNoEnd, Proof, clean}
+use Rattle.proofs.specs.{Reading.faulty_proof, Steps.{Step, named}}
+use Rattle.proofs.specs.TextSteps.{Format, Move, at_end, completes, faults, goes, move_of, on_move}
+use Rattle.proofs.specs.{TextSteps.{steps_among, steps_from}, declared.stopped.Stopped.Stopped}
+use Rattle.std.proofs.Common.{Bool, Err, List, None, Ok, Option, Result, Some, [], ap, arith, rules}
 use Rattle.cnf_base.specs.declared.token.Token.TheVariants as token
 use Rattle.proofs.specs.declared.step_end.StepEnd.TheVariants as ends
 

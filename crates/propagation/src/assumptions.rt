@@ -176,6 +176,7 @@ impl Assumptions {
 
     /// Sets a literal that is not false, unless it is true already. Tells whether it was open. It
     /// takes no memory.
+    #[tactic(auto, using(crate::proofs::PropagationLemmas::Levels::true_steps))]
     pub fn make_true(&mut self, l: Lit) -> bool
         requires reserved { IsTrue (has self.old.trail.reserved (l / 2)) }
         requires not_false { IsFalse (has self.old.trail.lits (complement l)) }

@@ -8,6 +8,7 @@ use clause_db::{Memory, Slot, Store};
 use cnf_base::Lit;
 
 /// Whether there is a clause in the slot with this number, and it has the literal.
+#[tactic(auto, using(crate::proofs::PropagationLemmas::HasAt::lack_steps))]
 fn has_at<M: Memory>(store: &Store<M>, number: usize, l: Lit) -> bool
     ensures yes { result ≡ true → HasAt (maps.get store.now.live) l number }
     ensures no { result ≡ false → ¬ HasAt (maps.get store.now.live) l number }

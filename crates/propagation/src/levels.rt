@@ -8,15 +8,6 @@ ghost use Rattle.propagation.specs.Code.Levels.{answered, first_number, pushed};
 
 use crate::Answer;
 
-/// An assumption that stands: its number, how many literals were true before it, and how it was
-/// answered.
-#[derive(Clone, Copy)]
-pub(crate) struct Level {
-    pub(crate) number: u64,
-    pub(crate) start: usize,
-    pub(crate) answer: Answer,
-}
-
 /// The assumptions that stand.
 #[derive(Clone, Copy)]
 pub(crate) enum Levels {
@@ -26,6 +17,15 @@ pub(crate) enum Levels {
     One(Level),
     /// A second stands on the first.
     Two(Level, Level),
+}
+
+/// An assumption that stands: its number, how many literals were true before it, and how it was
+/// answered.
+#[derive(Clone, Copy)]
+pub(crate) struct Level {
+    pub(crate) number: u64,
+    pub(crate) start: usize,
+    pub(crate) answer: Answer,
 }
 
 impl Levels {

@@ -160,6 +160,7 @@ impl Propagate for Scan {
         self.store.insert(lits)
     }
 
+    #[tactic(auto, using(crate::proofs::PropagationLemmas::Scan::removed_steps))]
     fn remove(&mut self, slot: Slot) {
         self.store.remove(slot);
     }

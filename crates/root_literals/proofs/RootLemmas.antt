@@ -1,4 +1,5 @@
 -- Root literals.
+pub mod Terms
 pub mod Reasons
 pub mod Watched
 pub mod Kept

@@ -67,13 +67,13 @@ pub fn start(store: &Store, units: &SlotList, assumptions: &mut Assumptions, roo
     requires kept { IsKept store.now.live roots.old assumptions.old.trail.lits }
     ensures kept { IsKept store.now.live roots.new assumptions.new.trail.lits }
     ensures known { lacks_units roots.new.kept ≡ false }
+    ensures reserved { SameSet assumptions.new.trail.reserved assumptions.old.trail.reserved }
+    ensures assumptions { assumptions.new.assumptions ≡ assumptions.old.assumptions }
+    ensures starts { assumptions.new.starts ≡ assumptions.old.starts }
     ensures begun { (visits roots.new.history ≡ 0) ⊎ HasGrown roots.old.history roots.new.history
         assumptions.old.trail.lits assumptions.new.trail.lits }
     ensures noted { (l : Literal) → IsSome (at roots.old.reasons l) →
         IsSome (at roots.new.reasons l) }
-    ensures reserved { SameSet assumptions.new.trail.reserved assumptions.old.trail.reserved }
-    ensures assumptions { assumptions.new.assumptions ≡ assumptions.old.assumptions }
-    ensures starts { assumptions.new.starts ≡ assumptions.old.starts }
 {
     if let Kept::WithoutUnits = roots.kept {
         if let Some(slot) = settle(store, assumptions, roots) {

@@ -1,42 +1,34 @@
 -- A formula is read, and loaded, clause by clause; what has no fault was read to its end; and claims.
-use Rattle.cnf_base.proofs.SeenLemmas.{Seen-fact, Seen-nothing, Seen-run}
+use Rattle.cnf_base.proofs.{SeenLemmas.{Seen-fact, Seen-nothing, Seen-run}, SetLemmas.same_itself}
 use Rattle.cnf_base.proofs.StreamLemmas.{Along-map, Along-none, Along-then, Along-within}
-use Rattle.cnf_base.specs.Literals.{Clause, Literal, has, same_clause, size}
+use Rattle.{cnf_base.specs.{Code.Seen.OfSeen, Text.listing_of}, dimacs.specs.Printing.IsModel}
+use Rattle.{cnf_base.specs.Grammar.word_lines, sat_check.specs.FormulaReach.ReadsNoFurtherThanFault}
+use Rattle.cnf_base.specs.{Literals.{Clause, Literal, has, same_clause, size}, Stream.unread_stream}
+use Rattle.{cnf_base.specs.Printing.input_of, steps.specs.Session.{SessionState, fresh, view_of}}
 use Rattle.cnf_base.specs.Stream.{Along, Input, Reader, Stream, Suffix, bytes_read, from_start}
 use Rattle.cnf_base.specs.Text.{Listed, Listing, Spot, is_comment, lines_listing, lines_of}
-use Rattle.cnf_base.specs.declared.fault.Fault.TheVariants.{OutOfMemory}
-use Rattle.cnf_base.specs.declared.input.Ending.TheVariants.{End, Failed}
-use Rattle.cnf_base.specs.declared.{fault.Fault.Fault, place.Place.Place}
-use Rattle.cnf_base.specs.{declared.input.Ending.Ending, Printing.input_of, Grammar.word_lines}
+use Rattle.cnf_base.specs.declared.{fault.Fault.{Fault, TheVariants.OutOfMemory}, place.Place.Place}
+use Rattle.cnf_base.specs.declared.input.Ending.{Ending, TheVariants.{End, Failed}}
+use Rattle.dimacs.{proofs.ModelGrammar.model_grammar, specs.Formula.{header_of, opened}}
 use Rattle.dimacs.specs.Claim.{IsConsistent, Said, claim_among, claim_of, nothing}
 use Rattle.dimacs.specs.Formula.{Body, body_among, ends_at, formula_at, formula_of, formula_with}
+use Rattle.dimacs.specs.{Grammar.ModelText, Reading.{clauses_to_come, ends_to_come, unopened}}
 use Rattle.dimacs.specs.Reading.{FormulaReading, GivesClause, GivesEnd, PassesNoEnd}
-use Rattle.dimacs.specs.Reading.{clauses_to_come, ends_to_come, unopened}
-use Rattle.dimacs.{specs.Formula.header_of, specs.Formula.opened, proofs.ModelGrammar.model_grammar}
-use Rattle.drat_steps.proofs.DratLemmas.Steps.{none_listed}
-use Rattle.sat_check.specs.Code.Checking.{IsLoaded, Loads, LoadsBody}
-use Rattle.sat_check.specs.{Code.FormulaReach.LeavesFault, FormulaReach.ReadsNoFurtherThanFault}
-use Rattle.std.proofs.Common.{Bool, Err, List, None, Ok, Result, Some, [], ap, append-nil}
+use Rattle.{dimacs.specs.declared.header.Header.Header, theory.proofs.LratLemmas.SameSets.with_same}
+use Rattle.{drat_steps.proofs.DratLemmas.Steps.none_listed, std.proofs.lemmas.Option.none-some}
+use Rattle.sat_check.specs.Code.{Checking.{IsLoaded, Loads, LoadsBody}, FormulaReach.LeavesFault}
+use Rattle.std.proofs.Common.{Bool, Err, List, None, Ok, Result, Some, [], ap, append-nil, ◌≡◌, ◌≤◌}
 use Rattle.std.proofs.Common.{append_assoc, arith, false, length, length-append, max, refl, reverse}
 use Rattle.std.proofs.Common.{rules, slice_get, suc, sym, true, ℕ, ◌++◌, ◌+◌, ◌-◌, ◌||◌, ◌∙◌, ◌∷◌}
+use Rattle.std.proofs.lemmas.List.{length_push, reverse-reverse, Folds.list_any-append}
 use Rattle.std.proofs.lemmas.List.Sorted.{IsPermutation-reverse, list_any-IsPermutation}
-use Rattle.std.proofs.lemmas.List.{Folds.list_any-append, length_push, reverse-reverse}
-use Rattle.std.specs.{FinMap.get-empty, Ordering.nat_cmp}
-use Rattle.std.{specs.Prelude.IfOk, proofs.Common.◌≡◌, proofs.Common.◌≤◌}
-use Rattle.steps.specs.Session.{SessionState, fresh, view_of}
-use Rattle.theory.proofs.DratLemmas.Copies.{copies-cons, none_alive}
-use Rattle.theory.proofs.LawLemmas.Rules.{same_trans, sum_same}
-use Rattle.theory.proofs.LratLemmas.{SameSets.with_same, States.numbered_push}
-use Rattle.theory.proofs.{LawLemmas.Existence.numbered_above, LratLemmas.LiveSets.SameClauses-eq}
+use Rattle.{std.proofs.lemmas.List.Sums.sum_by-append, theory.specs.Sizes.{size_at, sum_to, total}}
+use Rattle.{std.specs.{FinMap.get-empty, Ordering.nat_cmp}, steps.specs.ProofSession.View}
+use Rattle.{std.specs.Prelude.IfOk, theory.proofs.DratLemmas.Copies.{copies-cons, none_alive}}
+use Rattle.theory.proofs.LawLemmas.{Existence.numbered_above, Rules.{same_trans, sum_same}}
+use Rattle.theory.proofs.LratLemmas.{LiveSets.SameClauses-eq, States.numbered_push, Sums.sum_with}
+use Rattle.theory.specs.{Lrat.{lrat_start, numbered}, Rules.{sum_of, with_input}, Verdicts.is_empty}
 use Rattle.theory.specs.Rules.{Rule, Same, State, by_copies, by_ids, drat, lrat, rule_of, start}
-use Rattle.theory.specs.Sizes.{size_at, sum_to, total}
-use Rattle.theory.specs.{Rules.sum_of, Rules.with_input, Lrat.lrat_start, Lrat.numbered}
-use Rattle.{cnf_base.proofs.SetLemmas.same_itself, theory.proofs.LratLemmas.Sums.sum_with}
-use Rattle.{cnf_base.specs.Text.listing_of, dimacs.specs.Grammar.ModelText}
-use Rattle.{dimacs.specs.Printing.IsModel, steps.specs.ProofSession.View}
-use Rattle.{std.proofs.lemmas.List.Sums.sum_by-append, dimacs.specs.declared.header.Header.Header}
-use Rattle.{std.proofs.lemmas.Option.none-some, cnf_base.specs.Stream.unread_stream}
-use Rattle.{theory.specs.Verdicts.is_empty, cnf_base.specs.Code.Seen.OfSeen}
 use Rattle.std.specs.FinMap as maps
 
 -- ---- A whole input
@@ -45,50 +37,59 @@ use Rattle.std.specs.FinMap as maps
 pub seen_nothing : (P : Input → Type 0) (old new : Reader) → old ≡ new → ((i : Input) → P i) → OfSeen old new P
 seen_nothing P old new same all = rw (← same) (grind (arith, Seen-nothing))
 
--- a reader that was fresh was read: what was made of what follows, and with how many bytes read
-pub seen_within : (P : Place → Suffix → Suffix → Type 0) (old : Reader) (borrows : List ℕ) (source last : Stream) (new : Reader)
-    → source ≡ unread_stream old borrows → new ≡ last.reader → Along source last (λ i j. P source.place i j)
-    → OfSeen old new (λ i. (j : Suffix) × P (record { line = 1; col = 1 }) (from_start i) j × (bytes_read old new ≤ j.offset + 65536))
-seen_within P old borrows source last new is kept run =
-    let R : Suffix → Suffix → Type 0 = λ i j. P (record { line = 1; col = 1 }) i j × (bytes_read old last.reader + i.offset ≤ j.offset + 65536) in
-    let within : Along (unread_stream old borrows) last R = Along-within (unread_stream old borrows) last _ (omega arith) (rw is at run) in
-    rw kept (record { seen = Seen-run old borrows last R within; fact = grind (arith, Seen-fact) })
-
 -- another fact of what was seen
 pub seen_map : (old new : Reader) (P Q : Input → Type 0) → OfSeen old new P → ((i : Input) → P i → Q i) → OfSeen old new Q
-seen_map old new P Q seen next = record { seen = seen.seen; fact = λ i s. next i (seen.fact i s) }
+seen_map old new P Q seen next =
+    record { seen = seen.seen; fact = λ i s. next i (seen.fact i s) }
 
--- the same without the number of bytes
-pub seen_run : (P : Place → Suffix → Type 0) (old : Reader) (borrows : List ℕ) (source last : Stream) (new : Reader)
-    → source ≡ unread_stream old borrows → new ≡ last.reader → Along source last (λ i j. P source.place i)
-    → OfSeen old new (λ i. P (record { line = 1; col = 1 }) (from_start i))
-seen_run P old borrows source last new is kept run = seen_map old new _ _
-    (seen_within (λ p i j. P p i) old borrows source last new is kept run) (λ i x. x.1)
+abbrev pub first_place : Place
+first_place = record { line = 1; col = 1 }
+
+-- a reader that was fresh was read
+module _ (old : Reader) (borrows : List ℕ) (source last : Stream) (new : Reader)
+    (is : source ≡ unread_stream old borrows) (kept : new ≡ last.reader) where
+  -- what was made of what follows, and with how many bytes read
+  pub seen_within : (P : Place → Suffix → Suffix → Type 0) → Along source last (P source.place) →
+      OfSeen old new (λ i. (j : Suffix) × P first_place (from_start i) j × (bytes_read old new ≤ j.offset + 65536))
+  seen_within P run = let fresh = unread_stream old borrows in
+      let within = Along-within fresh last (P first_place) (omega arith) (rw is at run) in
+      rw kept
+      (record { seen = Seen-run old borrows last _ within; fact = grind (arith, Seen-fact) })
+
+  -- the same without the number of bytes
+  pub seen_run : (P : Place → Suffix → Type 0) → Along source last (λ i j. P source.place i) →
+      OfSeen old new (λ i. P first_place (from_start i))
+  seen_run P run = seen_map old new _ _ (seen_within (λ p i j. P p i) run) (λ i x. x.1)
 
 -- ---- A formula's clauses
 
-abbrev pub with_clauses : List Clause → Body → Body
-with_clauses cs b = record { clauses = cs ++ b.clauses; fault = b.fault }
-
 -- these clauses came first, with where each ends, and then what else there is
-abbrev pub ReadsOn : List Clause → Body → Body → List ℕ → List ℕ → Type 0
-ReadsOn clauses before after ends ends_after =
-    (before ≡ with_clauses clauses after) × ((passed : List ℕ) × (length passed ≡ length clauses) × (ends ≡ passed ++ ends_after))
+abbrev pub ReadsOn : FormulaReading → List Clause → Suffix → Body → List ℕ → Type 0
+ReadsOn old clauses i after ends =
+    (clauses_to_come old i ≡ record { clauses = clauses ++ after.clauses; fault = after.fault })
+    × ((passed : List ℕ) × (length passed ≡ length clauses) × (ends_to_come old i ≡ passed ++ ends))
 
 -- from one moment to another these clauses were read
 pub record Reads (old now : FormulaReading) (clauses : List Clause) : Type 0 where
   pub count : length clauses ≡ now.complete
-  pub run : Along old.stream now.stream (λ i j. ReadsOn clauses (clauses_to_come old i) (clauses_to_come now j) (ends_to_come old i) (ends_to_come now j))
+  pub run : Along old.stream now.stream
+      (λ i j. ReadsOn old clauses i (clauses_to_come now j) (ends_to_come now j))
   pub header : now.header ≡ old.header
 
 -- what a call of the reader gave
 abbrev pub Gave : FormulaReading → FormulaReading → Result Bool Fault → Clause → Type 0
-Gave now new result c = Along now.stream new.stream (λ i j. GivesClause result c (clauses_to_come now i) (clauses_to_come new j)
+Gave now new result c = Along now.stream new.stream (λ i j.
+    GivesClause result c (clauses_to_come now i) (clauses_to_come new j)
     × GivesEnd result (ends_to_come now i) (ends_to_come new j) j)
 
 -- after these clauses no end was passed
 abbrev pub NonePassed : FormulaReading → List Clause → Suffix → Suffix → Type 0
-NonePassed old clauses i k = (later : Body) × (ends : List ℕ) × ReadsOn clauses (clauses_to_come old i) later (ends_to_come old i) ends × PassesNoEnd ends k
+NonePassed old clauses i k =
+    (later : Body) × (ends : List ℕ) × ReadsOn old clauses i later ends × PassesNoEnd ends k
+
+-- the token at fault wasn't passed
+abbrev pub FaultLeft : FormulaReading → Suffix → Suffix → Type 0
+FaultLeft old i = LeavesFault (clauses_to_come old i).clauses (ends_to_come old i)
 
 -- past the first numbers stand the others
 pub past_first : (xs ys : List ℕ) (n m : ℕ) → n ≡ length xs + m → slice_get (xs ++ ys) n ≡ slice_get ys m
@@ -103,8 +104,8 @@ later_left read old i k n offset passed least at =
     passed.3 (n - length read) offset (grind (arith, past_first))
 
 -- so the token at fault wasn't
-pub fault_left : (read : List Clause) (old : FormulaReading) (i k : Suffix)
-    → NonePassed old read i k → LeavesFault (clauses_to_come old i).clauses (ends_to_come old i) k
+pub fault_left : (read : List Clause) (old : FormulaReading) (i k : Suffix) →
+    NonePassed old read i k → FaultLeft old i k
 fault_left read old i k passed offset at =
     later_left read old i k _ offset passed (grind (arith, length-append)) at
 
@@ -117,7 +118,8 @@ pub Reads-start : (r : FormulaReading) → r.complete ≡ 0 → Reads r r []
 Reads-start r none =
     record { count = cc; run = Along-map _ _ _ _ (Along-none _) (grind arith); header = refl }
 
-module _ (old now new : FormulaReading) (clauses : List Clause) (so_far : Reads old now clauses) (c : Clause) where
+module _ (old now new : FormulaReading) (clauses : List Clause) (so_far : Reads old now clauses)
+    (c : Clause) where
   pub Reads-clause : Gave now new (Ok true) c → new.complete ≡ now.complete + 1
       → new.header ≡ now.header → Reads old new (clauses ++ c ∷ [])
   Reads-clause gives count header = record {
@@ -129,12 +131,12 @@ module _ (old now new : FormulaReading) (clauses : List Clause) (so_far : Reads 
     header = header ∙ so_far.header;
   }
 
-  pub Reads-done : Gave now new (Ok false) c
-      → Along old.stream new.stream (λ i j. (clauses_to_come old i ≡ record { clauses = clauses; fault = None }) × NonePassed old clauses i j)
+  pub Reads-done : Gave now new (Ok false) c → Along old.stream new.stream (λ i j.
+      (clauses_to_come old i ≡ record { clauses = clauses; fault = None }) × NonePassed old clauses i j)
   Reads-done gives = search (rules, Along-then, append-nil, so_far.run)
 
-  pub Reads-fault : (f : Fault) → Gave now new (Err f) c
-      → Along old.stream new.stream (λ i j. FaultAfter clauses f (clauses_to_come old i) × NonePassed old clauses i j)
+  pub Reads-fault : (f : Fault) → Gave now new (Err f) c → Along old.stream new.stream
+      (λ i j. FaultAfter clauses f (clauses_to_come old i) × NonePassed old clauses i j)
   Reads-fault f gives = search (rules, Along-then, append-nil, so_far.run)
 
 -- what a call gave, by its answer's pattern
@@ -151,8 +153,10 @@ unread_fault i old new same offset at = search rules
 
 -- one clause more, and its size more
 total_push : (cs : List Clause) (c : Clause) → total (lrat_start (cs ++ c ∷ [])) ≡ total (lrat_start cs) + size c
-total_push cs c = ap (λ n. sum_to n (λ k. size_at (numbered (cs ++ c ∷ []) k))) (length_push cs c)
-    ∙ sum_with (numbered cs) (numbered (cs ++ c ∷ [])) (length cs) (length cs + 1) c (omega arith) (numbered_above cs) (λ k. sym (numbered_push cs c k))
+total_push cs c =
+    ap (λ n. sum_to n (λ k. size_at (numbered (cs ++ c ∷ []) k))) (length_push cs c)
+    ∙ sum_with (numbered cs) (numbered (cs ++ c ∷ [])) (length cs) (length cs + 1) c (omega arith)
+    (numbered_above cs) (λ k. sym (numbered_push cs c k))
 
 -- the next clause of a formula
 start_push : (rule : Rule) (cs : List Clause) (c : Clause) → Same (with_input (start rule cs) c) (start rule (cs ++ c ∷ []))
@@ -164,15 +168,16 @@ input_same (by_ids s) (by_ids t) c same = search (rules, arith, with_same, same_
 input_same (by_copies a x) (by_copies b y) c same = search (rules, arith, copies-cons)
 input_same s t c same = absurd same
 
-pub loaded_more : (rule : Rule) (old new : View) (cs : List Clause) (c : Clause) → IsLoaded rule old cs
-    → Same new.state (with_input old.state c)
-    → new.is_verified ≡ (old.is_verified || is_empty c) → new.peak ≡ max old.peak (sum_of new.state)
-    → new.has_stepped ≡ false → new.is_ended ≡ false → new.has_lost_literal ≡ old.has_lost_literal → old.room ≤ new.room + 1 → IsLoaded rule new (cs ++ c ∷ [])
+pub loaded_more : (rule : Rule) (old new : View) (cs : List Clause) (c : Clause) → IsLoaded rule old cs → Same new.state (with_input old.state c) →
+    new.is_verified ≡ (old.is_verified || is_empty c) → new.peak ≡ max old.peak (sum_of new.state)
+    → new.has_stepped ≡ false → new.is_ended ≡ false → new.has_lost_literal ≡ old.has_lost_literal
+    → old.room ≤ new.room + 1 → IsLoaded rule new (cs ++ c ∷ [])
 loaded_more rule old new cs c l state verified peak unstepped sound reason room =
     search (rules, same, list_any-append, sum_same, total_push, sum_by-append, length_push)
   where
     same : Same new.state (start rule (cs ++ c ∷ []))
-    same = same_trans _ _ _ state (same_trans _ _ _ (input_same _ _ c l.state) (start_push rule cs c))
+    same = same_trans _ _ _ state
+        (same_trans _ _ _ (input_same _ _ c l.state) (start_push rule cs c))
 
 -- a session that is new
 pub unused : (rule : Rule) (s : SessionState) → s ≡ fresh rule → IsLoaded (rule_of (view_of s).state) (view_of s) []
@@ -194,73 +199,79 @@ pub record Loading (rule : Rule) (old now : FormulaReading) (s : View) : Type 0 
   pub reads : Reads old now clauses
   pub loaded : IsLoaded rule s clauses
 
+-- what was loaded of the clauses that were to come, and that the token at fault wasn't passed
+abbrev pub Loaded : Rule → FormulaReading → Stream → View → Result (Unit {0}) Fault → Type 0
+Loaded rule r last s result =
+    Along r.stream last (λ i j. LoadsBody rule s result (clauses_to_come r i) × FaultLeft r i j)
+
 pub loading_start : (rule : Rule) (r : FormulaReading) (s : View) → IsLoaded rule s [] → r.complete ≡ 0 → Loading rule r r s
 loading_start rule r s loaded none = search (rules, Reads-start)
 
-module _ (rule : Rule) (old now new : FormulaReading) (s : View) (so_far : Loading rule old now s) where
-  pub Loading-clause : (t : View) (c : Clause) → Gave now new (Ok true) c
-      → IsLoaded rule t (so_far.clauses ++ c ∷ []) → new.complete ≡ now.complete + 1 → new.header ≡ now.header → Loading rule old new t
-  Loading-clause t c gives loaded count header = search (rules, loaded, Reads-clause)
+module _ (rule : Rule) (old now new : FormulaReading) (s : View)
+    (so_far : Loading rule old now s) (t : View) (c : Clause) where
+  pub Loading-clause : Gave now new (Ok true) c → IsLoaded rule t (so_far.clauses ++ c ∷ []) →
+      new.complete ≡ now.complete + 1 → new.header ≡ now.header → Loading rule old new t
+  Loading-clause gives loaded count header = search (rules, loaded, Reads-clause)
 
-  -- what was loaded of the clauses that were to come, and that the token at fault wasn't passed
-  abbrev pub Body-loaded : View → Result (Unit {0}) Fault → Suffix → Suffix → Type 0
-  Body-loaded t result i j = LoadsBody rule t result (clauses_to_come old i) × LeavesFault (clauses_to_come old i).clauses (ends_to_come old i) j
-
-  pub Loading-done : (c : Clause) → Gave now new (Ok false) c
-      → Along old.stream new.stream (Body-loaded s (Ok tt))
-  Loading-done c gives = Along-map _ _ _ _ (Reads-done old now new so_far.clauses so_far.reads c gives)
+  pub Loading-done : Gave now new (Ok false) c → Loaded rule old new.stream s (Ok tt)
+  Loading-done gives =
+      Along-map _ _ _ _ (Reads-done old now new so_far.clauses so_far.reads c gives)
       (λ i j m e. search (rules, e.0, so_far.loaded, fault_left))
 
-  pub Loading-fault : (t : View) (c : Clause) (f : Fault) (result : Result (Unit {0}) Fault)
-      → result ≡ Err f → Gave now new (Err f) c → Along old.stream new.stream (Body-loaded t result)
-  Loading-fault t c f result is gives =
-      rw is (Along-map _ _ _ _ (Reads-fault old now new so_far.clauses so_far.reads c f gives) (λ i j m e. search (rules, by, fault_left)))
+  pub Loading-fault : (f : Fault) (result : Result (Unit {0}) Fault) → result ≡ Err f →
+      Gave now new (Err f) c → Loaded rule old new.stream t result
+  Loading-fault f result is gives =
+      rw is (Along-map _ _ _ _ (Reads-fault old now new so_far.clauses so_far.reads c f gives)
+      (λ i j m e. search (rules, by, fault_left)))
     where
       by : (f : Fault) (b : Body) → FaultAfter so_far.clauses f b → LoadsBody rule t (Err f) b
       by f b h = search rules
 
-  pub Loading-refused : (t : View) (c : Clause) → Gave now new (Ok true) c
-      → Along old.stream new.stream (Body-loaded t (Err OutOfMemory))
-  Loading-refused t c gives =
-      Along-then _ _ _ _ _ _ so_far.reads.run gives (λ i j k m p q. (tt, fault_left so_far.clauses old i k (_, _, p, q.1.1)))
+  pub Loading-refused : Gave now new (Ok true) c → Loaded rule old new.stream t (Err OutOfMemory)
+  Loading-refused gives = Along-then _ _ _ _ _ _ so_far.reads.run gives
+      (λ i j k m p q. (tt, fault_left so_far.clauses old i k (_, _, p, q.1.1)))
 
 -- ---- A whole formula, loaded
 
+-- the header has a fault, which was not passed, or it has none
+abbrev pub Unopened : Stream → Stream → Fault → Type 0
+Unopened source last f = Along source last
+    (λ i j. (formula_at source.place i ≡ unopened f) × PassesNoEnd (ends_at source.place i) j)
+
+abbrev pub Opens : Stream → FormulaReading → Type 0
+Opens source r = Along source r.stream (λ i j.
+    (formula_at source.place i ≡ opened r.header (clauses_to_come r j))
+    × (ends_at source.place i ≡ ends_to_come r j))
+
 abbrev pub AllLoads : Rule → View → Reader → Reader → Result Header Fault → Type 0
-AllLoads rule s left new result = OfSeen left new (λ i. Loads rule s result (formula_of i) × ReadsNoFurtherThanFault i left new)
+AllLoads rule s left new result = OfSeen left new
+    (λ i. Loads rule s result (formula_of i) × ReadsNoFurtherThanFault i left new)
 
 -- nothing was read
 pub loads_refused : (rule : Rule) (s : View) (left new : Reader) (result : Result Header Fault) → left ≡ new → result ≡ Err OutOfMemory → AllLoads rule s left new result
 loads_refused rule s left new result same is = search (rules, arith, seen_nothing)
 
-module _ (rule : Rule) (s : View) (left : Reader) (borrows : List ℕ) (source : Stream) (is : source ≡ unread_stream left borrows) where
-  -- what was loaded of a formula from a place on, and that the token at fault wasn't passed
-  abbrev Loaded : Result Header Fault → Place → Suffix → Suffix → Type 0
-  Loaded result p i j = Loads rule s result (formula_at p i) × LeavesFault (formula_at p i).clauses (ends_at p i) j
+module _ (rule : Rule) (s : View) (left : Reader) (borrows : List ℕ) (source : Stream)
+    (is : source ≡ unread_stream left borrows) (last : Stream) (new : Reader)
+    (kept : new ≡ last.reader) where
+  all_loads : (result : Result Header Fault) → Along source last (λ i j. Loads rule s result
+      (formula_at source.place i) × LeavesFault (formula_at source.place i).clauses
+      (ends_at source.place i) j) → AllLoads rule s left new result
+  all_loads result run = seen_map left new _ _ (seen_within left borrows source last new is kept
+      (λ p i j. Loads rule s result (formula_at p i) × LeavesFault (formula_at p i).clauses
+      (ends_at p i) j) run) (grind arith)
 
-  all_loads : (last : Stream) (new : Reader) (result : Result Header Fault) → new ≡ last.reader
-      → Along source last (Loaded result source.place) → AllLoads rule s left new result
-  all_loads last new result kept run = seen_map left new _
-      (λ i. Loads rule s result (formula_of i) × ReadsNoFurtherThanFault i left new)
-      (seen_within (Loaded result) left borrows source last new is kept run) (grind arith)
+  pub loads_fault : (f : Fault) → Unopened source last f → AllLoads rule s left new (Err f)
+  loads_fault f run = all_loads (Err f) (grind (arith, Along-map))
 
-  pub loads_fault : (f : Fault) (last : Stream) (new : Reader) → new ≡ last.reader
-      → Along source last (λ i j. (formula_at source.place i ≡ unopened f) × PassesNoEnd (ends_at source.place i) j) → AllLoads rule s left new (Err f)
-  loads_fault f last new kept run = all_loads last new (Err f) kept (grind (arith, Along-map))
+  module _ (r : FormulaReading) (opens : Opens source r) where
+    pub loads_body : (h : Header) → h ≡ r.header → Loaded rule r last s (Ok tt) →
+        AllLoads rule s left new (Ok h)
+    loads_body h same body = all_loads (Ok h) (search (rules, Along-then, same))
 
-  module _ (r : FormulaReading) (last : Stream) (new : Reader) (kept : new ≡ last.reader)
-      (opens : Along source r.stream (λ i j. (formula_at source.place i ≡ opened r.header (clauses_to_come r j)) × (ends_at source.place i ≡ ends_to_come r j))) where
-    -- what was loaded of the clauses that were to come
-    abbrev Rest : Result (Unit {0}) Fault → Type 0
-    Rest result = Along r.stream last (λ i j. LoadsBody rule s result (clauses_to_come r i) × LeavesFault (clauses_to_come r i).clauses (ends_to_come r i) j)
-
-    pub loads_body : (h : Header) → h ≡ r.header → Rest (Ok tt) → AllLoads rule s left new (Ok h)
-    loads_body h same body = all_loads last new (Ok h) kept (search (rules, Along-then, same))
-
-    pub loads_body_fault : (f : Fault) (result : Result Header Fault) → result ≡ Err f
-        → Rest (Err f) → AllLoads rule s left new result
-    loads_body_fault f result is body =
-        rw is (all_loads last new (Err f) kept (grind (arith, Along-then)))
+    pub loads_body_fault : (f : Fault) (result : Result Header Fault) → result ≡ Err f →
+        Loaded rule r last s (Err f) → AllLoads rule s left new result
+    loads_body_fault f result is body = rw is (all_loads (Err f) (grind (arith, Along-then)))
 
 -- ---- What is left of a text ends as the text does
 

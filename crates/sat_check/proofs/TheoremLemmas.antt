@@ -1,41 +1,35 @@
 -- The theorem, by the report and the grammars, and a run by DRAT's own proof system.
-use Rattle.cnf_base.proofs.SeenLemmas.{seen_is_some}
+use Rattle.{cnf_base.proofs.SeenLemmas.seen_is_some, proofs.proofs.LratGrammar.lrat_both_ways}
 use Rattle.cnf_base.proofs.SetLemmas.{all_each, any_from, any_some, each_all}
-use Rattle.cnf_base.specs.Literals.{Clause, Literal, has}
-use Rattle.cnf_base.specs.{Printing.input_of, Seen.IsSeen, Seen.OfBothSeen, Seen.Seen, Stream.Input}
-use Rattle.cnf_base.specs.{Stream.Reader, Stream.tells_failure, declared.fault.Fault.Fault}
-use Rattle.cnf_base.specs.declared.input.Ending.TheVariants.{End, Failed}
-use Rattle.dimacs.{proofs.FormulaGrammar.formula_grammar, specs.Claim.claim_of}
-use Rattle.dimacs.specs.{Formula.Formula, Formula.formula_of, declared.header.Header.Header}
-use Rattle.proofs.proofs.BinaryGrammar.{binary_both_ways}
-use Rattle.proofs.proofs.{DratGrammar.drat_both_ways, LratGrammar.lrat_both_ways}
-use Rattle.proofs.specs.{Grammar.IsLratText, Lrat.lrat_steps, Reading.Proof, Steps.Step}
-use Rattle.report.specs.declared.status.Status.{Status}
+use Rattle.cnf_base.specs.{Literals.{Clause, Literal, has}, Stream.{Input, Reader, tells_failure}}
+use Rattle.cnf_base.specs.{Printing.input_of, Seen.{IsSeen, OfBothSeen, Seen}}
+use Rattle.cnf_base.specs.declared.{fault.Fault.Fault, input.Ending.TheVariants.{End, Failed}}
+use Rattle.dimacs.{proofs.FormulaGrammar.formula_grammar, specs.declared.header.Header.Header}
+use Rattle.{dimacs.specs.Claim.claim_of, proofs.specs.{Reading.Proof, Steps.Step}}
+use Rattle.{dimacs.specs.Formula.Formula, sat_check.specs.Theorem.{ShowsUnsatisfiable, StepsVerify}}
+use Rattle.{dimacs.specs.Formula.formula_of, theory.specs.Losses.{HasLost, LostBySteps, LostInDrat}}
+use Rattle.{proofs.proofs.BinaryGrammar.binary_both_ways, std.proofs.lemmas.Bool.false_from_ne_true}
+use Rattle.{proofs.proofs.DratGrammar.drat_both_ways, report.specs.declared.status.Status.Status}
+use Rattle.{proofs.specs.{Grammar.IsLratText, Lrat.lrat_steps}, std.specs.Prelude.{IsFalse, ◌↔◌}}
+use Rattle.sat_check.proofs.FormulaLemmas.{claim_consistent, claim_ends, claim_text, formula_ends}
+use Rattle.{sat_check.proofs.FormulaLemmas.{formula_header, has_reverse}, std.specs.List.list_all}
+use Rattle.sat_check.proofs.ModelLemmas.{Made, assigned, listed_holds, verified_satisfied}
+use Rattle.sat_check.proofs.OutcomeLemmas.{Held, written_model, written_verified}
 use Rattle.sat_check.proofs.ReportLemmas.{report_verified, verifies_sound}
-use Rattle.sat_check.proofs.FormulaLemmas.{claim_consistent, claim_ends, claim_text}
-use Rattle.sat_check.proofs.ModelLemmas.{Made, assigned}
-use Rattle.sat_check.proofs.FormulaLemmas.{formula_ends, formula_header, has_reverse}
-use Rattle.sat_check.proofs.ModelLemmas.{listed_holds}
-use Rattle.sat_check.proofs.{ModelLemmas.verified_satisfied, OutcomeLemmas.written_model}
-use Rattle.sat_check.{proofs.OutcomeLemmas.written_verified, specs.Code.Checking.peak_of}
-use Rattle.sat_check.specs.ModelReport.{Satisfies, meets, model_report}
-use Rattle.sat_check.specs.Reach.{ReadsNoFurther, TellsWhy}
+use Rattle.sat_check.specs.{Code.Checking.peak_of, ModelReport.{Satisfies, meets, model_report}}
+use Rattle.sat_check.specs.{Reach.{ReadsNoFurther, TellsWhy}, Runs.{RunsDrat, RunsLrat, RunsPlaced}}
 use Rattle.sat_check.specs.Report.{ChecksProof, Outcome, Report, Reports, ReportsFormula, Verifies}
-use Rattle.sat_check.specs.{Report.bare_steps, Report.drat_proof, Report.peak_by, Runs.IsDratProof}
-use Rattle.sat_check.specs.{Runs.IsVerifiedBy, Runs.Runs, Runs.RunsPlaced, Theorem.IsAnswered}
-use Rattle.sat_check.specs.Theorem.{IsFormulaText, IsSatisfied, ShowsSatisfied, ShowsUnsatisfiable}
-use Rattle.sat_check.specs.{Theorem.StepsVerify, declared.checked.Checked.Checked}
-use Rattle.std.proofs.Common.{Bool, List, None, Option, Some, ap, append-nil, arith}
-use Rattle.std.proofs.Common.{codes, false, refl, reverse, rules, slice_get, true, ℕ, ◌∷◌, ◌≡◌}
-use Rattle.std.proofs.lemmas.Bool.{false_from_ne_true}
+use Rattle.sat_check.specs.Report.{bare_steps, drat_proof, peak_by, rules_of}
+use Rattle.sat_check.specs.Runs.{DratStepsVerify, IsDratProof, IsVerifiedBy, LratStepsVerify, Runs}
+use Rattle.sat_check.specs.Theorem.{IsAnswered, IsFormulaText, IsSatisfied, ShowsSatisfied}
+use Rattle.sat_check.specs.declared.{checked.Checked.Checked, options.DratOptions.DratOptions}
+use Rattle.std.proofs.Common.{Bool, List, None, Option, Some, ap, append-nil, arith, codes, false}
+use Rattle.std.proofs.Common.{refl, reverse, rules, slice_get, true, ℕ, ◌∷◌, ◌≡◌}
 use Rattle.std.proofs.lemmas.List.Sums.{AllPass-from_list_all, list_all-from_AllPass}
 use Rattle.std.proofs.lemmas.Option.{get_or_from_slice_get, slice_get-get_or, slice_get_within}
-use Rattle.std.specs.{List.list_all, Prelude.IsFalse, Prelude.◌↔◌}
-use Rattle.theory.specs.{Drat.after_drat, Drat.drat_step, Losses.HasLost, Losses.LostBySteps}
-use Rattle.theory.specs.{Losses.LostInDrat, Models.Assignment, Models.HasModel, Models.holds}
-use Rattle.theory.specs.{Models.satisfies, Rules.Rule, Rules.after, Rules.by_copies, Rules.drat}
-use Rattle.theory.specs.Systems.{ProofSystem, drat_system}
-use Rattle.theory.specs.Verdicts.{Ending, Ends, EndsBy, VerdictBy, system_of}
+use Rattle.theory.specs.{Drat.{after_drat, drat_step}, Rules.{Rule, after, by_copies, drat, lrat}}
+use Rattle.theory.specs.{Models.{Assignment, HasModel, holds, satisfies}, Systems.ProofSystem}
+use Rattle.theory.specs.{Systems.drat_system, Verdicts.{Ending, Ends, EndsBy, VerdictBy, system_of}}
 use Rattle.theory.specs.declared.{accepted.Accepted.Accepted, drat_rules.DratRules.DratRules}
 
 -- ---- What was seen of a reader that has these bytes
@@ -81,20 +75,21 @@ no_model_refuted clauses none v =
 -- ---- Proofs
 
 module _ (rule : Rule) (trace : Bool) (steps : Input → Proof)
-    (formula formula_new proof proof_new : Reader) (old new : Option (List ℕ)) (status : Status)
-    (Fact : Input → Input → Type 0) (both : OfBothSeen formula formula_new proof proof_new Fact)
-    (told : (i j : Input) → Fact i j → Reports (system_of rule) trace i (steps j) old new status) where
+    (formula formula_new proof proof_new : Reader) (old new : Held) (status : Status)
+    (both : OfBothSeen formula formula_new proof proof_new
+    (λ i j. Reports (system_of rule) trace i (steps j) old new status)) where
   -- a positive answer is that of a proof which verifies the formula
   verifies : IsAnswered (codes "s VERIFIED") status old new → (i j : Input) → IsSeen both.first i
       → IsSeen both.second j → Verifies (system_of rule) (formula_of i) (steps j)
-  verifies answer i j seen also = let x = told i j (both.fact i j seen also) in
-      report_verified rule trace i (steps j) x.report x.reports (grind (arith, written_verified))
+  verifies answer i j seen also = let x = both.fact i j seen also in
+      report_verified rule trace _ _ x.report x.reports (grind (arith, written_verified))
 
   -- so the formula was read whole
   whole_formula : IsAnswered (codes "s VERIFIED") status old new → (bytes : List ℕ) →
       formula.left ≡ Some bytes → IsSeen both.first (input_of bytes)
   whole_formula answer bytes holds = let j = seen_is_some proof proof_new both.second in
-      search (rules, seen_whole, formula_ends, verifies)
+      seen_whole _ _ both.first bytes holds
+      (λ i seen. formula_ends i (verifies answer i j.0 seen j.1).whole)
 
   pub shows_unsatisfiable : ShowsUnsatisfiable formula.left status old new
   shows_unsatisfiable bytes holds answer = let j = seen_is_some proof proof_new both.second in
@@ -104,14 +99,12 @@ module _ (rule : Rule) (trace : Bool) (steps : Input → Proof)
         header = text.0;
         clauses = (formula_of (input_of bytes)).clauses;
         text = text.1;
-        refuted = no_model_refuted _ (verifies_sound rule _ _ v);
+        refuted = no_model_refuted _ (verifies_sound rule trace _ _ v);
       }
 
-  pub shows_steps : (IsText : List ℕ → List Step → Type 0) →
-      ((bytes : List ℕ) (ss : List Step) → IsText bytes ss →
-      bare_steps (steps (input_of bytes)) ≡ ss)
-      → StepsVerify IsText (IsVerifiedBy rule) formula.left proof.left (tells_failure proof_new)
-      status old new
+  pub shows_steps : (IsText : List ℕ → List Step → Type 0) → ((bytes : List ℕ) (ss : List Step) →
+      IsText bytes ss → bare_steps (steps (input_of bytes)) ≡ ss) → StepsVerify IsText
+      (IsVerifiedBy rule) formula.left proof.left (tells_failure proof_new) status old new
   shows_steps IsText is_read bytes proof_bytes h clauses ss holds also_holds quiet text steps_text
       answer = let v = verifies answer (input_of bytes) (input_of proof_bytes)
       (whole_formula answer bytes holds) (search rules) in (
@@ -120,12 +113,12 @@ module _ (rule : Rule) (trace : Bool) (steps : Input → Proof)
       )
 
 -- the text of steps is read as those
-pub drat_read : (binary : Bool) (bytes : List ℕ) (ss : List Step) → IsDratProof binary bytes ss →
+drat_read : (binary : Bool) (bytes : List ℕ) (ss : List Step) → IsDratProof binary bytes ss →
     bare_steps (drat_proof binary (input_of bytes)) ≡ ss
 drat_read true bytes ss text = (binary_both_ways.written_is_read bytes ss text).all
 drat_read false bytes ss text = (drat_both_ways.written_is_read bytes ss text).all
 
-pub lrat_read : (bytes : List ℕ) (ss : List Step) → IsLratText bytes ss →
+lrat_read : (bytes : List ℕ) (ss : List Step) → IsLratText bytes ss →
     bare_steps (lrat_steps (input_of bytes)) ≡ ss
 lrat_read bytes ss text = (lrat_both_ways.written_is_read bytes ss text).all
 
@@ -153,8 +146,7 @@ satisfied_by bytes output_bytes s whole = let text = formula_text bytes whole in
       each = grind (arith, list_all-from_AllPass, slice_get-get_or, met_true);
     }
 
-module _ (formula formula_new output output_new : Reader) (old new : Option (List ℕ))
-    (status : Status)
+module _ (formula formula_new output output_new : Reader) (old new : Held) (status : Status)
     (Fact : Input → Input → Type 0) (both : OfBothSeen formula formula_new output output_new Fact)
     (told : (i j : Input) → Fact i j → Outcome status old new (model_report i j)) where
   -- a positive answer is that of a claim which satisfies the formula
@@ -175,99 +167,135 @@ module _ (formula formula_new output output_new : Reader) (old new : Option (Lis
       satisfied_by bytes output_bytes said.0 said.1
 
 -- the same of what the lines hold, where the writer holds it
-pub lines_satisfied : (formula formula_new output output_new : Reader)
-    (Told : Input → Input → Type 0) (status : Status) (old new first last : Option (List ℕ)) →
-    old ≡ first → new ≡ last → OfBothSeen formula formula_new output output_new
-    (Made formula formula_new Told status old new) →
-    ShowsSatisfied formula.left output.left status first last
-lines_satisfied formula formula_new output output_new Told status old new first last before after
-    both = rw (← after, ← before) (shows_satisfied _ _ _ _ old new status _ both (λ i j x. x.0))
+pub lines_satisfied : (formula formula_new output output_new : Reader) (checked : Checked)
+    (old new first last : Held) → old ≡ first → new ≡ last → OfBothSeen formula formula_new output
+    output_new (Made formula formula_new checked old new) →
+    ShowsSatisfied formula.left output.left checked.status first last
+lines_satisfied formula formula_new output output_new checked old new first last before after both =
+    rw (← after, ← before) (shows_satisfied _ _ _ _ old new _ _ both (λ i j x. x.0))
 
 -- ---- Runs of which less is said
 
 -- where a fact is true of a run, so is what it implies
-pub weakened : (status : Status) (P Q : Input → Input → Type 0)
-    (formula formula_new second second_new : Reader) (had_failed has_failed is_flushed : Bool)
-    → Runs formula formula_new second second_new had_failed has_failed is_flushed status P
-    → ((i j : Input) → P i j → Q i j)
-    → Runs formula formula_new second second_new had_failed has_failed is_flushed status Q
-weakened status P Q formula formula_new second second_new had_failed has_failed is_flushed run
-    implies =
-    let checks : OfBothSeen formula formula_new second second_new Q =
-    record { first = run.checks.first; second = run.checks.second; fact = search rules } in
-    search rules
+pub weakened : {status : Status} {P Q : Input → Input → Type 0}
+    {formula formula_new second second_new : Reader} {had_failed has_failed is_flushed : Bool} →
+    Runs formula formula_new second second_new had_failed has_failed is_flushed status P →
+    ((i j : Input) → P i j → Q i j) →
+    Runs formula formula_new second second_new had_failed has_failed is_flushed status Q
+weakened run implies = record {
+  checks = record { first = run.checks.first; second = run.checks.second; fact = search rules };
+  read_failed = run.read_failed;
+  write_failed = run.write_failed;
+  no_failure = run.no_failure;
+  flushed = run.flushed;
+  gave_up = run.gave_up;
+}
 
 -- ---- A run by DRAT's own proof system is one by the rule, and the other way round
 
 -- two systems that give the same verdicts and the same peaks
-pub record Alike {S T : Type 0} (one : ProofSystem S) (other : ProofSystem T) : Type 0 where
-  pub to : (formula : List Clause) (steps : List Step) (words : List Accepted) (ending : Ending)
-      → VerdictBy one formula steps words ending → VerdictBy other formula steps words ending
-  pub back : (formula : List Clause) (steps : List Step) (words : List Accepted) (ending : Ending)
-      → VerdictBy other formula steps words ending → VerdictBy one formula steps words ending
-  pub peak : (formula : List Clause) (steps : List Step) (words : List Accepted)
-      → peak_by one.sum one.next (one.first formula) steps words ≡ peak_by other.sum other.next (other.first formula) steps words
+record Alike {S T : Type 0} (one : ProofSystem S) (other : ProofSystem T) : Type 0 where
+  same : (formula : List Clause) (steps : List Step) (words : List Accepted) (ending : Ending) →
+      VerdictBy one formula steps words ending ↔ VerdictBy other formula steps words ending
+  peak : (formula : List Clause) (steps : List Step) (words : List Accepted) →
+      peak_by one.sum one.next (one.first formula) steps words ≡
+      peak_by other.sum other.next (other.first formula) steps words
 
-pub turned : {S T : Type 0} (one : ProofSystem S) (other : ProofSystem T) → Alike one other → Alike other one
+turned : {S T : Type 0} (one : ProofSystem S) (other : ProofSystem T) → Alike one other → Alike other one
 turned one other alike = search rules
 
 -- ---- What is said by one of them is said by the other
 
-module _ {S T : Type 0} (one : ProofSystem S) (other : ProofSystem T) (alike : Alike one other) where
-  formula_by : (trace : Bool) (header : Option Header) (clauses : List Clause) (fault : Option Fault) (p : Proof) (r : Report)
-      → ReportsFormula one trace header clauses fault p r → ReportsFormula other trace header clauses fault p r
+module _ {S T : Type 0} (one : ProofSystem S) (other : ProofSystem T)
+    (alike : Alike one other) where
+  formula_by : (trace : Bool) (header : Option Header) (clauses : List Clause)
+      (fault : Option Fault) (p : Proof) (r : Report) → ReportsFormula one trace header clauses
+      fault p r → ReportsFormula other trace header clauses fault p r
   formula_by trace header clauses fault p r h = search rules
 
-  pub reports_by : (trace : Bool) (i : Input) (p : Proof) (old new : Option (List ℕ)) (status : Status) → Reports one trace i p old new status → Reports other trace i p old new status
-  reports_by trace i p old new status x = search (rules, formula_by)
+  module _ (trace : Bool) (i : Input) (p : Proof) (old new : Held) (status : Status) where
+    reports_by : Reports one trace i p old new status → Reports other trace i p old new status
+    reports_by x = search (rules, formula_by)
 
-  pub proof_by : (trace : Bool) (i : Input) (p : Proof) (old new : Option (List ℕ)) (status : Status) → ChecksProof one trace i p old new status → ChecksProof other trace i p old new status
-  proof_by trace i p old new status x = search (rules, reports_by)
+    proof_by : ChecksProof one trace i p old new status → ChecksProof other trace i p old new status
+    proof_by x = search (rules, reports_by)
 
-  pub reach_by : (f : Formula) (p : Proof) (old new : Reader) → ReadsNoFurther one f p old new → ReadsNoFurther other f p old new
+  reach_by : (f : Formula) (p : Proof) (old new : Reader) → ReadsNoFurther one f p old new → ReadsNoFurther other f p old new
   reach_by f p old new x = search rules
 
   -- where the same losses are said in two ways
-  pub why_by : (One Other : List Clause → List Step → List Accepted → Type 0) → ((formula : List Clause) (steps : List Step) (words : List Accepted) → One formula steps words ↔ Other formula steps words)
-      → (fault : Option Fault) (clauses : List Clause) (p : Proof) (checked : Checked) → TellsWhy one One fault clauses p checked → TellsWhy other Other fault clauses p checked
+  why_by : (One Other : List Clause → List Step → List Accepted → Type 0) → ((formula : List Clause)
+      (steps : List Step) (words : List Accepted) → One formula steps words ↔ Other formula steps
+      words) → (fault : Option Fault) (clauses : List Clause) (p : Proof) (checked : Checked) →
+      TellsWhy one One fault clauses p checked → TellsWhy other Other fault clauses p checked
   why_by One Other losses fault clauses p checked x = search rules
 
 -- ---- DRAT, as a rule and by itself
 
 module _ (rules : DratRules) where
-  abbrev EndsHere : List Clause → List Step → List Accepted → Ending → Type 0
-  EndsHere live steps words ending = EndsBy (drat_system rules).MayAnswer (drat_system rules).next live steps words ending
+  abbrev own : ProofSystem (List Clause)
+  own = drat_system rules
 
-  ends_to : (live : List Clause) (steps : List Step) (words : List Accepted) (ending : Ending) → Ends (by_copies rules live) steps words ending → EndsHere live steps words ending
-  ends_to live (s ∷ ss) (w ∷ ws) ending e =
-      grind (arith, (ends_to (after_drat live (drat_step rules s) w) ss ws ending))
-  ends_to live steps words ending e = e
+  ends_both : (live : List Clause) (steps : List Step) (words : List Accepted) (ending : Ending) →
+      Ends (by_copies rules live) steps words ending ↔
+      EndsBy own.MayAnswer own.next live steps words ending
+  ends_both live (s ∷ ss) (w ∷ ws) ending =
+      grind (arith, (ends_both (after_drat live (drat_step rules s) w) ss ws ending))
+  ends_both live steps words ending = (λ x. x, λ x. x)
 
-  ends_back : (live : List Clause) (steps : List Step) (words : List Accepted) (ending : Ending) → EndsHere live steps words ending → Ends (by_copies rules live) steps words ending
-  ends_back live (s ∷ ss) (w ∷ ws) ending e =
-      grind (arith, (ends_back (after_drat live (drat_step rules s) w) ss ws ending))
-  ends_back live steps words ending e = e
-
-  peaks : (live : List Clause) (steps : List Step) (words : List Accepted)
-      → peak_of (by_copies rules live) steps words ≡ peak_by (drat_system rules).sum (drat_system rules).next live steps words
+  peaks : (live : List Clause) (steps : List Step) (words : List Accepted) →
+      peak_of (by_copies rules live) steps words ≡ peak_by own.sum own.next live steps words
   peaks live (s ∷ ss) (w ∷ ws) = cc (peaks (after_drat live (drat_step rules s) w) ss ws)
   peaks live steps words = refl
 
-  pub losses : (live : List Clause) (steps : List Step) (words : List Accepted) → HasLost (by_copies rules live) steps words ↔ LostInDrat rules live steps words
+  losses : (live : List Clause) (steps : List Step) (words : List Accepted) → HasLost (by_copies rules live) steps words ↔ LostInDrat rules live steps words
   losses live (s ∷ ss) (w ∷ ws) =
       grind (arith, (losses (after_drat live (drat_step rules s) w) ss ws))
   losses live steps words = (λ x. x, λ x. x)
 
-  pub drat_alike : Alike (system_of (drat rules)) (drat_system rules)
-  drat_alike = grind (arith, ends_to, ends_back, peaks)
+  drat_alike : Alike (system_of (drat rules)) own
+  drat_alike = grind (arith, ends_both, peaks)
 
 -- what was promised of a run by the rule is promised by DRAT's own system
-pub drat_placed : (rules : DratRules) (trace : Bool) (steps : Input → Proof) (formula formula_new proof proof_new : Reader) (old new : Option (List ℕ)) (had_failed has_failed is_flushed : Bool) (checked : Checked)
-    → RunsPlaced (system_of (drat rules)) (LostBySteps (drat rules)) trace steps formula formula_new proof proof_new old new had_failed has_failed is_flushed checked
-    → RunsPlaced (drat_system rules) (LostInDrat rules) trace steps formula formula_new proof proof_new old new had_failed has_failed is_flushed checked
-drat_placed rules trace steps formula formula_new proof proof_new old new had_failed has_failed is_flushed checked runs =
-    weakened _ _ _ _ _ _ _ _ _ _ runs (λ i j x. search (proof_by, reach_by, why_by, drat_alike, losses))
+pub drat_placed : (options : DratOptions) {formula formula_new proof proof_new : Reader}
+    {old new : Held} {had_failed has_failed is_flushed : Bool} {checked : Checked} →
+    RunsPlaced (system_of (drat (rules_of options))) (LostBySteps (drat (rules_of options)))
+    options.trace (drat_proof options.binary) formula formula_new proof proof_new old new
+    had_failed has_failed is_flushed checked → RunsDrat options formula formula_new proof proof_new old new had_failed has_failed is_flushed checked
+drat_placed options runs =
+    weakened runs (λ i j x. search (proof_by, reach_by, why_by, drat_alike, losses))
 
--- and so is its report by the rule
-pub drat_reported : (rules : DratRules) (trace : Bool) (i : Input) (p : Proof) (old new : Option (List ℕ)) (status : Status) → Reports (drat_system rules) trace i p old new status → Reports (system_of (drat rules)) trace i p old new status
-drat_reported rules = search (rules, reports_by, turned, drat_alike)
+-- ---- What a run shows by its report
+
+module _ (options : DratOptions) (formula formula_new proof proof_new : Reader) (old new : Held)
+    (had_failed has_failed is_flushed : Bool) (status : Status)
+    (run : Runs formula formula_new proof proof_new had_failed has_failed is_flushed status (λ i j.
+    Reports (drat_system (rules_of options)) options.trace i (drat_proof options.binary j) old new
+    status)) where
+  abbrev rule : Rule
+  rule = drat (rules_of options)
+
+  by_rule : OfBothSeen formula formula_new proof proof_new (λ i j.
+      Reports (system_of rule) options.trace i (drat_proof options.binary j) old new status)
+  by_rule = (weakened run (λ i j x. search (rules, reports_by, turned, drat_alike))).checks
+
+  pub drat_unsatisfiable : ShowsUnsatisfiable formula.left status old new
+  drat_unsatisfiable = shows_unsatisfiable rule _ _ _ _ _ _ _ _ _ by_rule
+
+  pub drat_steps_verify : DratStepsVerify options formula proof proof_new status old new
+  drat_steps_verify = shows_steps rule _ (drat_proof options.binary) _ _ _ _ _ _ _ by_rule
+      (IsDratProof options.binary) (drat_read options.binary)
+
+module _ (trace : Bool) (formula formula_new proof proof_new : Reader) (old new : Held)
+    (had_failed has_failed is_flushed : Bool) (checked : Checked) (run : RunsLrat trace formula
+    formula_new proof proof_new old new had_failed has_failed is_flushed checked) where
+  reported : OfBothSeen formula formula_new proof proof_new
+      (λ i j. Reports (system_of lrat) trace i (lrat_steps j) old new checked.status)
+  reported = (weakened run (λ i j x. x.0.reports)).checks
+
+  pub lrat_unsatisfiable : ShowsUnsatisfiable formula.left checked.status old new
+  lrat_unsatisfiable = shows_unsatisfiable lrat trace lrat_steps _ _ _ _ _ _ _ reported
+
+  pub lrat_steps_verify : LratStepsVerify formula proof proof_new checked.status old new
+  lrat_steps_verify =
+      shows_steps lrat trace lrat_steps _ _ _ _ _ _ _ reported IsLratText lrat_read

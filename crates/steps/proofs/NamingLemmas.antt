@@ -1,31 +1,27 @@
 -- A step under numbers is the step under the names that were given.
-use Rattle.cnf_base.proofs.SetLemmas.{all_each, has_head, has_tail}
-use Rattle.cnf_base.specs.Literals.{Clause, Literal, has, variable}
+use Rattle.{cnf_base.proofs.SetLemmas.{all_each, has_head, has_tail}, std.specs.Ordering.nat_cmp}
+use Rattle.{cnf_base.specs.Literals.{Clause, Literal, has, variable}, proofs.specs.Steps.Step}
 use Rattle.numbering.proofs.NameLemmas.{has_new_all, kept_has_all, kept_number_all}
-use Rattle.numbering.proofs.NameLemmas.{next_is_not_given, told}
-use Rattle.numbering.specs.Names.{name_in, number_in, with_names}
-use Rattle.proofs.specs.Steps.{Step}
+use Rattle.{numbering.proofs.NameLemmas.{next_is_not_given, told}, std.specs.List.list_all}
+use Rattle.{numbering.specs.Names.{name_in, number_in, with_names}, std.specs.Prelude.{nat_abs, ⊤}}
 use Rattle.std.proofs.Common.{Err, IfOk, IsTrue, List, None, Ok, OnOk, Option, Some, [], ap, arith}
 use Rattle.std.proofs.Common.{false, inl, inr, is_none, map, option_map, refl, rules, slice_get}
 use Rattle.std.proofs.Common.{subst, suc, sym, true, ℕ, ◌↔◌, ◌∙◌, ◌∷◌, ◌≡◌, ◌⊎◌}
-use Rattle.std.proofs.lemmas.{List.nil_from_length, Option.slice_get-map}
-use Rattle.std.specs.{Prelude.nat_abs, Prelude.⊤, Ordering.nat_cmp, List.list_all}
+use Rattle.std.proofs.lemmas.{Bool.cases_Bool, List.nil_from_length, Option.slice_get-map}
 use Rattle.steps.proofs.StateLemmas.{IsTold, after_among, deleted_among, given_undone, input_among}
 use Rattle.steps.proofs.StateLemmas.{lacks, mapped_empty, mapped_get, mapped_list, renamed_loses}
 use Rattle.steps.proofs.StateLemmas.{renamed_same, renamed_size, same_among, without_among}
 use Rattle.steps.specs.Code.Naming.{AreAllAmong, AreAmong, IsAbsent, IsGiven, LiveAmong}
 use Rattle.steps.specs.Code.Naming.{answer_with, mapped_values, named_state, names_after}
-use Rattle.steps.specs.Code.Naming.{under_names, with_lits}
-use Rattle.steps.specs.Session.{Held, state_of, state_under}
-use Rattle.theory.proofs.RenamingLemmas.Clauses.{has_mapped, mapped_has}
+use Rattle.steps.specs.{Code.Naming.{under_names, with_lits}, Session.{Held, state_of, state_under}}
+use Rattle.theory.proofs.RenamingLemmas.{Clauses.{has_mapped, mapped_has}, Lrat.without_all_mapped}
 use Rattle.theory.proofs.RenamingLemmas.Verdicts.{renames, step_answers, step_leaves}
+use Rattle.theory.specs.Answers.{StepAnswer, UnlessOutOfMemory}
+use Rattle.theory.specs.{Losses.StepLoses, Propagation.Live, declared.accepted.Accepted.Accepted}
 use Rattle.theory.specs.Lrat.{Group, deletion_refusal, groups_refusal, without_id}
-use Rattle.theory.specs.Renaming.{IsRenamed, renamed, step_renamed}
+use Rattle.theory.specs.{Renaming.{IsRenamed, renamed, step_renamed}, Rules.with_input}
 use Rattle.theory.specs.Rules.{Answers, Same, State, after, by_ids, drat, literals_of, lrat}
-use Rattle.theory.specs.declared.refusal.Refusal.{TheVariants.NeitherRupNorRat, Refusal}
-use Rattle.theory.specs.{Answers.StepAnswer, Answers.UnlessOutOfMemory, Losses.StepLoses}
-use Rattle.theory.specs.{declared.accepted.Accepted.Accepted, Propagation.Live, Rules.with_input}
-use Rattle.{theory.proofs.RenamingLemmas.Lrat.without_all_mapped, std.proofs.lemmas.Bool.cases_Bool}
+use Rattle.theory.specs.declared.refusal.Refusal.{Refusal, TheVariants.NeitherRupNorRat}
 use Rattle.proofs.specs.declared.step_buf.StepKind.TheVariants as kinds
 use Rattle.std.specs.FinMap as maps
 
@@ -51,14 +47,12 @@ pub deletion_plain : (live : Live) (ids : List ℕ) → AllPlain (deletion_refus
 deletion_plain live [] = tt
 deletion_plain live (id ∷ ids) = grind (arith, (deletion_plain (without_id live id) ids))
 
-pub plain_stays : (lits : List Literal) (answer : StepAnswer) → IsPlain answer → answer_with lits answer ≡ answer
-plain_stays lits answer h = grind arith
-
 -- ---- By identifiers: literals aren't looked at
 
 -- the identifiers of a deletion are refused alike
 refused_alike : (ids : List ℕ) (live other : Live)
-    → ((k : ℕ) → is_none (other k) ≡ is_none (live k)) → deletion_refusal live ids ≡ deletion_refusal other ids
+    → ((k : ℕ) → is_none (other k) ≡ is_none (live k))
+    → deletion_refusal live ids ≡ deletion_refusal other ids
 refused_alike [] live other same = refl
 refused_alike (id ∷ ids) live other same =
     grind (arith, (refused_alike ids (without_id live id) (without_id other id)))
@@ -83,7 +77,8 @@ absent_after name back s other step lits word r is absent none a = grind arith
 
 -- each variable that was met keeps its number
 abbrev pub Extends : (names more : List ℕ) → Type 0
-Extends names more = (v : ℕ) → has names v ≡ true → (has more v ≡ true) × (number_in more v ≡ number_in names v)
+Extends names more =
+    (v : ℕ) → has names v ≡ true → (has more v ≡ true) × (number_in more v ≡ number_in names v)
 
 pub extends_itself : (names : List ℕ) → Extends names names
 extends_itself names v h = (h, refl)
@@ -99,17 +94,15 @@ module _ (names : List ℕ) where
   abbrev numbered : List Literal → List Literal
   numbered lits = map (renamed (number_in names)) lits
 
-  named_back : (lits : List Literal) → AreMet names lits → map (renamed (name_in names)) (numbered lits) ≡ lits
+  named_back : (lits : List Literal) → AreMet names lits →
+      map (renamed (name_in names)) (numbered lits) ≡ lits
   named_back [] met = refl
   named_back (l ∷ lits) met =
-      grind (
-        arith,
-        told names (variable l) (met l (has_head l lits)),
-        renames,
-        (named_back lits (λ k h. met k (has_tail l lits k h))),
-      )
+      let later = named_back lits (λ k h. met k (has_tail l lits k h)) in
+      grind (arith, told names (variable l) (met l (has_head l lits)), renames, later)
 
-  numbered_given : (lits : List Literal) → AreMet names lits → AreAmong (IsGiven names) (numbered lits)
+  numbered_given : (lits : List Literal) → AreMet names lits →
+      AreAmong (IsGiven names) (numbered lits)
   numbered_given lits met m h = grind (arith, mapped_has)
 
 -- ---- What is held, under names
@@ -118,7 +111,8 @@ module _ (names more : List ℕ) (extends : Extends names more) where
   extended_given : (l : Literal) → IsGiven names l → IsGiven more l
   extended_given l given = grind arith
 
-  name_kept : (l : Literal) → IsGiven names l → name_in names (variable l) ≡ name_in more (variable l)
+  name_kept : (l : Literal) → IsGiven names l →
+      name_in names (variable l) ≡ name_in more (variable l)
   name_kept l given = grind (arith, told)
 
   clause_kept : (c : Clause) → AreAmong (IsGiven names) c
@@ -140,9 +134,12 @@ module _ (names more : List ℕ) (extends : Extends names more) where
 
   -- what is held under numbers is, renamed, what is held under names
   pub held_renamed : (held : Held) (beside : ℕ) → AreAllAmong (IsGiven names) (state_of held)
-      → IsRenamed (name_in more) (number_in more) (state_of held) (state_of (under_names names beside held))
-  held_renamed held beside = elim held.rule as (λ rule. AreAllAmong (IsGiven names) (state_under rule held)
-      → IsRenamed (name_in more) (number_in more) (state_under rule held) (state_under rule (under_names names beside held))) [
+      → IsRenamed (name_in more) (number_in more) (state_of held)
+      (state_of (under_names names beside held))
+  held_renamed held beside =
+      elim held.rule as (λ rule. AreAllAmong (IsGiven names) (state_under rule held)
+      → IsRenamed (name_in more) (number_in more) (state_under rule held)
+      (state_under rule (under_names names beside held))) [
         | lrat ↦ λ given. search (rules, arith, mapped_get, at_kept, given_undone, extended_given)
         | drat rules ↦ λ given. search (arith, mapped_list, list_kept, given_undone, extended_given)
       ]
@@ -150,16 +147,19 @@ module _ (names more : List ℕ) (extends : Extends names more) where
   pub all_given : (s : State) → AreAllAmong (IsGiven names) s → AreAllAmong (IsGiven more) s
   all_given s given = grind (arith, extended_given)
 
-pub named_size : (names : List ℕ) (held : Held) (beside : ℕ) → AreAllAmong (IsGiven names) (state_of held)
+pub named_size : (names : List ℕ) (held : Held) (beside : ℕ) →
+    AreAllAmong (IsGiven names) (state_of held)
     → literals_of (state_of (under_names names beside held)) ≡ literals_of (state_of held)
 named_size names held beside given =
-    renamed_size (name_in names) (number_in names) (state_of held) (state_of (under_names names beside held))
+    renamed_size (name_in names) (number_in names) (state_of held)
+    (state_of (under_names names beside held))
     (held_renamed names names (extends_itself names) held beside given)
 
 -- ---- A clause of the formula
 
 -- a clause of the formula was put under numbers
-module _ (names more : List ℕ) (lits : List Literal) (old new : Held) (given : AreAllAmong (IsGiven names) (state_of old)) (more_is : more ≡ with_names names lits)
+module _ (names more : List ℕ) (lits : List Literal) (old new : Held)
+    (given : AreAllAmong (IsGiven names) (state_of old)) (more_is : more ≡ with_names names lits)
     (same : Same (state_of new) (with_input (state_of old) (numbered more lits))) where
   extends_later : Extends names more
   extends_later = rw more_is (extends_new names lits)
@@ -175,9 +175,11 @@ module _ (names more : List ℕ) (lits : List Literal) (old new : Held) (given :
   input_named =
       let before = held_renamed names more extends_later old 0 given in
       let after = held_renamed more more (extends_itself more) new 0 input_given in
-      let told_all = λ (l : Literal) (h : has (numbered more lits) l ≡ true). given_undone more l (numbered_given more lits met_now l h) in
+      let told_all = λ (l : Literal) (h : has (numbered more lits) l ≡ true).
+      given_undone more l (numbered_given more lits met_now l h) in
       rw (named_back more lits met_now) at
-      (renamed_same (name_in more) (number_in more) (state_of new) (with_input (state_of old) (numbered more lits)) _
+      (renamed_same (name_in more) (number_in more) (state_of new)
+      (with_input (state_of old) (numbered more lits)) _
       (with_input (named_state names old) (map (renamed (name_in more)) (numbered more lits))) after
       (search (rules, arith, before)) same)
 
@@ -187,29 +189,39 @@ module _ (names more : List ℕ) (lits : List Literal) (old new : Held) (given :
 pub record IsShown (more : List ℕ) (inner outer : State) (lits : List Literal) (step : Step)
     (answer : StepAnswer) : Type 0 where
   pub answers : Answers outer (with_lits lits step) (answer_with lits answer)
-  pub renamed_after : (word : Accepted) → answer ≡ Ok word → IsRenamed (name_in more) (number_in more)
-      (after inner (with_lits (numbered more lits) step) word) (after outer (with_lits lits step) word)
-  pub given_after : (word : Accepted) → AreAllAmong (IsGiven more) (after inner (with_lits (numbered more lits) step) word)
+  pub renamed_after : (word : Accepted) → answer ≡ Ok word →
+      IsRenamed (name_in more) (number_in more)
+      (after inner (with_lits (numbered more lits) step) word)
+      (after outer (with_lits lits step) word)
+  pub given_after : (word : Accepted) → AreAllAmong (IsGiven more)
+      (after inner (with_lits (numbered more lits) step) word)
   pub loses : (word : Accepted) → answer ≡ Ok word → StepLoses inner
       (with_lits (numbered more lits) step) word ↔ StepLoses outer (with_lits lits step) word
 
-module _ (more : List ℕ) (inner outer : State) (before : IsRenamed (name_in more) (number_in more) inner outer)
-    (given : AreAllAmong (IsGiven more) inner) (lits : List Literal) (step : Step) (answer : StepAnswer)
+module _ (more : List ℕ) (inner outer : State)
+    (before : IsRenamed (name_in more) (number_in more) inner outer)
+    (given : AreAllAmong (IsGiven more) inner) (lits : List Literal) (step : Step)
+    (answer : StepAnswer)
     (a : Answers inner (with_lits (numbered more lits) step) answer) where
   -- each variable was met: this is a step under other names
   shown_met : AreMet more lits → IsShown more inner outer lits step answer
   shown_met met =
       let under = with_lits (numbered more lits) step in let back = named_back more lits met in
-      let told_all = λ (l : Literal) (h : has (numbered more lits) l ≡ true). given_undone more l (numbered_given more lits met l h) in
-      let answered = step_answers (name_in more) (number_in more) inner outer under answer before told_all a in
-      let left = λ (word : Accepted). step_leaves (name_in more) (number_in more) inner outer under word before told_all in
-      let lost = λ (word : Accepted). renamed_loses (name_in more) (number_in more) inner outer under word before told_all in
+      let told_all = λ (l : Literal) (h : has (numbered more lits) l ≡ true).
+      given_undone more l (numbered_given more lits met l h) in
+      let answered =
+      step_answers (name_in more) (number_in more) inner outer under answer before told_all a in
+      let left = λ (word : Accepted).
+      step_leaves (name_in more) (number_in more) inner outer under word before told_all in
+      let lost = λ (word : Accepted).
+      renamed_loses (name_in more) (number_in more) inner outer under word before told_all in
       record {
         answers = subst (λ c. Answers outer (with_lits c step) (answer_with lits answer)) back
-            (subst (Answers outer (step_renamed (renamed (name_in more)) under)) (grind (arith, deletion_plain, groups_plain))
-            answered);
+            (subst (Answers outer (step_renamed (renamed (name_in more)) under))
+            (grind (arith, deletion_plain, groups_plain)) answered);
         renamed_after = λ word is. rw back at (left word);
-        given_after = λ word. after_among (IsGiven more) inner (numbered more lits) step word given (numbered_given more lits met);
+        given_after = λ word. after_among (IsGiven more) inner (numbered more lits) step word given
+            (numbered_given more lits met);
         loses = λ word is. rw back at (lost word);
       }
 
@@ -218,8 +230,10 @@ module _ (more : List ℕ) (inner outer : State) (before : IsRenamed (name_in mo
       → IsAbsent outer lits → IsShown more inner outer lits step answer
   shown_absent deletes absent none = record {
     answers = grind (arith, refused_alike, deletion_plain, groups_plain);
-    renamed_after = λ word is. absent_after (name_in more) (number_in more) inner outer (with_lits lits step) (numbered more lits) word before deletes absent none (rw is at a);
-    given_after = λ word. deleted_among (IsGiven more) inner (numbered more lits) step word deletes given;
+    renamed_after = λ word is. absent_after (name_in more) (number_in more) inner outer
+        (with_lits lits step) (numbered more lits) word before deletes absent none (rw is at a);
+    given_after = λ word.
+        deleted_among (IsGiven more) inner (numbered more lits) step word deletes given;
     loses = grind arith;
   }
 
@@ -229,8 +243,10 @@ some_unmet names (k ∷ c) some = grind (arith, has_head, has_tail, (some_unmet 
 some_unmet names [] some = grind arith
 
 -- what is said of each literal is said of those under other names
-all_renamed : (name back : ℕ → ℕ) (among after : Literal → Type 0) → ((l : Literal) → among l → after (renamed name l))
-    → (s other : State) → IsRenamed name back s other → AreAllAmong among s → AreAllAmong after other
+all_renamed : (name back : ℕ → ℕ) (among after : Literal → Type 0) →
+    ((l : Literal) → among l → after (renamed name l)) →
+    (s other : State) → IsRenamed name back s other → AreAllAmong among s →
+    AreAllAmong after other
 all_renamed name back among after each s other r given = grind (arith, mapped_has, slice_get-map)
 
 -- a step was put under numbers
@@ -262,7 +278,8 @@ shown names more old lits step answer given more_is a =
 pub record Steps (names more : List ℕ) (old new : Held) (lits : List Literal) (step : Step)
     (result : StepAnswer) : Type 0 where
   pub given : OnOk result (AreAllAmong (IsGiven more) (state_of new))
-  pub answers : UnlessOutOfMemory result (Answers (named_state names old) (with_lits lits step) result)
+  pub answers : UnlessOutOfMemory result
+      (Answers (named_state names old) (with_lits lits step) result)
   pub state : IfOk result (λ word. Same (named_state more new)
       (after (named_state names old) (with_lits lits step) word))
   -- whether a literal was lost
@@ -285,7 +302,8 @@ steps names more old new lits under step (Ok word) result given more_is under_is
     rw is (record {
       given = given_new;
       answers = s.answers;
-      state = renamed_same (name_in more) (number_in more) (state_of new) left (named_state more new)
+      state =
+          renamed_same (name_in more) (number_in more) (state_of new) left (named_state more new)
           (after (named_state names old) (with_lits lits step) word)
           (held_renamed more more (extends_itself more) new 0 given_new) (s.renamed_after word refl)
           same_under;
@@ -297,12 +315,14 @@ steps names more old new lits under step (Err refusal) result given more_is unde
 
 -- ---- At first
 
-pub empty_named : (names : List ℕ) (held : Held) → held.live ≡ maps.empty → mapped_values (map (renamed (name_in names))) held.live ≡ maps.empty
+pub empty_named : (names : List ℕ) (held : Held) → held.live ≡ maps.empty →
+    mapped_values (map (renamed (name_in names))) held.live ≡ maps.empty
 empty_named names held empty = grind (arith, mapped_empty)
 
 no_values : maps.values (maps.empty {X = Clause} {R = nat_cmp}) ≡ []
 no_values = ap (map (λ e. e.1))
     (nil_from_length _ (sym (maps.len-entries maps.empty) ∙ maps.len-empty nat_cmp Clause))
 
-pub none_given : (names : List ℕ) (held : Held) → held.live ≡ maps.empty → AreAllAmong (IsGiven names) (state_of held)
+pub none_given : (names : List ℕ) (held : Held) → held.live ≡ maps.empty →
+    AreAllAmong (IsGiven names) (state_of held)
 none_given names held empty = grind (arith, maps.get-empty, no_values)

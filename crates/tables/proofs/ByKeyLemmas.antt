@@ -1,8 +1,7 @@
 -- One value at the keys of literals and of their complements, written one after the other.
-use Rattle.std.proofs.Common.{◌≡◌, ℕ, ◌+◌, ◌<◌, Bool, false, ◌||◌, cond, eqb, List}
-use Rattle.std.proofs.Common.{take, get_or, length, ne_eqb, arith}
-use Rattle.cnf_base.specs.Literals.{complement, has}
 use Rattle.cnf_base.proofs.{LiteralLemmas.complement-complement, WalkLemmas.has_more}
+use Rattle.{cnf_base.specs.Literals.{complement, has}, std.proofs.Common.{Bool, List, arith, cond}}
+use Rattle.std.proofs.Common.{eqb, false, get_or, length, ne_eqb, take, ℕ, ◌+◌, ◌<◌, ◌||◌, ◌≡◌}
 use Rattle.tables.specs.ByKey.{is_of}
 
 module _ {T : Type 0} (value : T) (c : List ℕ) (i : ℕ) (inside : i < length c) (x : ℕ)

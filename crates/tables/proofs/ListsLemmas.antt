@@ -1,10 +1,9 @@
 -- Lists that are found at once, and the others.
-use Rattle.std.proofs.Common.{◌≡◌, ℕ, ◌+◌, ◌<◌, ◌≤◌, cond, eqb, List, [], ◌∷◌, ◌++◌, length}
-use Rattle.std.proofs.Common.{get_or, set, slice_get, Vec, arith, Bool, true, ◌||◌, nat_lt}
-use Rattle.std.specs.Global.{Global}
-use Rattle.std.proofs.lemmas.List.{get_or_append_left, get_or_push, get_or-set_other}
-use Rattle.std.proofs.lemmas.List.{get_or-set_same, length-append, length-set}
-use Rattle.std.proofs.lemmas.{List.Sums.sum_by-set, Option.slice_get-get_or, Option.slice_get_past}
+use Rattle.std.proofs.Common.{Bool, List, Vec, [], arith, cond, eqb, get_or, length, nat_lt, set}
+use Rattle.std.proofs.Common.{slice_get, true, ℕ, ◌++◌, ◌+◌, ◌<◌, ◌||◌, ◌∷◌, ◌≡◌, ◌≤◌}
+use Rattle.std.proofs.lemmas.List.{get_or-set_other, get_or-set_same, get_or_append_left}
+use Rattle.std.proofs.lemmas.List.{get_or_push, length-append, length-set, Sums.sum_by-set}
+use Rattle.std.{proofs.lemmas.Option.{slice_get-get_or, slice_get_past}, specs.Global.Global}
 use Rattle.tables.specs.Lists.{items_or, total}
 
 module _ {T : Type 0} (near : List (Vec T Global)) (l : ℕ) (list : Vec T Global) where

@@ -4,11 +4,12 @@ ghost use Rattle.std.specs.Prelude.{◌≡◌};
 ghost use Rattle.theory.specs.declared.refusal.Refusal.TheVariants.{OutOfMemory as RefusedMemory};
 
 use cnf_base::{Lit, OutOfMemory};
-use std::alloc::AllocError;
 
 /// Why a step, or a clause of the formula, was refused.
 #[derive(Clone, Copy, Debug, PartialEq, Eq)]
 pub enum Refusal {
+    /// The session had ended.
+    Ended,
     /// The empty clause, which lacks reverse unit propagation.
     NotRup,
     /// A clause that is neither RUP nor RAT on this literal, its first one.
@@ -25,6 +26,8 @@ pub enum Refusal {
     UnknownId(u64),
     /// A hint whose clause has two literals or more left.
     NotUnit(u64),
+    /// The empty clause, where the hints end without a conflict.
+    NoConflict,
     /// A group's clause, which lacks the complement of the pivot.
     NotCandidate(u64),
     /// A group's clause that an earlier group named.
@@ -33,26 +36,14 @@ pub enum Refusal {
     GroupWithoutConflict(u64),
     /// A clause that holds the complement of the pivot and that no group names.
     Unnamed(u64),
-    /// The empty clause, where the hints end without a conflict.
-    NoConflict,
     /// A growth of memory was refused.
     OutOfMemory,
-    /// The session had ended.
-    Ended,
 }
 
 impl From<OutOfMemory> for Refusal {
     ghost from_gives = { λ _ r. r ≡ RefusedMemory };
 
     fn from(_refused: OutOfMemory) -> Refusal {
-        Refusal::OutOfMemory
-    }
-}
-
-impl From<AllocError> for Refusal {
-    ghost from_gives = { λ _ r. r ≡ RefusedMemory };
-
-    fn from(_refused: AllocError) -> Refusal {
         Refusal::OutOfMemory
     }
 }

@@ -3,8 +3,8 @@
 ghost use Rattle.std.specs.Prelude.{◌≡◌, ℕ, ◌≤◌, if◌then◌else◌, IsFalse, IsSome, IsTrue, OnOk};
 ghost use Rattle.std.specs.Prelude.{OnErr};
 ghost use Rattle.std.specs.List.{list_any};
-ghost use Rattle.cnf_base.specs.Literals.{complement, has};
 ghost use Rattle.trail.specs.Reduced.{is_reduced};
+ghost use Rattle.cnf_base.specs.Literals.{complement, has};
 ghost use Rattle.trail.specs.Numbers.{number_at};
 ghost use Rattle.tables.specs.ByKey.{at};
 

@@ -326,6 +326,7 @@ impl Trail {
 
     /// Makes the literals of a part of a clause false, up to the first that is true. Tells whether
     /// there is one, so that a literal and its complement would be true. It takes no memory.
+    #[tactic(auto, using(crate::proofs::TrailLemmas::MakesFalse::false_steps))]
     pub fn make_false<P: Part>(&mut self, clause: &[Lit], part: &P) -> bool
         requires { HasRoom self.old.reserved clause.now }
         ensures made { MakesFalse self.old.lits

@@ -5,10 +5,10 @@ ghost use Rattle.std.specs.FinMap as maps;
 ghost use Rattle.cnf_base.specs.Literals.{has};
 ghost use Rattle.tables.specs.ByKey.{at};
 ghost use Rattle.propagation.specs.Assumptions.{IsAnswer};
+ghost use Rattle.watch.specs.Code.Visits.{CanFollow, Followed};
 ghost use Rattle.root_literals.specs.Order.{each_in_order};
 ghost use Rattle.root_literals.specs.Roots.{HaveUnits};
 ghost use Rattle.root_literals.specs.Watched.{IsWatched};
-ghost use Rattle.watch.specs.Code.Visits.{CanFollow, Followed};
 ghost use Rattle.theory.specs.Propagation.{IsClosed};
 ghost use Rattle.propagation.specs.declared.answer.Answer.TheVariants.{Quiet};
 

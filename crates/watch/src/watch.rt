@@ -135,6 +135,7 @@ impl Watch {
 
     /// The same, with clauses hashed by the seed, a number that whoever chooses them shouldn't
     /// know, so that none are chosen that are slow to find. No answer depends on it.
+    #[tactic(auto, using(root_literals::proofs::RootLemmas::Reasons::ordered_empty))]
     pub fn seeded(alloc: Global, seed: u64) -> Result<Self, OutOfMemory>
         ensures live { IfOk result (λ w. w.propagation.live ≡ maps.empty) }
         ensures nothing_assumed { IfOk result (λ w. w.propagation.assumptions ≡ []) }
@@ -368,6 +369,7 @@ impl Propagate for Watch {
         assumed
     }
 
+    #[tactic(auto, using(crate::proofs::WatchLemmas::State::reason_steps))]
     fn is_root_reason(&mut self, slot: Slot) -> Result<bool, OutOfMemory> {
         self.prepare()?;
         let found = is_reason_at_root(

@@ -19,6 +19,14 @@ use cnf_base::OutOfMemory;
 use std::alloc::Global;
 use std::collections::BTreeMap;
 
+/// An entry that was found.
+#[derive(Clone, Copy)]
+pub(crate) struct Found {
+    pub(crate) place: usize,
+    /// How many entries were passed over, but for a few.
+    pub(crate) passed: usize,
+}
+
 /// How many entries a list has at least that gets a table.
 pub(crate) const LONG: usize = 1000;
 
@@ -29,14 +37,6 @@ const GROUPS: usize = 128;
 /// How often as many entries as a list has are passed over before it gets a table. To make one
 /// costs some ten times what it takes to pass over them.
 const SEARCHES: usize = 8;
-
-/// An entry that was found.
-#[derive(Clone, Copy)]
-pub(crate) struct Found {
-    pub(crate) place: usize,
-    /// How many entries were passed over, but for a few.
-    pub(crate) passed: usize,
-}
 
 /// What is noted of the lists of some literals.
 #[derive(Clone, Copy)]

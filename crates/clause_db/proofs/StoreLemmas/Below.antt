@@ -1,10 +1,8 @@
 -- The clauses in the slots below a number, as they are passed one after the other.
-use Rattle.std.proofs.Common.{◌≡◌, ◌≢◌, ℕ, ◌+◌, ◌<◌, ◌≤◌, cond, Some, None, IsSome, nat_lt}
-use Rattle.std.proofs.Common.{◌∙◌, arith, nat_cmp, lt-ltb}
-use Rattle.std.{specs.FinMap.FinMap, proofs.lemmas.Bool.cases_lt}
+use Rattle.cnf_base.{proofs.MapLemmas.{inserted_is, same_maps}, specs.Literals.Clause}
+use Rattle.std.proofs.Common.{IsSome, None, Some, arith, cond, lt-ltb, nat_cmp, nat_lt, ℕ, ◌+◌, ◌<◌}
+use Rattle.std.{proofs.{Common.{◌∙◌, ◌≡◌, ◌≢◌, ◌≤◌}, lemmas.Bool.cases_lt}, specs.FinMap.FinMap}
 use Rattle.std.specs.FinMap as maps
-use Rattle.cnf_base.specs.Literals.{Clause}
-use Rattle.cnf_base.proofs.MapLemmas.{same_maps, inserted_is}
 
 abbrev pub below : ℕ → FinMap nat_cmp Clause → FinMap nat_cmp Clause
 below n m = maps.retain_keys m (λ s. nat_lt s n)

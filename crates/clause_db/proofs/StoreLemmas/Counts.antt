@@ -1,18 +1,14 @@
 -- How many of the clauses have a literal: through a change of the clauses, and so far in a walk.
-use Rattle.cnf_base.proofs.WalkLemmas.{is_in}
-use Rattle.std.proofs.Common.{◌≡◌, ℕ, ◌+◌, ◌<◌, ◌≤◌, Bool, true, false, cond, eqb, eqb-true, Option}
-use Rattle.std.proofs.Common.{Some, None, is_some, length, take, get_or, refl, sym, ◌∙◌}
-use Rattle.std.proofs.{Common.arith}
-use Rattle.std.specs.{Ordering.nat_cmp, FinMap.FinMap}
-use Rattle.std.specs.FinMap as maps
-use Rattle.cnf_base.specs.Literals.{Literal, Clause, has, size}
-use Rattle.cnf_base.proofs.WalkLemmas.{has_more}
-use Rattle.cnf_base.proofs.MapLemmas.{insert_here, insert_other, same_maps, sum_bound, sum_empty}
-use Rattle.cnf_base.proofs.MapLemmas.{sum_insert, sum_remove, sum_replace}
-use Rattle.clause_db.specs.Store.{copies_with}
-use Rattle.clause_db.specs.Code.{Counts.AreCounted, Counts.count_of, Kept.has_in}
 use Rattle.clause_db.proofs.StoreLemmas.Marks.{eqb_turn, new_here, size_more}
-use Rattle.tables.specs.{ByKey.at, declared.by_key.ByKey.ByKey}
+use Rattle.clause_db.specs.{Code.{Counts.{AreCounted, count_of}, Kept.has_in}, Store.copies_with}
+use Rattle.cnf_base.proofs.MapLemmas.{insert_here, insert_other, same_maps, sum_bound, sum_empty}
+use Rattle.cnf_base.proofs.{MapLemmas.{sum_insert, sum_remove, sum_replace}, WalkLemmas.has_more}
+use Rattle.cnf_base.{proofs.WalkLemmas.is_in, specs.Literals.{Clause, Literal, has, size}}
+use Rattle.std.proofs.Common.{Bool, None, Option, Some, arith, cond, eqb, eqb-true, false, get_or}
+use Rattle.std.proofs.Common.{is_some, length, refl, sym, take, true, ℕ, ◌+◌, ◌<◌, ◌∙◌, ◌≡◌, ◌≤◌}
+use Rattle.{std.specs.{FinMap.FinMap, Ordering.nat_cmp}, tables.specs.ByKey.at}
+use Rattle.tables.specs.declared.by_key.ByKey.{ByKey}
+use Rattle.std.specs.FinMap as maps
 
 abbrev with_literal : ℕ → Clause → ℕ
 with_literal l c = cond (has c l) 1 0

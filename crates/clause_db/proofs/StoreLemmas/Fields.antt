@@ -1,16 +1,13 @@
 -- What is so of the fields of a store, through a change.
-use Rattle.cnf_base.proofs.MapLemmas.{insert_here, insert_other}
-use Rattle.std.proofs.Common.{◌≡◌, ℕ, ◌+◌, ◌-◌, ◌*◌, ◌<◌, ◌≤◌, Bool, true, false, is_some, Some}
-use Rattle.std.proofs.Common.{None, length, arith, nat_cmp}
-use Rattle.std.specs.FinMap.{FinMap}
+use Rattle.clause_db.specs.{Code.{Fields.IsStore, LiteralMarks.is_marked}, Store.literals_in}
+use Rattle.cnf_base.proofs.MapLemmas.{after_insert, after_remove, insert_here, insert_other}
+use Rattle.cnf_base.proofs.MapLemmas.{sum_alike, sum_bound, sum_empty, sum_insert, sum_remove}
+use Rattle.cnf_base.{proofs.{MapLemmas.sum_replace, SizeLemmas.size_same}, specs.Literals.Clause}
+use Rattle.{cnf_base.specs.Literals.{has, size}, std.proofs.Common.{Bool, None, Some, arith, false}}
+use Rattle.std.proofs.Common.{is_some, length, nat_cmp, true, ℕ, ◌*◌, ◌+◌, ◌-◌, ◌<◌, ◌≡◌, ◌≤◌}
+use Rattle.{std.specs.FinMap.FinMap, tables.specs.{ByKey.at, declared.by_key.ByKey.ByKey}}
 use Rattle.std.specs.FinMap as maps
 use Rattle.clause_memory.specs.Memory as memory
-use Rattle.cnf_base.specs.Literals.{Clause, has, size}
-use Rattle.cnf_base.proofs.SizeLemmas.{size_same}
-use Rattle.cnf_base.proofs.MapLemmas.{after_insert, after_remove, sum_alike, sum_bound, sum_empty}
-use Rattle.cnf_base.proofs.MapLemmas.{sum_insert, sum_remove, sum_replace}
-use Rattle.clause_db.specs.{Store.literals_in, Code.LiteralMarks.is_marked, Code.Fields.IsStore}
-use Rattle.tables.specs.{ByKey.at, declared.by_key.ByKey.ByKey}
 
 -- ---- No clauses
 

@@ -1,13 +1,12 @@
 -- The occurrences of literals in the clauses, through a change.
-use Rattle.std.proofs.Common.{◌≡◌, ℕ, ◌<◌, true, false, ◌&&◌, ◌||◌, not, eqb, Option, Some, None}
-use Rattle.std.proofs.Common.{List, [], ◌∷◌, refl, sym, ◌∙◌, arith, rules, nat_cmp}
-use Rattle.std.{specs.List.list_any, specs.FinMap.FinMap, proofs.lemmas.Bool.false≢true}
-use Rattle.std.specs.FinMap as maps
-use Rattle.cnf_base.specs.Literals.{Literal, Clause, complement, has}
+use Rattle.clause_db.specs.{Code.Kept.{AreKept, AreOf, has_in}, Store.IsTouchedAt}
 use Rattle.cnf_base.proofs.MapLemmas.{insert_here, insert_other, remove_here, remove_other}
-use Rattle.cnf_base.proofs.MapLemmas.{same_maps}
+use Rattle.cnf_base.{proofs.MapLemmas.same_maps, specs.Literals.{Clause, Literal, complement, has}}
 use Rattle.occurrences.specs.{Occurrences.occurs, declared.by_literal.Occurrences.Occurrences}
-use Rattle.clause_db.specs.{Store.IsTouchedAt, Code.Kept.has_in, Code.Kept.AreOf, Code.Kept.AreKept}
+use Rattle.std.proofs.Common.{List, None, Option, Some, [], arith, eqb, false, nat_cmp, not, refl}
+use Rattle.std.proofs.Common.{rules, sym, true, ℕ, ◌&&◌, ◌<◌, ◌||◌, ◌∙◌, ◌∷◌, ◌≡◌}
+use Rattle.std.{proofs.lemmas.Bool.false≢true, specs.{FinMap.FinMap, List.list_any}}
+use Rattle.std.specs.FinMap as maps
 
 -- ---- A clause that is taken out again
 

@@ -1,12 +1,11 @@
 -- Walks over a clause: what is so of the literals so far, through one more literal.
-use Rattle.std.proofs.Common.{◌≡◌, ℕ, ◌+◌, ◌%◌, ◌^◌, ◌<◌, ◌≤◌, ◌&&◌, ◌||◌, Bool, true, false, not}
-use Rattle.std.proofs.Common.{eqb, [], ◌∷◌, ◌++◌, length, take, get_or, length-append}
-use Rattle.std.proofs.Common.{arith}
-use Rattle.cnf_base.specs.Literals.{Literal, Clause, has, size}
-use Rattle.clause_index.specs.Hashes.{mix, mixed_sum}
-use Rattle.cnf_base.proofs.SizeLemmas.{size_push, size_covered, distinct_before}
-use Rattle.cnf_base.proofs.WalkLemmas.{has_push, has_take, take_is, has_more}
-use Rattle.clause_index.proofs.IndexLemmas.Hashes.{mixed_kept, mixed_more}
+use Rattle.clause_index.{proofs.IndexLemmas.Hashes.{mixed_kept, mixed_more}, specs.Hashes.mix}
+use Rattle.{clause_index.specs.Hashes.mixed_sum, cnf_base.proofs.SetLemmas.same_from}
+use Rattle.cnf_base.proofs.SizeLemmas.{distinct_before, size_covered, size_push}
+use Rattle.cnf_base.proofs.WalkLemmas.{has_more, has_push, has_take, take_is}
+use Rattle.{cnf_base.specs.Literals.{Clause, Literal, has, size}, std.proofs.Common.{Bool, []}}
+use Rattle.std.proofs.Common.{arith, eqb, false, get_or, length, length-append, not, take, take_all}
+use Rattle.std.proofs.Common.{true, ℕ, ◌%◌, ◌&&◌, ◌++◌, ◌+◌, ◌<◌, ◌^◌, ◌||◌, ◌∷◌, ◌≡◌, ◌≤◌}
 
 -- ---- One turn of a walk: x is the literal at i
 
@@ -78,3 +77,5 @@ module _ (c : Clause) (i : ℕ) (inside : i < length c) (x : Literal) (is : x �
 
     pub push_different : size kept ≡ length kept → size (kept ++ x ∷ []) ≡ length (kept ++ x ∷ [])
     push_different different = grind (arith, push_size, length-append)
+
+pub ruleset gather_steps = (push_fits, take_all, same_from)

@@ -1,16 +1,14 @@
 -- A clause in the place of one with the same literals, in all fields of a store.
-use Rattle.std.proofs.Common.{◌≡◌, ℕ, Bool, Option, Some, length, arith}
-use Rattle.std.specs.{Ordering.nat_cmp, FinMap.FinMap}
-use Rattle.std.specs.FinMap as maps
-use Rattle.cnf_base.specs.Literals.{Clause, has}
-use Rattle.occurrences.specs.declared.by_literal.Occurrences.{Occurrences}
-use Rattle.tables.specs.declared.by_key.ByKey.{ByKey}
-use Rattle.clause_memory.specs.Memory as memory
-use Rattle.clause_index.specs.{Code.Chains.Indexes, declared.index.Index.Index}
-use Rattle.clause_index.proofs.IndexLemmas.{Hashes.hash_same, Whole.index_swapped}
-use Rattle.clause_db.specs.Code.{Counts.AreCounted, Fields.IsStore, Kept.AreKept}
 use Rattle.clause_db.proofs.StoreLemmas.{Counts.counted_replaced, Fields.sound_replaced}
-use Rattle.clause_db.proofs.StoreLemmas.Kept.{kept_replaced}
+use Rattle.clause_db.{proofs.StoreLemmas.Kept.kept_replaced, specs.Code.Counts.AreCounted}
+use Rattle.{clause_db.specs.Code.Fields.IsStore, clause_index.specs.Code.Chains.Indexes}
+use Rattle.{clause_db.specs.Code.Kept.AreKept, cnf_base.specs.Literals.{Clause, has}}
+use Rattle.clause_index.proofs.IndexLemmas.{Hashes.hash_same, Whole.index_swapped}
+use Rattle.{clause_index.specs.declared.index.Index.Index, tables.specs.declared.by_key.ByKey.ByKey}
+use Rattle.{occurrences.specs.declared.by_literal.Occurrences.Occurrences, std.specs.FinMap.FinMap}
+use Rattle.std.{proofs.Common.{Bool, Option, Some, arith, length, ℕ, ◌≡◌}, specs.Ordering.nat_cmp}
+use Rattle.std.specs.FinMap as maps
+use Rattle.clause_memory.specs.Memory as memory
 
 module _ (index : Index) (occurrences : Option Occurrences) (counts : Option (ByKey ℕ))
     (marks : ByKey Bool) (sum : ℕ) where

@@ -1,8 +1,7 @@
 -- Two literals of a clause in each other's place.
-use Rattle.std.proofs.Common.{◌≡◌, ℕ, ◌-◌, ◌<◌, ◌≤◌, length, refl, ◌∙◌, arith}
-use Rattle.std.{specs.List.swap, proofs.lemmas.List.Edits.length-swap}
-use Rattle.std.proofs.lemmas.List.Sorted.{list_any-IsPermutation, IsPermutation-swap}
-use Rattle.cnf_base.specs.Literals.{Clause, has}
+use Rattle.{cnf_base.specs.Literals.{Clause, has}, std.proofs.lemmas.List.Edits.length-swap}
+use Rattle.std.{proofs.Common.{arith, length, refl, ℕ, ◌-◌, ◌<◌, ◌∙◌, ◌≡◌, ◌≤◌}, specs.List.swap}
+use Rattle.std.proofs.lemmas.List.Sorted.{IsPermutation-swap, list_any-IsPermutation}
 
 pub has_swapped : (c d : Clause) (a b : ℕ) → a < length c → b < length c → d ≡ swap c a b → (l : ℕ)
     → has d l ≡ has c l

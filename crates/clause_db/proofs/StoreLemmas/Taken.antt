@@ -1,11 +1,9 @@
 -- A clause that the memory took in.
-use Rattle.std.proofs.Common.{◌≡◌, ℕ, ◌<◌, ◌≤◌, true, None, length, Result, IfOk, arith}
+use Rattle.{clause_db.specs.Code.Fields.IsTakenIn, clause_memory.specs.Memory.MemoryState}
+use Rattle.cnf_base.{proofs.MapLemmas.len_with, specs.Literals.{Clause, same_clause, size}}
+use Rattle.std.proofs.Common.{IfOk, None, Result, arith, length, true, ℕ, ◌<◌, ◌≡◌, ◌≤◌}
 use Rattle.std.specs.FinMap as maps
-use Rattle.cnf_base.specs.Literals.{Clause, same_clause, size}
 use Rattle.clause_memory.specs.Memory as memory
-use Rattle.clause_memory.specs.Memory.{MemoryState}
-use Rattle.clause_db.specs.Code.Fields.{IsTakenIn}
-use Rattle.cnf_base.proofs.MapLemmas.{len_with}
 
 -- what the memory says of a clause that it takes
 pub taken_in : {E : Type 0} (r : Result ℕ E) (m n : MemoryState) (lits x : Clause)

@@ -1,11 +1,9 @@
 -- Literals and their complements among the first of a clause.
-use Rattle.std.proofs.Common.{◌≡◌, ℕ, ◌+◌, ◌<◌, true, false, eqb-true, length}
-use Rattle.std.proofs.Common.{take, get_or, inl, inr, arith, ◌⊎◌}
-use Rattle.std.proofs.lemmas.Bool.{false_from_ne_true}
-use Rattle.cnf_base.specs.Literals.{Literal, Clause, complement, has}
-use Rattle.cnf_base.proofs.LiteralLemmas.{complement-complement, complement-other}
-use Rattle.cnf_base.proofs.{SetLemmas.any_from, SetLemmas.any_some, WalkLemmas.has_more}
-use Rattle.clause_db.specs.Store.{is_tautology}
+use Rattle.{clause_db.specs.Store.is_tautology, cnf_base.proofs.LiteralLemmas.complement-complement}
+use Rattle.cnf_base.proofs.{LiteralLemmas.complement-other, SetLemmas.{any_from, any_some}}
+use Rattle.cnf_base.{proofs.WalkLemmas.has_more, specs.Literals.{Clause, Literal, complement, has}}
+use Rattle.std.proofs.Common.{arith, eqb-true, false, get_or, inl, inr, length, take, true, ℕ, ◌+◌}
+use Rattle.std.proofs.{Common.{◌<◌, ◌≡◌, ◌⊎◌}, lemmas.Bool.false_from_ne_true}
 
 module _ (c : Clause) (i : ℕ) (inside : i < length c) (x : Literal) (is : x ≡ get_or c i x) where
   among : (k : Literal) → has (take (i + 1) c) k ≡ true → (has (take i c) k ≡ true) ⊎ (x ≡ k)

@@ -1,9 +1,8 @@
 -- What is so of the fields of a store.
-use Rattle.std.specs.Coded.{Coded, code_by, coded×, coded_ℕ, coded_list}
 use Rattle.std.specs.FinMap as maps
 use Rattle.std.specs.FinMap.{FinMap}
 use Rattle.std.specs.Ordering.{nat_cmp}
-use Rattle.std.specs.Prelude.{ℕ, refl, ◌≡◌, ◌<◌, Bool, true, false, Some, None, length, IsSome}
+use Rattle.std.specs.Prelude.{ℕ, ◌≡◌, ◌<◌, Bool, true, false, Some, None, length, IsSome}
 use Rattle.std.specs.Prelude.{IsTrue}
 use Rattle.cnf_base.specs.Literals.{Clause, has, same_clause, size}
 use Rattle.clause_memory.specs.Memory as memory
@@ -11,15 +10,6 @@ use Rattle.clause_memory.specs.Memory.{MemoryState}
 use Rattle.tables.specs.ByKey.{at}
 use Rattle.tables.specs.declared.by_key.ByKey.{ByKey}
 use Rattle.clause_db.specs.Code.LiteralMarks.{is_marked}
-use Rattle.clause_db.specs.Store.{StoreState}
-
--- a store is kept as the tuple of its fields
-abbrev pub store_code : Coded StoreState
-store_code =
-    code_by (FinMap nat_cmp Clause × (ℕ × ℕ))
-    (coded× (maps.code coded_ℕ (coded_list coded_ℕ)) (coded× coded_ℕ coded_ℕ))
-    (λ s. (s.live, (s.slots, s.stored)))
-    (λ p. record { live = p.0; slots = p.1.0; stored = p.1.1 }) (λ _. refl)
 
 -- no clause repeats a literal, the table knows each literal of a clause and has no marks, and the
 -- sum is that of the lengths

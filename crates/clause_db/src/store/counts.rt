@@ -106,6 +106,7 @@ fn count_slot<M: Memory>(
 }
 
 /// By literal how many of the clauses have it.
+#[tactic(auto, using(crate::proofs::StoreLemmas::Counts::count_whole))]
 fn counts_in<M: Memory>(alloc: Global, memory: &M) -> Result<ByKey<u32>, OutOfMemory>
     requires { (s : ℕ) (c : Clause) → maps.get (M.seen memory.now).live s ≡ Some c →
         size c ≡ length c }
@@ -172,6 +173,7 @@ pub(crate) fn count_with<M: Memory>(counts: &Option<ByKey<u32>>, memory: &M, l: 
 }
 
 /// Counts the literals of a further clause, where the counts are kept.
+#[tactic(auto, using(crate::proofs::StoreLemmas::Counts::copies_few))]
 pub(crate) fn count_in(counts: &mut Option<ByKey<u32>>, lits: &[Lit]) -> Result<(), OutOfMemory>
     requires different { size lits.now ≡ length lits.now }
     requires few { (live : FinMap nat_cmp Clause) × AreCounted counts.old live
@@ -189,6 +191,7 @@ pub(crate) fn count_in(counts: &mut Option<ByKey<u32>>, lits: &[Lit]) -> Result<
 }
 
 /// Counts the literals of a clause no longer, where the counts are kept. It takes no memory.
+#[tactic(auto, using(crate::proofs::StoreLemmas::Counts::counted_here))]
 pub(crate) fn count_out(counts: &mut Option<ByKey<u32>>, lits: &[Lit])
     requires different { size lits.now ≡ length lits.now }
     requires there { (live : FinMap nat_cmp Clause) × (slot : ℕ) × AreCounted counts.old live

@@ -24,6 +24,7 @@ pub(crate) struct Digest {
 
 /// Makes room in the table for the literals and marks them, where none is marked, and counts the
 /// different ones.
+#[tactic(auto, using(cnf_base::proofs::WalkLemmas::has_take))]
 pub(crate) fn mark_new(marks: &mut ByKey<bool>, lits: &[Lit]) -> Result<usize, OutOfMemory>
     requires { (l : ℕ) → is_marked (at marks.old l) ≡ false }
     ensures len { IfOk result (λ len. len ≡ size lits.now) }
@@ -185,6 +186,7 @@ pub(crate) fn unmark_all(marks: &mut ByKey<bool>, lits: &[Lit])
 }
 
 /// Puts each of the marked literals into `kept` once, and takes its mark off.
+#[tactic(auto, using(crate::proofs::StoreLemmas::Marks::gather_steps))]
 pub(crate) fn gather(marks: &mut ByKey<bool>, lits: &[Lit], kept: &mut Vec<Lit>)
     requires marked { (l : ℕ) → is_marked (at marks.old l) ≡ has lits.now l }
     requires empty { kept.old.items ≡ [] }

@@ -70,11 +70,11 @@ pub(crate) fn take_in<M: Memory>(
     lits: &[Lit],
 ) -> Result<usize, OutOfMemory>
     requires { (l : ℕ) → is_marked (at marks.old l) ≡ false }
+    ensures clear { (l : ℕ) → is_marked (at marks.new l) ≡ false }
     ensures taken { IfOk result (λ slot.
         IsTakenIn (M.seen memory.old) (M.seen memory.new) slot lits.now) }
     ensures known { OnOk result ((l : ℕ) → has lits.now l ≡ true → IsSome (at marks.new l)) }
     ensures still_known { (l : ℕ) → IsSome (at marks.old l) → IsSome (at marks.new l) }
-    ensures clear { (l : ℕ) → is_marked (at marks.new l) ≡ false }
     ensures err { OnErr result (M.seen memory.new ≡ M.seen memory.old) }
     ensures few_slots { (M.seen memory.new).slots ≤
         (M.seen memory.old).slots + slots_for (size lits.now) }

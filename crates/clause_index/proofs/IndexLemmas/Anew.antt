@@ -1,12 +1,10 @@
 -- Slots that are put into chains one after the other.
-use Rattle.std.proofs.Common.{◌≡◌, ℕ, ◌+◌, ◌<◌, ◌≤◌, List, [], length, get_or, Option, Some}
-use Rattle.std.proofs.Common.{None, if◌then◌else◌, ◌==◌, replicate, ◌∙◌, inl}
-use Rattle.std.proofs.Common.{inr, arith, eq-eqb, ne_eqb}
-use Rattle.std.proofs.lemmas.Bool.{cases_lt}
-use Rattle.std.proofs.lemmas.{List.get_or-replicate, List.length-replicate}
-use Rattle.clause_index.specs.Code.Chains.{AreChained, ArePlaced, IsHeld, below, home}
-use Rattle.clause_index.specs.{Code.Chains.link_at, declared.link.Link.Link}
 use Rattle.clause_index.proofs.IndexLemmas.Chains.{home_below, linked_same, not_self}
+use Rattle.clause_index.specs.Code.Chains.{AreChained, ArePlaced, IsHeld, below, home, link_at}
+use Rattle.{clause_index.specs.declared.link.Link.Link, std.proofs.Common.{List, None, Option}}
+use Rattle.std.proofs.Common.{Some, [], arith, eq-eqb, get_or, if◌then◌else◌, inl, inr, length}
+use Rattle.std.proofs.Common.{ne_eqb, replicate, ℕ, ◌+◌, ◌<◌, ◌==◌, ◌∙◌, ◌≡◌, ◌≤◌}
+use Rattle.std.proofs.lemmas.{Bool.cases_lt, List.{get_or-replicate, length-replicate}}
 
 -- what is held told by another function with the same values
 pub chained_same : (links : List Link) (heads : List ℕ) (held now : ℕ → Option ℕ)

@@ -1,12 +1,9 @@
 -- Chains, through a change of links.
-use Rattle.std.proofs.Common.{◌≡◌, ◌≢◌, ℕ, zero, suc, ◌<◌, ◌≤◌, true}
-use Rattle.std.proofs.Common.{List, [], ◌∷◌, length, refl, ap, arith}
-use Rattle.std.proofs.lemmas.{Nat.and_le_r}
-use Rattle.cnf_base.specs.Literals.{has, size, without}
-use Rattle.cnf_base.proofs.SetLemmas.{has_head, without_has}
+use Rattle.clause_index.specs.{Code.Chains.{AreLinked, home, link_at}, declared.link.Link.Link}
+use Rattle.cnf_base.{proofs.SetLemmas.{has_head, without_has}, specs.Literals.{has, size, without}}
 use Rattle.cnf_base.proofs.SizeLemmas.{distinct_parts, size_covered, size_le_length, without_absent}
-use Rattle.clause_index.specs.Code.Chains.{AreLinked, home, link_at}
-use Rattle.clause_index.specs.declared.link.Link.{Link}
+use Rattle.std.proofs.Common.{List, [], ap, arith, length, refl, suc, true, zero, ℕ, ◌<◌, ◌∷◌, ◌≡◌}
+use Rattle.std.proofs.{Common.{◌≢◌, ◌≤◌}, lemmas.Nat.and_le_r}
 
 -- ---- Links that are as before for the slots of a chain
 

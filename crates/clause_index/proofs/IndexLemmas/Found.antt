@@ -1,12 +1,10 @@
 -- What a search says of the clauses.
-use Rattle.std.proofs.Common.{◌≡◌, ◌≢◌, ℕ, ◌<◌, Bool, true, false, List, Some, option_map, length}
-use Rattle.std.proofs.Common.{ap, ◌∙◌, arith, nat_cmp}
-use Rattle.std.specs.FinMap.{FinMap}
+use Rattle.clause_index.{proofs.IndexLemmas.Anew.each_held, specs.Code.Chains.{Indexes, IsHeld}}
+use Rattle.clause_index.specs.{Code.Chains.{hash_in, home, link_at}, Hashes.hash}
+use Rattle.{clause_index.specs.declared.index.Index.Index, cnf_base.specs.Literals.{Clause, has}}
+use Rattle.std.proofs.Common.{Bool, List, Some, ap, arith, false, length, nat_cmp, option_map, true}
+use Rattle.std.{proofs.Common.{ℕ, ◌<◌, ◌∙◌, ◌≡◌, ◌≢◌}, specs.FinMap.FinMap}
 use Rattle.std.specs.FinMap as maps
-use Rattle.cnf_base.specs.Literals.{Clause, has}
-use Rattle.clause_index.specs.{Hashes.hash, declared.index.Index.Index}
-use Rattle.clause_index.specs.Code.Chains.{Indexes, IsHeld, hash_in, home, link_at}
-use Rattle.clause_index.proofs.IndexLemmas.Anew.{each_held}
 
 -- a clause in the slot with this hash isn't sought
 abbrev pub IsNot : ℕ → FinMap nat_cmp Clause → ℕ → (ℕ → Bool) → ℕ → Type 0
@@ -46,3 +44,5 @@ module _ (index : Index) (live : FinMap nat_cmp Clause) (sound : Indexes index l
   pub other_hash : (key s : ℕ) (is : ℕ → Bool) → (link_at index.links.items s).hash ≢ key
       → IsNot index.seed live key is s
   other_hash key s is ne c there alike = absurd (ne ((is_held s c there).hash ∙ alike))
+
+pub ruleset inside_facts = (some_heads, is_inside, is_low)

@@ -1,11 +1,9 @@
 -- The hash of a clause, through a walk over it.
-use Rattle.std.proofs.Common.{◌≡◌, ℕ, ◌+◌, ◌/◌, ◌%◌, ◌^◌, ◌<◌, ◌≤◌, true, false, [], ◌∷◌, ◌++◌}
-use Rattle.std.proofs.Common.{length, take, get_or, refl, arith}
-use Rattle.std.proofs.lemmas.List.{take_all}
-use Rattle.cnf_base.specs.Literals.{Literal, Clause, has}
-use Rattle.cnf_base.{specs.Code.Literals.sum_distinct, proofs.WalkLemmas.take_is}
-use Rattle.cnf_base.proofs.SizeLemmas.{IsWithin, sum_same, sum_push}
-use Rattle.clause_index.specs.Hashes.{mix, sum_mixed, mixed_sum, hash}
+use Rattle.clause_index.specs.Hashes.{hash, mix, mixed_sum, sum_mixed}
+use Rattle.cnf_base.proofs.{SizeLemmas.{IsWithin, sum_push, sum_same}, WalkLemmas.take_is}
+use Rattle.cnf_base.specs.{Code.Literals.sum_distinct, Literals.{Clause, Literal, has}}
+use Rattle.std.proofs.Common.{[], arith, false, get_or, length, refl, take, true, ℕ, ◌%◌, ◌++◌, ◌+◌}
+use Rattle.std.proofs.{Common.{◌/◌, ◌<◌, ◌^◌, ◌∷◌, ◌≡◌, ◌≤◌}, lemmas.List.take_all}
 
 -- ---- One more literal at the end
 

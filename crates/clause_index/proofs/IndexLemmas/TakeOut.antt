@@ -1,15 +1,13 @@
 -- A slot that is taken out of its chain.
-use Rattle.std.proofs.Common.{◌≡◌, ◌≢◌, ℕ, ◌<◌, true, false, cond, List, length, get_or, Option}
-use Rattle.std.proofs.Common.{Some, None, if◌then◌else◌, ◌==◌, arith, refl, ap, ◌∙◌, subst, ne_eqb}
-use Rattle.std.proofs.Common.{set, get_or-set_same, get_or-set_other, length-set, ◌≤◌}
-use Rattle.clause_index.specs.Code.Chains.{ArePlaced}
-use Rattle.clause_index.proofs.IndexLemmas.Chains.{not_self}
-use Rattle.clause_index.proofs.IndexLemmas.Anew.{all_chained}
-use Rattle.cnf_base.specs.Literals.{has, without}
-use Rattle.cnf_base.proofs.{SetLemmas.has-without, SetLemmas.without_has, SizeLemmas.without_absent}
-use Rattle.clause_index.specs.Code.Chains.{AreChained, AreLinked, AreVacant, home, link_at}
-use Rattle.clause_index.{specs.declared.link.Link.Link, proofs.IndexLemmas.Chains.without_apart}
-use Rattle.clause_index.proofs.IndexLemmas.Chains.{first_out, home_below, linked_same, next_out}
+use Rattle.clause_index.proofs.IndexLemmas.{Anew.all_chained, Chains.{first_out, home_below}}
+use Rattle.clause_index.proofs.IndexLemmas.Chains.{linked_same, next_out, not_self, without_apart}
+use Rattle.clause_index.specs.Code.Chains.{AreChained, AreLinked, ArePlaced, AreVacant, home}
+use Rattle.clause_index.specs.{Code.Chains.link_at, declared.link.Link.Link}
+use Rattle.cnf_base.proofs.{SetLemmas.{has-without, without_has}, SizeLemmas.without_absent}
+use Rattle.{cnf_base.specs.Literals.{has, without}, std.proofs.Common.{List, None, Option, Some}}
+use Rattle.std.proofs.Common.{ap, arith, cond, false, get_or, get_or-set_other, get_or-set_same}
+use Rattle.std.proofs.Common.{if◌then◌else◌, length, length-set, ne_eqb, refl, set, subst, true, ℕ}
+use Rattle.std.proofs.Common.{◌<◌, ◌==◌, ◌∙◌, ◌≡◌, ◌≢◌, ◌≤◌}
 
 module _ (links after : List Link) (heads firsts : List ℕ) (held : ℕ → Option ℕ) (old : AreChained links heads held)
     (slot hash : ℕ) (is_held : held slot ≡ Some hash)

@@ -1,12 +1,9 @@
 -- A walk along a chain.
-use Rattle.std.proofs.Common.{drop}
-use Rattle.std.proofs.Common.{◌≡◌, ◌≢◌, ℕ, ◌+◌, ◌≤◌, true, false, List, [], ◌∷◌, length, refl, sym}
-use Rattle.std.proofs.Common.{ap, ◌∙◌, arith}
-use Rattle.std.proofs.lemmas.{Grind.common_steps, Bool.false≢true}
-use Rattle.cnf_base.specs.Literals.{has}
-use Rattle.cnf_base.proofs.SetLemmas.{has_head, has_tail, has_cases}
-use Rattle.clause_index.specs.{Code.Chains.AreLinked, Code.Chains.link_at, declared.link.Link.Link}
-use Rattle.clause_index.proofs.IndexLemmas.Chains.{first_in}
+use Rattle.clause_index.{proofs.IndexLemmas.Chains.first_in, specs.Code.Chains.{AreLinked, link_at}}
+use Rattle.{clause_index.specs.declared.link.Link.Link, std.proofs.Common.{◌∙◌, ◌∷◌, ◌≡◌, ◌≢◌, ◌≤◌}}
+use Rattle.cnf_base.{proofs.SetLemmas.{has_cases, has_head, has_tail}, specs.Literals.has}
+use Rattle.std.proofs.Common.{List, [], ap, arith, drop, false, length, refl, sym, true, ℕ, ◌+◌}
+use Rattle.std.proofs.lemmas.{Bool.false≢true, Grind.common_steps}
 
 -- what is left of a chain from this slot on, after so many steps: a slot that is sought is in it
 pub record IsLeft (links : List Link) (chain : List ℕ) (slot step at : ℕ) : Type 0 where
@@ -71,3 +68,5 @@ module _ (links : List Link) (chain : List ℕ) (Tested : ℕ → Type 0) (step 
 
   pub search_over : length chain ≤ step → (s : ℕ) → has chain s ≡ true → Tested s
   search_over over s h = grind (arith, common_steps)
+
+pub ruleset walk_facts = (at_in, steps_on)

@@ -1,12 +1,10 @@
 -- What is held, through a change of the clauses.
-use Rattle.std.proofs.Common.{◌≡◌, ◌≢◌, ℕ, ◌==◌, Option, Some, None, if◌then◌else◌, option_map, sym}
-use Rattle.std.proofs.Common.{ap, subst, arith, nat_cmp}
-use Rattle.std.specs.FinMap.{FinMap}
-use Rattle.std.specs.FinMap as maps
-use Rattle.cnf_base.specs.Literals.{Clause}
-use Rattle.cnf_base.proofs.MapLemmas.{insert_here, insert_other, remove_here, remove_other}
+use Rattle.{clause_index.specs.Code.Chains.{Indexes, IsIndexed, hash_in}, std.specs.FinMap.FinMap}
 use Rattle.clause_index.specs.{Hashes.hash, declared.index.Index.Index}
-use Rattle.clause_index.specs.Code.Chains.{Indexes, IsIndexed, hash_in}
+use Rattle.cnf_base.proofs.MapLemmas.{insert_here, insert_other, remove_here, remove_other}
+use Rattle.{cnf_base.specs.Literals.Clause, std.proofs.Common.{subst, sym, ℕ, ◌==◌, ◌≡◌, ◌≢◌}}
+use Rattle.std.proofs.Common.{None, Option, Some, ap, arith, if◌then◌else◌, nat_cmp, option_map}
+use Rattle.std.specs.FinMap as maps
 
 module _ (seed : ℕ) (live : FinMap nat_cmp Clause) (slot : ℕ) where
   pub held_less : (s : ℕ)

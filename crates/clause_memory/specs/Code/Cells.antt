@@ -3,10 +3,11 @@
 use Rattle.std.specs.FinMap as maps
 use Rattle.std.specs.FinMap.{FinMap}
 use Rattle.std.specs.Ordering.{nat_cmp}
-use Rattle.std.specs.Prelude.{◌≡◌, ℕ, zero, suc, ◌+◌, ◌-◌, ◌*◌, ◌<◌, ◌≤◌, ◌==◌, Bool, true}
+use Rattle.std.specs.Prelude.{◌≡◌, ◌≢◌, ℕ, zero, suc, ◌+◌, ◌-◌, ◌*◌, ◌<◌, ◌≤◌, ◌==◌, Bool, true}
 use Rattle.std.specs.Prelude.{false, List, [], ◌∷◌, length, take, drop, slice_index, slice_index_or}
-use Rattle.std.specs.Prelude.{if◌then◌else◌, sum_by, replicate}
+use Rattle.std.specs.Prelude.{if◌then◌else◌, sum_by, replicate, Some, None}
 use Rattle.cnf_base.specs.Literals.{Clause}
+use Rattle.clause_memory.specs.Blocks.{cells_for}
 use Rattle.clause_memory.specs.declared.kind.Kind.{Kind}
 use Rattle.clause_memory.specs.declared.kind.Kind.TheVariants.{Live, Free, Rest}
 
@@ -107,3 +108,11 @@ clauses_from words n (Rest ∷ rest) = clauses_from words (n + 1) rest
 -- each clause, by the number of the cell at which its block begins
 unfoldable pub clauses_in : List Kind → List ℕ → FinMap nat_cmp Clause
 clauses_in kinds words = clauses_from words 0 kinds
+
+-- a clause was put into a slot that had none, with a block of its size; no other block changed
+pub record IsPlaced (live live2 : FinMap nat_cmp Clause) (blocks blocks2 : FinMap nat_cmp ℕ)
+    (slot : ℕ) (lits : Clause) : Type 0 where
+  pub free : maps.get live slot ≡ None
+  pub clauses : live2 ≡ maps.insert live slot lits
+  pub block : maps.get blocks2 slot ≡ Some (cells_for (length lits))
+  pub other_blocks : (s : ℕ) → s ≢ slot → maps.get blocks2 s ≡ maps.get blocks s

@@ -1,26 +1,23 @@
 -- The words that a tool accepts are not refused.
-use Rattle.clap.specs.Faults.{check_fault, default_fault, defaults_fault}
-use Rattle.clap.specs.Faults.{fault_of, settle_fault, turn_fault, walk_fault}
-use Rattle.clap.specs.{Kinds.Kinds, Kinds.or_else, Takes.is_given, Walk.Held, Walk.Row}
-use Rattle.clap.specs.Walk.{Text, Walk, finished, nothing_held, settled, walk, walked, with_default}
-use Rattle.command_line.proofs.CommandLineLemmas.Ends.{row_at_end}
-use Rattle.command_line.proofs.CommandLineLemmas.Rows.{names_added, names_kept}
+use Rattle.clap.specs.Faults.{check_fault, default_fault, defaults_fault, fault_of, settle_fault}
+use Rattle.clap.specs.{Faults.walk_fault, Kinds.{Kinds, or_else}, Takes.is_given, Walk.with_default}
+use Rattle.clap.specs.Walk.{Held, Row, Text, Walk, finished, nothing_held, settled, walk}
+use Rattle.command_line.proofs.CommandLineLemmas.{Ends.row_at_end, Rows.{names_added, names_kept}}
 use Rattle.command_line.proofs.CommandLineLemmas.Rules.{fault_is, files_and_texts, flag_full}
-use Rattle.command_line.proofs.CommandLineLemmas.{Rules.rules_of, Rules.top_of, Steps.After}
-use Rattle.command_line.proofs.CommandLineLemmas.Steps.{Shows, end_mark, flag_passes, hyphen_passes}
-use Rattle.command_line.proofs.CommandLineLemmas.Steps.{name_passes, start_after, step_after}
-use Rattle.command_line.proofs.CommandLineLemmas.{Steps.tail_free, Steps.words_after, Turns.at}
-use Rattle.command_line.specs.{Code.Commands.command_of, Words.Accepts, Words.is_among}
-use Rattle.command_line.specs.Words.{is_empty_word, is_flag, is_known, is_read_twice, is_some_empty}
-use Rattle.command_line.specs.{Words.names, Words.times, declared.tool.Tool.TheVariants.Drat}
-use Rattle.command_line.specs.declared.tool.Tool.{TheVariants.Lrat, TheVariants.Model, Tool}
+use Rattle.{command_line.proofs.CommandLineLemmas.Rules.{rules_of, top_of}, std.proofs.Common.◌≤◌}
+use Rattle.command_line.proofs.CommandLineLemmas.Steps.{After, Shows, end_mark, flag_passes}
+use Rattle.command_line.proofs.CommandLineLemmas.Steps.{hyphen_passes, name_passes, start_after}
+use Rattle.command_line.proofs.CommandLineLemmas.Steps.{step_after, tail_free, words_after}
+use Rattle.{command_line.proofs.CommandLineLemmas.Turns.{Passes, at, taken}, std.specs.Str.bytes_eq}
+use Rattle.{command_line.specs.Code.Commands.command_of, std.specs.List.{fold, list_all, list_any}}
+use Rattle.command_line.specs.Words.{Accepts, is_among, is_empty_word, is_flag, is_known}
+use Rattle.command_line.specs.Words.{is_read_twice, is_some_empty, names, times}
+use Rattle.command_line.specs.declared.tool.Tool.{Tool, TheVariants.{Drat, Lrat, Model}}
 use Rattle.std.proofs.Common.{Bool, List, None, Option, Some, String, [], ap, ap₂, arith, codes}
 use Rattle.std.proofs.Common.{false, length, length-append, option_map, refl, rules, string_bytes}
 use Rattle.std.proofs.Common.{subst, suc, true, true≢false, zero, ℕ, ◌++◌, ◌+◌, ◌<◌, ◌∙◌, ◌∷◌, ◌≡◌}
-use Rattle.std.proofs.{Common.◌≤◌, lemmas.Bool.Decides.nat_tests, lemmas.Grind.common_steps}
-use Rattle.std.{proofs.lemmas.Slice.Eq.bytes_eq-Decides, specs.List.fold, specs.List.list_all}
-use Rattle.std.specs.{List.list_any, Prelude.drop, Prelude.filter, Prelude.is_some, Prelude.not}
-use Rattle.std.specs.{Prelude.slice_get, Prelude.◌&&◌, Prelude.◌==◌, Prelude.◌||◌, Str.bytes_eq}
+use Rattle.std.proofs.lemmas.{Bool.Decides.nat_tests, Grind.common_steps, Slice.Eq.bytes_eq-Decides}
+use Rattle.std.specs.Prelude.{drop, filter, is_some, not, slice_get, ◌&&◌, ◌==◌, ◌||◌}
 
 nils : (a b : Kinds) → a ≡ [] → b ≡ [] → or_else a b ≡ []
 nils a b e f = ap₂ or_else e f
@@ -40,8 +37,9 @@ all_defaults_fault Drat rows = simp (nils, flag_default_fault, flag_full, files_
 all_defaults_fault Lrat rows = search rules
 all_defaults_fault Model rows = files_fault rows
 
-formula_given : (tool : Tool) (words ns : List Text) (rows : List Row) → Shows tool words ns rows
-    → 1 ≤ length ns → is_given (codes "formula") (fold with_default rows (rules_of tool)) ≡ true
+formula_given : (tool : Tool) (words ns : List Text) (rows : List Row) →
+    Shows tool words ns rows → 1 ≤ length ns →
+    is_given (codes "formula") (fold with_default rows (rules_of tool)) ≡ true
 formula_given tool words [] rows s some = absurd (omega arith)
 formula_given tool words (a ∷ ns) rows s some = search (rules, row_at_end)
 
@@ -57,7 +55,8 @@ both a b h = search rules
 neither : (a b : Bool) → (a || b) ≡ false → (a ≡ false) × (b ≡ false)
 neither a b h = search rules
 
-pub known_free : (tool : Tool) (words : List Text) → list_all (is_known tool) words ≡ true → is_among words end_mark ≡ false
+pub known_free : (tool : Tool) (words : List Text) → list_all (is_known tool) words ≡ true →
+    is_among words end_mark ≡ false
 known_free tool [] known = refl
 known_free tool (word ∷ words) known = grind (arith, both, (known_free tool words))
 
@@ -77,39 +76,40 @@ module _ (tool : Tool) (done : List Text) (word : Text) (words : List Text) (fit
   names_step true e = grind (arith, names_kept)
   names_step false e = grind (arith, names_added, length-append)
 
-turn_passes : (tool : Tool) (done : List Text) (word : Text) (words : List Text) → Fits tool done (word ∷ words) → (w : Walk) → After tool done w
-    → turn_fault (top_of tool) [] w word ≡ []
+turn_passes : (tool : Tool) (done : List Text) (word : Text) (words : List Text) →
+    Fits tool done (word ∷ words) → (w : Walk) → After tool done w → Passes tool w word
 turn_passes tool done word words fits w a = go (is_flag tool word) refl
   where
-    plain_word : (word : Text) → is_empty_word word ≡ false → is_known tool word ≡ true → is_flag tool word ≡ false → length (names tool done) < 2
-        → turn_fault (top_of tool) [] w word ≡ []
+    plain_word : (word : Text) → is_empty_word word ≡ false → is_known tool word ≡ true →
+        is_flag tool word ≡ false → length (names tool done) < 2 → Passes tool w word
     plain_word [] full known flag few = absurd (true≢false full)
     plain_word (x ∷ xs) full known flag few = by_first (x == 45) refl (grind arith)
       where
-        by_first : (b : Bool) → (x == 45) ≡ b → (not b || bytes_eq (x ∷ xs) (codes "-")) ≡ true → turn_fault (top_of tool) [] w (x ∷ xs) ≡ []
+        by_first : (b : Bool) → (x == 45) ≡ b →
+            (not b || bytes_eq (x ∷ xs) (codes "-")) ≡ true → Passes tool w (x ∷ xs)
         by_first false e k = name_passes tool done w a x xs flag e few
-        by_first true e k = subst (λ l. turn_fault (top_of tool) [] w l ≡ []) (search rules)
-            (hyphen_passes tool done w a few)
+        by_first true e k = subst (Passes tool w) (search rules) (hyphen_passes tool done w a few)
 
-    go : (b : Bool) → is_flag tool word ≡ b → turn_fault (top_of tool) [] w word ≡ []
+    go : (b : Bool) → is_flag tool word ≡ b → Passes tool w word
     go true flag =
         flag_passes tool done w a word flag (grind (arith, bytes_eq-Decides, never_among))
     go false flag =
         plain_word word (neither _ _ fits.full).0 (both _ _ fits.known).0 flag (grind arith)
 
-walk_passes : (tool : Tool) (words done : List Text) (w : Walk) → After tool done w → Fits tool done words → walk_fault (top_of tool) [] w words ≡ []
+walk_passes : (tool : Tool) (words done : List Text) (w : Walk) → After tool done w →
+    Fits tool done words → walk_fault (top_of tool) [] w words ≡ []
 unfolding walk_fault
 walk_passes tool [] done w a fits = refl
 walk_passes tool (word ∷ words) done w a fits =
     let passes = turn_passes tool done word words fits w a in
     let apart = tail_free word words (search (rules, known_free)) in
     nils _ _ passes
-    (walk_passes tool words (done ++ word ∷ []) (walked (rules_of tool) [] w word)
-    (grind (arith, step_after))
+    (walk_passes tool words (done ++ word ∷ []) (taken tool w word) (grind (arith, step_after))
     (search (rules, arith, common_steps, nat_tests, names_step, neither, both)))
 
 -- a parse of accepted words has no fault
-pub no_fault : (tool : Tool) (words : List Text) → Accepts tool (drop 1 words) → fault_of (command_of tool) words ≡ []
+pub no_fault : (tool : Tool) (words : List Text) → Accepts tool (drop 1 words) →
+    fault_of (command_of tool) words ≡ []
 no_fault tool words accepts =
     let said = drop 1 words in
     let fits : Fits tool [] said = search (rules, arith, accepts.most, accepts.once) in
@@ -129,31 +129,34 @@ has_formula tool words accepts none = go (names tool words) accepts.least none
     go (a ∷ ns) least none = cc
 
 -- what is left of words none of which passes a test
-none_left : (p t : Text → Bool) (words : List Text) → list_any t words ≡ false → list_any t (filter p words) ≡ false
+none_left : (p t : Text → Bool) (words : List Text) → list_any t words ≡ false →
+    list_any t (filter p words) ≡ false
 none_left p t [] e = refl
 none_left p t (w ∷ ws) e = grind (arith, (none_left p t ws), list_any, true≢false)
 
-at_none : (t : Text → Bool) (words : List Text) (k : ℕ) (w : Text) → list_any t words ≡ false → Some w ≡ slice_get words k → t w ≡ false
+at_none : (t : Text → Bool) (words : List Text) (k : ℕ) (w : Text) → list_any t words ≡ false →
+    Some w ≡ slice_get words k → t w ≡ false
 at_none t [] k w e is = absurd (true≢false (ap is_some is))
 at_none t (x ∷ xs) zero w e is = search rules
 at_none t (x ∷ xs) (suc k) w e is = at_none t xs k w (search rules) is
 
--- the names of accepted words are not empty
-pub names_full : {Z : Type 0} (tool : Tool) (words : List Text) (formula : Text) (second : Option (String Z)) → Accepts tool words
-    → Some formula ≡ slice_get (names tool words) 0 → option_map string_bytes second ≡ slice_get (names tool words) 1
-    → (is_empty_word formula || is_some_empty second) ≡ false
-names_full {Z} tool words formula second accepts first then_second =
-    rw (at_none is_empty_word (names tool words) 0 formula full first) (by second then_second)
-  where
-    full : list_any is_empty_word (names tool words) ≡ false
-    full = search (rules, none_left)
+module _ {Z : Type 0} (tool : Tool) (words : List Text) (formula : Text)
+    (second : Option (String Z)) (accepts : Accepts tool words)
+    (first : Some formula ≡ slice_get (names tool words) 0)
+    (then_second : option_map string_bytes second ≡ slice_get (names tool words) 1) where
+  -- the names of accepted words are not empty
+  pub names_full : (is_empty_word formula || is_some_empty second) ≡ false
+  names_full = rw (at_none is_empty_word (names tool words) 0 formula full first)
+      (by second then_second)
+    where
+      full : list_any is_empty_word (names tool words) ≡ false
+      full = search (rules, none_left)
 
-    by : (s : Option (String Z)) → option_map string_bytes s ≡ slice_get (names tool words) 1 → is_some_empty s ≡ false
-    by None is = refl
-    by (Some name) is = at_none is_empty_word (names tool words) 1 (string_bytes name) full is
+      by : (s : Option (String Z)) → option_map string_bytes s ≡ slice_get (names tool words) 1 →
+          is_some_empty s ≡ false
+      by None is = refl
+      by (Some name) is = at_none is_empty_word (names tool words) 1 (string_bytes name) full is
 
--- not both names of accepted words are standard input
-pub names_apart : {Z : Type 0} (tool : Tool) (words : List Text) (formula : Text) (second : Option (String Z)) → Accepts tool words
-    → Some formula ≡ slice_get (names tool words) 0 → option_map string_bytes second ≡ slice_get (names tool words) 1
-    → is_read_twice (Some formula) (option_map string_bytes second) ≡ false
-names_apart tool words formula second accepts first then_second = cc
+  -- nor are both standard input
+  pub names_apart : is_read_twice (Some formula) (option_map string_bytes second) ≡ false
+  names_apart = cc

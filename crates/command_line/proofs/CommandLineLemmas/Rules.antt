@@ -3,10 +3,8 @@ use Rattle.clap.specs.Faults.{built_fault, fault_of, is_simple_and_free, level_f
 use Rattle.clap.specs.Simple.{Shape, filled, help_rule, matches_of, version_rule, with_index}
 use Rattle.clap.specs.Walk.{Held, Rule, Text, nothing_held, rows_after}
 use Rattle.command_line.specs.Code.Commands.{command_of, flag_rule, formula_rule, second_rule}
-use Rattle.command_line.specs.declared.tool.Tool.TheVariants.{Drat, Lrat, Model}
-use Rattle.command_line.specs.declared.tool.Tool.{Tool}
-use Rattle.std.proofs.Common.{List, [], codes, false, rules, true, ◌∷◌, ◌≡◌}
-use Rattle.std.specs.Prelude.{drop}
+use Rattle.command_line.specs.declared.tool.Tool.{Tool, TheVariants.{Drat, Lrat, Model}}
+use Rattle.std.{proofs.Common.{List, [], codes, false, rules, true, ◌∷◌, ◌≡◌}, specs.Prelude.drop}
 
 abbrev pub flag_full : Text → Rule
 flag_full name = filled (flag_rule name)

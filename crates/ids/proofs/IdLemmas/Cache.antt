@@ -36,11 +36,14 @@ module _ (lines : List Line) (mask number : ℕ) (has : mask < length lines) (li
   line_is : line ≡ get_or lines (bit_and number mask) free
   line_is = read ∙ get_or_default lines (bit_and number mask) line free inside
 
-  pub among_here : line.number ≡ number → page_among lines mask number ≡ line.page
-  among_here is = ap (λ (l : Line). page_of l number) (sym line_is) ∙ page_of-here line number is
+  pub among_line : page_among lines mask number ≡ page_of line number
+  among_line = ap (λ (l : Line). page_of l number) (sym line_is)
 
-  pub among_none : line.number ≢ number → page_among lines mask number ≡ 0
-  among_none apart = ap (λ (l : Line). page_of l number) (sym line_is) ∙ page_of-other line number apart
+  among_here : line.number ≡ number → page_among lines mask number ≡ line.page
+  among_here is = among_line ∙ page_of-here line number is
+
+  among_none : line.number ≢ number → page_among lines mask number ≡ 0
+  among_none apart = among_line ∙ page_of-other line number apart
 
   -- it has none, so nothing has to be cleared
   pub not_cleared : line.number ≢ number → (k : ℕ) → page_among lines mask k ≡ cond (eqb k number) 0 (page_among lines mask k)

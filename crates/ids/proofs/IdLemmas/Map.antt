@@ -1,17 +1,15 @@
 -- Identifiers by pages, and as a finite map.
-use Rattle.std.specs.{BTreeMap.is_at, Map.lookup}
-use Rattle.std.proofs.Common.{◌≡◌, ◌≢◌, ℕ, zero, suc, ◌+◌, ◌/◌, ◌^◌, ◌<◌, ◌≤◌, cond, eqb, eq-eqb}
-use Rattle.std.proofs.Common.{ne_eqb, Option, Some, None, List, length, get_or, set, nat_cmp, refl}
-use Rattle.std.proofs.Common.{sym, ap, ◌∙◌, subst, arith, inl, inr, get_or-set_same}
-use Rattle.std.proofs.Common.{get_or-set_other, IfNone}
-use Rattle.std.specs.{BTreeMap.BTreeMap, FinMap.FinMap}
-use Rattle.std.proofs.lemmas.Bool.{cases_eq, cases_lt, Decides.nat_tests}
-use Rattle.std.proofs.lemmas.{List.get_or_past, Option.none-some}
-use Rattle.std.specs.FinMap as maps
 use Rattle.cnf_base.proofs.MapLemmas.{get_insert, get_remove, insert_here, insert_other, same_maps}
+use Rattle.ids.specs.Code.{Far.far_at, Ids.{IsOwned, IsPaged, as_map, entry_at, entry_for}}
+use Rattle.ids.specs.Code.Ids.{entry_in, map_below, page_at, place, slot_from, with_slot}
 use Rattle.ids.specs.declared.{directory.Directory.Directory, pages.Pages.Pages}
-use Rattle.ids.specs.Code.{Far.far_at, Ids.map_below, Ids.as_map, Ids.IsOwned, Ids.IsPaged}
-use Rattle.ids.specs.Code.Ids.{page_at, slot_from, place, entry_in, entry_at, entry_for, with_slot}
+use Rattle.std.proofs.Common.{IfNone, List, None, Option, Some, ap, arith, cond, eq-eqb, eqb}
+use Rattle.std.proofs.Common.{get_or, get_or-set_other, get_or-set_same, inl, inr, length, nat_cmp}
+use Rattle.std.proofs.Common.{ne_eqb, refl, set, subst, suc, sym, zero, ℕ, ◌+◌, ◌/◌, ◌<◌, ◌^◌, ◌∙◌}
+use Rattle.std.proofs.{Common.{◌≡◌, ◌≢◌, ◌≤◌}, lemmas.Bool.{cases_eq, cases_lt, Decides.nat_tests}}
+use Rattle.std.{proofs.lemmas.{List.get_or_past, Option.none-some}, specs.BTreeMap.BTreeMap}
+use Rattle.std.specs.{BTreeMap.is_at, FinMap.FinMap, Map.lookup}
+use Rattle.std.specs.FinMap as maps
 
 -- ---- As a finite map
 

@@ -1,10 +1,9 @@
 -- How many entries of a page are bound.
-use Rattle.std.proofs.lemmas.{Bool.Decides.nat_tests, Grind.common_steps}
-use Rattle.std.proofs.Common.{◌≡◌, ◌≢◌, ℕ, zero, suc, ◌+◌, ◌*◌, ◌<◌, ◌≤◌, cond, eq-eqb, ne_eqb}
-use Rattle.std.proofs.Common.{List, [], length, get_or, set, refl, sym, ap, ◌∙◌, subst, arith, inl}
-use Rattle.std.proofs.Common.{inr, get_or-set_same, get_or-set_other}
-use Rattle.std.proofs.lemmas.Bool.{cases_eq}
-use Rattle.ids.specs.Code.Ids.{counted_as, bound_from, Counts}
+use Rattle.{ids.specs.Code.Ids.{Counts, bound_from, counted_as}, std.proofs.Common.{List, [], ap}}
+use Rattle.std.proofs.Common.{arith, cond, eq-eqb, get_or, get_or-set_other, get_or-set_same, inl}
+use Rattle.std.proofs.Common.{inr, length, ne_eqb, refl, set, subst, suc, sym, zero, ℕ, ◌*◌, ◌+◌}
+use Rattle.std.proofs.{Common.{◌<◌, ◌∙◌, ◌≡◌, ◌≢◌, ◌≤◌}, lemmas.Bool.{cases_eq, Decides.nat_tests}}
+use Rattle.std.proofs.lemmas.Grind.{common_steps}
 
 counted_as-most : (entry : ℕ) → counted_as entry ≤ 1
 counted_as-most entry = grind arith

@@ -1,21 +1,20 @@
 -- Identifiers, slots and clauses as one finite map.
-use Rattle.std.proofs.Common.{◌≡◌, ℕ, true, Option, Some, None, option_map, List, [], ◌∷◌, map, ◌<◌}
-use Rattle.std.proofs.Common.{◌≤◌, ◌≢◌, refl, sym, arith, nat_cmp, nat_eq, length, ◌⊎◌, rules}
-use Rattle.std.specs.FinMap.{FinMap, find, get-entries, get-empty, get-from_entries}
-use Rattle.std.specs.{Option.IsSome, Cmp.nat_cmp_total, Bool.IsTrue, List.IsDistinct}
-use Rattle.std.specs.FinMap as maps
-use Rattle.cnf_base.specs.Literals.{Literal, Clause, has, same_clause}
-use Rattle.cnf_base.proofs.SetLemmas.{has_head, has_tail}
+use Rattle.{clause_db.specs.Store.{copies_with, literals_in}, std.specs.Option.IsSome}
 use Rattle.cnf_base.proofs.MapLemmas.{insert_here, insert_other, inserted_is, remove_here}
 use Rattle.cnf_base.proofs.MapLemmas.{remove_other, removed_back, same_maps, sum_insert, sum_remove}
-use Rattle.clause_db.specs.Store.{copies_with, literals_in}
+use Rattle.cnf_base.proofs.SetLemmas.{has_head, has_tail}
+use Rattle.{cnf_base.specs.Literals.{Clause, Literal, has, same_clause}, std.specs.List.IsDistinct}
 use Rattle.live_clauses.proofs.ClausesLemmas.Distinct.{distinct_head, distinct_tail}
-use Rattle.live_clauses.specs.Code.LiveClauses.{clause_at, held_at, joined, IsPaired, IsTally}
-use Rattle.live_clauses.specs.{Code.LiveClauses.AreOwners, declared.owners.Owners.Owners}
-use Rattle.live_clauses.specs.LiveClauses.{LiveClausesState, Holds, AllHold}
-use Rattle.theory.{specs.Propagation.Live, proofs.LratLemmas.LiveSets.SameClauses-refl}
-use Rattle.theory.specs.Lrat.{with_clause, without_id, SameAt, SameClauses}
+use Rattle.live_clauses.specs.Code.LiveClauses.{AreOwners, IsPaired, IsTally, clause_at, held_at}
+use Rattle.live_clauses.specs.{Code.LiveClauses.joined, declared.owners.Owners.Owners}
+use Rattle.live_clauses.specs.LiveClauses.{AllHold, Holds, LiveClausesState}
+use Rattle.std.proofs.Common.{List, None, Option, Some, [], arith, length, map, nat_cmp, nat_eq}
+use Rattle.std.proofs.Common.{option_map, refl, rules, sym, true, ℕ, ◌<◌, ◌∷◌, ◌≡◌, ◌≢◌, ◌≤◌, ◌⊎◌}
+use Rattle.std.specs.{Bool.IsTrue, FinMap.{FinMap, find, get-empty, get-entries, get-from_entries}}
+use Rattle.{std.specs.Cmp.nat_cmp_total, theory.proofs.LratLemmas.LiveSets.SameClauses-refl}
 use Rattle.theory.proofs.LratLemmas.Sums.{sum_with, sum_without, with_here, with_other}
+use Rattle.theory.specs.{Lrat.{SameAt, SameClauses, with_clause, without_id}, Propagation.Live}
+use Rattle.std.specs.FinMap as maps
 
 -- ---- The map that is seen
 

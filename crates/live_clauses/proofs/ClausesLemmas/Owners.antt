@@ -1,7 +1,6 @@
 -- The identifiers that are noted for slots, through a change.
-use Rattle.std.proofs.Common.{◌≡◌, ℕ, Some, List, slice_index, rules}
-use Rattle.std.specs.{Ordering.nat_cmp, FinMap.FinMap}
-use Rattle.live_clauses.specs.Code.LiveClauses.{AreNoted}
+use Rattle.{live_clauses.specs.Code.LiveClauses.AreNoted, std.proofs.Common.{List, Some, rules}}
+use Rattle.std.{proofs.Common.{slice_index, ℕ, ◌≡◌}, specs.{FinMap.FinMap, Ordering.nat_cmp}}
 use Rattle.std.specs.FinMap as maps
 
 -- each slot has an identifier that is bound to it, and no two are

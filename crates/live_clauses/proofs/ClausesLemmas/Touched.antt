@@ -1,14 +1,13 @@
 -- The clauses that a literal touches, by their slots and by their identifiers.
+use Rattle.{clause_db.specs.Store.IsTouchedAt, std.proofs.lemmas.List.Sorted.list_any-IsPermutation}
 use Rattle.cnf_base.specs.Literals.{Clause, Literal, complement, has}
-use Rattle.live_clauses.proofs.ClausesLemmas.Joined.{holder, joined_is}
+use Rattle.live_clauses.proofs.ClausesLemmas.{Distinct.rising_mapped, Joined.{holder, joined_is}}
 use Rattle.live_clauses.specs.Code.LiveClauses.{AreNoted, IsPaired, joined}
 use Rattle.live_clauses.specs.LiveClauses.{Holds, LiveClausesState}
 use Rattle.std.proofs.Common.{List, Some, [], arith, map, rules, slice_index, true, ℕ, ◌∙◌, ◌∷◌}
-use Rattle.std.proofs.{lemmas.List.Sorted.list_any-IsPermutation, Common.◌≡◌, lemmas.Bool.or_left}
-use Rattle.std.specs.List.Sorted.{IsPermutation, IsSorted, IsStrictlyIncreasing}
-use Rattle.theory.proofs.RenamingLemmas.Clauses.{has_mapped, mapped_has}
-use Rattle.{live_clauses.proofs.ClausesLemmas.Distinct.rising_mapped, theory.specs.Propagation.Live}
-use Rattle.{std.specs.Ordering.nat_cmp, std.specs.FinMap.FinMap, clause_db.specs.Store.IsTouchedAt}
+use Rattle.std.{proofs.{Common.◌≡◌, lemmas.Bool.or_left}, specs.FinMap.FinMap}
+use Rattle.std.specs.{List.Sorted.{IsPermutation, IsSorted, IsStrictlyIncreasing}, Ordering.nat_cmp}
+use Rattle.theory.{proofs.RenamingLemmas.Clauses.{has_mapped, mapped_has}, specs.Propagation.Live}
 use Rattle.std.specs.FinMap as maps
 
 -- those of the clauses that the literal touches, in ascending order

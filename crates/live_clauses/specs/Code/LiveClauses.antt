@@ -44,9 +44,11 @@ AreNoted by_slot ids = (k slot : ℕ) → maps.get ids k ≡ Some slot → slice
 abbrev pub owner_at : Owners → ℕ → ℕ
 owner_at owners slot = slice_index owners.by_slot.items slot
 
--- where they are kept, each identifier is noted for its slot
+-- where they are kept, each identifier is noted for its slot; each field has to be named here
 abbrev pub AreOwners : Owners → FinMap nat_cmp ℕ → Type 0
-AreOwners owners ids = owners.is_kept ≡ true → AreNoted owners.by_slot.items ids
+AreOwners owners ids =
+    let record { by_slot = by_slot; is_kept = is_kept } = owners in
+    is_kept ≡ true → AreNoted by_slot.items ids
 
 -- the sum is that of the sizes, and no identifier is past the greatest
 pub record IsTally (live : Live) (top sum : ℕ) : Type 0 where

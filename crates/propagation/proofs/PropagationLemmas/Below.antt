@@ -1,7 +1,6 @@
 -- What holds of the clauses in the slots below a number, with one slot more.
-use Rattle.std.proofs.Common.{◌≡◌, ℕ, ◌+◌, ◌<◌, Some, None, arith}
-use Rattle.std.proofs.lemmas.{Option.none-some, Option.same_Some, Bool.cases_eq}
-use Rattle.cnf_base.specs.Literals.{Clause}
+use Rattle.{cnf_base.specs.Literals.Clause, std.proofs.Common.{None, Some, arith, ℕ, ◌+◌, ◌<◌, ◌≡◌}}
+use Rattle.std.proofs.lemmas.{Bool.cases_eq, Option.{none-some, same_Some}}
 use Rattle.theory.specs.Propagation.{Live}
 
 module _ (live : Live) (Holds : Clause → Type 0) (n : ℕ) (below : (k : ℕ) (c : Clause) → k < n → live k ≡ Some c → Holds c) where

@@ -1,28 +1,24 @@
 -- All that follows with nothing assumed, and the clauses that are reasons of root-level literals.
-use Rattle.std.proofs.Common.{◌≡◌, ◌≢◌, ℕ, Result, OnOk, ◌+◌, ◌<◌, ◌≤◌, Bool, true, false, ◌&&◌}
-use Rattle.std.proofs.Common.{eqb, eqb-true, Some, None, List, [], ◌∷◌, ◌++◌, take, length, get_or}
-use Rattle.std.proofs.Common.{sym, ap, ◌∙◌, subst, arith, inl, inr}
-use Rattle.std.specs.FinMap as maps
-use Rattle.std.specs.{Ordering.nat_cmp, FinMap.FinMap}
-use Rattle.std.proofs.lemmas.Bool.{false≢true, true≢false, cases_Bool, cases_eq, or_cases, or_left}
-use Rattle.std.proofs.lemmas.List.{take-take, take_all}
-use Rattle.std.proofs.lemmas.{Option.same_Some, Bool.and_parts, Result.on_ok_weaker}
-use Rattle.cnf_base.specs.Literals.{Literal, complement, Clause, has}
-use Rattle.cnf_base.proofs.{LiteralLemmas.complement-complement, WalkLemmas.has_more}
-use Rattle.cnf_base.proofs.{MapLemmas.after_remove, MapLemmas.remove_other, WalkLemmas.has_take}
-use Rattle.cnf_base.proofs.SetLemmas.{has_append_right, has_append_cases, has_cases, has_head}
-use Rattle.clause_db.specs.Store.{IsTouchedAt}
-use Rattle.propagation.specs.Code.Closure.{AreForced, FollowsFrom, IsFollowed, TakesIn, is_old}
-use Rattle.propagation.specs.{Code.Closure.by_unit, Closure.IsWhole}
-use Rattle.theory.specs.Code.Propagation.{IsClosedAt, OthersFail}
-use Rattle.theory.specs.Propagation.{Live, IsClosed, Forced, IsRootReason, open_literals}
-use Rattle.trail.specs.{Left.how_many, Left.is_one_at_most, declared.left.Left.Left}
-use Rattle.trail.specs.declared.left.Left.TheVariants.{Nothing, One, More}
-use Rattle.theory.proofs.PropagationLemmas.{Open.AreAll, Open.open_has, Forced.forced_unit}
-use Rattle.theory.proofs.PropagationLemmas.Unit.{none_left_follow, one_left_follows}
-use Rattle.trail.proofs.TrailLemmas.Left.{nothing_is, one_is, more_differ, settled_at}
-use Rattle.trail.proofs.TrailLemmas.Longer.{has_begun}
+use Rattle.{clause_db.specs.Store.IsTouchedAt, cnf_base.proofs.LiteralLemmas.complement-complement}
+use Rattle.cnf_base.proofs.{MapLemmas.{after_remove, remove_other}, WalkLemmas.{has_more, has_take}}
+use Rattle.cnf_base.proofs.SetLemmas.{has_append_cases, has_append_right, has_cases, has_head}
+use Rattle.{cnf_base.specs.Literals.{Clause, Literal, complement, has}, std.specs.FinMap.FinMap}
 use Rattle.propagation.proofs.PropagationLemmas.Below.{below_none, below_some}
+use Rattle.{propagation.specs.{Closure.IsWhole, Code.Closure.is_old}, std.specs.Ordering.nat_cmp}
+use Rattle.propagation.specs.Code.Closure.{AreForced, FollowsFrom, IsFollowed, TakesIn, by_unit}
+use Rattle.std.proofs.Common.{Bool, List, None, OnOk, Result, Some, [], ap, arith, eqb, eqb-true}
+use Rattle.std.proofs.Common.{false, get_or, inl, inr, length, subst, sym, take, true, ℕ, ◌&&◌}
+use Rattle.std.proofs.{Common.{◌++◌, ◌+◌, ◌<◌, ◌∙◌, ◌∷◌, ◌≡◌, ◌≢◌, ◌≤◌}, lemmas.Bool.true≢false}
+use Rattle.std.proofs.lemmas.Bool.{and_parts, cases_Bool, cases_eq, false≢true, or_cases, or_left}
+use Rattle.std.proofs.lemmas.{List.{take-take, take_all}, Option.same_Some, Result.on_ok_weaker}
+use Rattle.theory.proofs.PropagationLemmas.{Forced.forced_unit, Open.{AreAll, open_has}}
+use Rattle.theory.proofs.PropagationLemmas.Unit.{none_left_follow, one_left_follows}
+use Rattle.theory.specs.{Code.Propagation.{IsClosedAt, OthersFail}, Propagation.{Forced, IsClosed}}
+use Rattle.theory.specs.Propagation.{IsRootReason, Live, open_literals}
+use Rattle.trail.proofs.TrailLemmas.Left.{more_differ, nothing_is, one_is, settled_at}
+use Rattle.trail.{proofs.TrailLemmas.Longer.has_begun, specs.Left.{how_many, is_one_at_most}}
+use Rattle.trail.specs.declared.left.Left.{Left, TheVariants.{More, Nothing, One}}
+use Rattle.std.specs.FinMap as maps
 
 pub follows_forced : (live : Live) (ls : List Literal) → AreForced live ls → (k : ℕ) (c : Clause)
     → live k ≡ Some c → (l : Literal) → FollowsFrom ls c l → Forced live [] l
@@ -222,3 +218,5 @@ module _ (live : FinMap nat_cmp Clause) (slot : ℕ) where
         };
         all = grind (arith, forced_grows);
       }
+
+pub ruleset take_steps = (all_follow, more_is_closed)

@@ -1,15 +1,12 @@
 -- How many clauses have a literal, and that one is found where the number isn't 0.
-use Rattle.std.proofs.Common.{◌≡◌, ◌≢◌, ℕ, ◌+◌, ◌<◌, Bool, true, T, ◌&&◌, Some, List}
-use Rattle.std.proofs.Common.{[], ◌∷◌, map, sum_by, is_lt, eqb-true, eq-eqb, refl, sym, ◌∙◌}
-use Rattle.std.proofs.Common.{arith, inl, inr, rules}
-use Rattle.std.specs.{FinMap.FinMap, FinMap.find, FinMap.is_sorted, Ordering.eq_by_cmp}
-use Rattle.std.specs.{FinMap.Entries.below_all, Cmp.unsigned_tied, Ordering.nat_cmp}
-use Rattle.std.proofs.lemmas.Bool.{cases_Bool, cases_eq, false_from_ne_true}
-use Rattle.std.proofs.lemmas.{List.Sums.sum_by-cons, Option.none-some}
-use Rattle.cnf_base.specs.Literals.{Literal, Clause}
-use Rattle.propagation.specs.Assumptions.{HasAt}
-use Rattle.clause_db.specs.Store.{copies_with}
-use Rattle.cnf_base.proofs.MapLemmas.{sum_remove}
+use Rattle.{clause_db.specs.Store.copies_with, cnf_base.proofs.MapLemmas.sum_remove}
+use Rattle.{cnf_base.specs.Literals.{Clause, Literal}, propagation.specs.Assumptions.HasAt}
+use Rattle.std.proofs.Common.{Bool, List, Some, T, [], arith, eq-eqb, eqb-true, inl, inr, is_lt}
+use Rattle.std.proofs.Common.{map, refl, rules, sum_by, sym, true, ℕ, ◌&&◌, ◌+◌, ◌<◌, ◌∙◌, ◌∷◌, ◌≡◌}
+use Rattle.std.proofs.{Common.◌≢◌, lemmas.Bool.{cases_Bool, cases_eq, false_from_ne_true}}
+use Rattle.std.{proofs.lemmas.{List.Sums.sum_by-cons, Option.none-some}, specs.Cmp.unsigned_tied}
+use Rattle.std.specs.{FinMap.{FinMap, find, is_sorted, Entries.below_all}, Ordering.eq_by_cmp}
+use Rattle.std.specs.Ordering.{nat_cmp}
 use Rattle.std.specs.FinMap as maps
 
 -- ---- One that is there is counted

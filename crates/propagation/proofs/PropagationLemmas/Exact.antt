@@ -1,19 +1,14 @@
 -- What a propagation keeps of the literals that are true, as assumptions come and go.
-use Rattle.std.proofs.Common.{◌≡◌, ◌≤◌, Bool, true, not, cond, arith, List, [], ◌∷◌, ◌++◌}
-use Rattle.std.proofs.Common.{length, take, sym, ◌∙◌, rules}
-use Rattle.std.proofs.lemmas.List.{length-take, take-take}
-use Rattle.cnf_base.specs.Literals.{Literal, has}
-use Rattle.cnf_base.proofs.SetLemmas.{has_append_left, has_append_right, has_append_cases}
-use Rattle.propagation.specs.Assumptions.{AssumptionsState, IsAnswer}
-use Rattle.propagation.specs.Code.Exact.{IsExact, Extends}
-use Rattle.theory.specs.Propagation.{Live, IsClosed, Forced, Clash}
-use Rattle.theory.specs.Sets.{SameSet, conflicts}
-use Rattle.propagation.specs.{declared.answer.Answer.Answer}
+use Rattle.cnf_base.proofs.SetLemmas.{has_append_cases, has_append_left, has_append_right}
+use Rattle.{cnf_base.specs.Literals.Literal, theory.proofs.PropagationLemmas.Unit.clash_of_conflict}
+use Rattle.{cnf_base.specs.Literals.has, propagation.specs.Assumptions.{AssumptionsState, IsAnswer}}
+use Rattle.propagation.specs.{Code.Exact.{Extends, IsExact}, declared.answer.Answer.Answer}
 use Rattle.propagation.specs.declared.answer.Answer.TheVariants.{Clash as AnswersClash, Quiet}
-use Rattle.trail.proofs.TrailLemmas.MakesFalse.{begins_made, longer_made}
-use Rattle.theory.proofs.PropagationLemmas.Forced.{forced_assumed, forced_through, clash_through}
-use Rattle.trail.proofs.TrailLemmas.Longer.{has_begun}
-use Rattle.theory.proofs.PropagationLemmas.Unit.{clash_of_conflict}
+use Rattle.std.proofs.Common.{Bool, List, [], arith, cond, length, not, rules, sym, take, true}
+use Rattle.std.proofs.{Common.{◌++◌, ◌∙◌, ◌∷◌, ◌≡◌, ◌≤◌}, lemmas.List.{length-take, take-take}}
+use Rattle.theory.proofs.PropagationLemmas.Forced.{clash_through, forced_assumed, forced_through}
+use Rattle.theory.specs.{Propagation.{Clash, Forced, IsClosed, Live}, Sets.{SameSet, conflicts}}
+use Rattle.trail.proofs.TrailLemmas.{Longer.has_begun, MakesFalse.{begins_made, longer_made}}
 
 -- what is forced by each of two lists that force one another is the same
 pub answer_through : (live : Live) (first second : List Literal)

@@ -1,16 +1,15 @@
 -- Clauses that are put into other slots one after the other are the same clauses.
-use Rattle.std.proofs.Common.{◌≡◌, ◌≢◌, ℕ, ◌+◌, ◌*◌, ◌<◌, true, false, cond, Some, None, List, []}
-use Rattle.std.proofs.Common.{◌∷◌, sum_by, IsSome, nat_le, ◌≤◌, ap, ◌∙◌, arith, rules}
-use Rattle.std.specs.{Ordering.nat_cmp, FinMap.FinMap}
-use Rattle.std.proofs.lemmas.{List.Sums.sum_by-cons, Bool.cases_lt, Bool.lt-leb}
-use Rattle.std.specs.FinMap as maps
-use Rattle.cnf_base.specs.{Literals.Clause, Literals.same_clause, Literals.size, Maps.sum_over}
-use Rattle.cnf_base.proofs.{MapLemmas.inserted_is, MapLemmas.sum_insert, SizeLemmas.size_same}
-use Rattle.cnf_base.proofs.SetLemmas.{both_pass, same_back, same_symm, same_there, same_trans}
-use Rattle.clause_db.{specs.Store.slots_for, proofs.StoreLemmas.Below.gone}
 use Rattle.clause_db.proofs.StoreLemmas.Below.{below, below_all, below_next, below_none, below_same}
-use Rattle.propagation.specs.{Slots.most_slots, Slots.slots_needed, Assumptions.Propagation}
-use Rattle.theory.specs.Drat.{SameLive}
+use Rattle.clause_db.{proofs.StoreLemmas.Below.gone, specs.Store.slots_for}
+use Rattle.cnf_base.proofs.{MapLemmas.{inserted_is, sum_insert}, SetLemmas.{both_pass, same_back}}
+use Rattle.cnf_base.proofs.{SetLemmas.{same_symm, same_there, same_trans}, SizeLemmas.size_same}
+use Rattle.cnf_base.specs.{Literals.{Clause, same_clause, size}, Maps.sum_over}
+use Rattle.propagation.specs.{Assumptions.Propagation, Slots.{most_slots, slots_needed}}
+use Rattle.std.proofs.Common.{IsSome, List, None, Some, [], ap, arith, cond, false, nat_le, rules}
+use Rattle.std.proofs.Common.{sum_by, true, ℕ, ◌*◌, ◌+◌, ◌<◌, ◌∙◌, ◌∷◌, ◌≡◌, ◌≢◌, ◌≤◌}
+use Rattle.std.{proofs.lemmas.{Bool.{cases_lt, lt-leb}, List.Sums.sum_by-cons}, specs.FinMap.FinMap}
+use Rattle.{std.specs.Ordering.nat_cmp, theory.specs.Drat.SameLive}
+use Rattle.std.specs.FinMap as maps
 
 -- what a clause counts as a copy of `e`
 abbrev pub is_copy : Clause → Clause → ℕ

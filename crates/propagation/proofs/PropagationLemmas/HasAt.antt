@@ -1,8 +1,7 @@
 -- Slots whose clauses lack a literal.
-use Rattle.std.proofs.Common.{◌≡◌, ℕ, ◌+◌, ◌<◌, ◌≤◌, false, Some, None, ◌∙◌, arith}
-use Rattle.std.proofs.lemmas.{Option.none-some, Option.same_Some, Bool.true≢false, Bool.cases_eq}
-use Rattle.cnf_base.specs.Literals.{Literal, Clause, has}
-use Rattle.propagation.specs.Assumptions.{HasAt}
+use Rattle.{cnf_base.specs.Literals.{Clause, Literal, has}, propagation.specs.Assumptions.HasAt}
+use Rattle.std.proofs.Common.{None, Some, arith, false, ℕ, ◌+◌, ◌<◌, ◌∙◌, ◌≡◌, ◌≤◌}
+use Rattle.std.proofs.lemmas.{Bool.{cases_eq, true≢false}, Option.{none-some, same_Some}}
 use Rattle.theory.specs.Propagation.{Live}
 
 module _ (live : Live) (l : Literal) where
@@ -15,3 +14,5 @@ module _ (live : Live) (l : Literal) where
   pub lacks_next : (from n : ℕ) → ((s : ℕ) → from ≤ s → s < n → HasAt live l s → ⊥)
       → (HasAt live l n → ⊥) → (s : ℕ) → from ≤ s → s < n + 1 → HasAt live l s → ⊥
   lacks_next from n below here s low high h = grind (arith, cases_eq)
+
+pub ruleset lack_steps = (lacks_more, lacks_none)

@@ -1,28 +1,25 @@
 -- Variables that assumptions noted, as assumptions come and go.
-use Rattle.std.proofs.Common.{◌≡◌, ◌≢◌, ℕ, ◌+◌, ◌/◌, ◌<◌, ◌≤◌, Bool, true, false, not, cond}
-use Rattle.std.proofs.Common.{eqb-true, eq-eqb, List, [], ◌∷◌, ◌++◌, is_some, map, filter, take}
-use Rattle.std.proofs.Common.{length, length-append, get_or, refl, sym, ◌∙◌, subst, inl, inr, ◌⊎◌}
-use Rattle.std.proofs.Common.{arith, append-nil, rules}
-use Rattle.std.proofs.lemmas.Bool.{false≢true, true≢false, cases_eq, or_cases, or_left, or_right}
-use Rattle.std.proofs.lemmas.List.{Elements.filter_agree, Elements.filter-append, take-append-le}
-use Rattle.cnf_base.specs.Literals.{Literal, complement, complements, has, variable}
-use Rattle.cnf_base.proofs.SetLemmas.{both_pass, has-filter, filter_has, has_append_left}
-use Rattle.cnf_base.proofs.SetLemmas.{has_append_right, has_append_cases, has-complements}
-use Rattle.propagation.specs.Assumptions.{Assumption, MayAssume, assumed_by}
-use Rattle.propagation.specs.Code.Levels.{pushed, first_number, of_variables, IsNumbered, is_noted}
-use Rattle.propagation.specs.Code.Levels.{is_noted_by_two, assumptions_of, IsLevel, AreLevels}
-use Rattle.trail.specs.{Trail.TrailState, Trail.HasNoVariableTwice, Numbers.number_at}
-use Rattle.theory.specs.Sets.{SameSet}
-use Rattle.tables.specs.{declared.by_key.ByKey.ByKey, ByKey.at}
-use Rattle.propagation.specs.{declared.answer.Answer.TheVariants.Clash, Code.Levels.Notes}
-use Rattle.propagation.specs.declared.levels.{Levels.Levels, Level.Level}
-use Rattle.propagation.specs.declared.levels.Levels.TheVariants.{Nothing, One, Two}
-use Rattle.trail.proofs.TrailLemmas.MakesFalse.{by_open}
-use Rattle.cnf_base.proofs.WalkLemmas.{has_take, is_in}
 use Rattle.cnf_base.proofs.MemberLemmas.{has_mapped, has_place, place_of_variable}
-use Rattle.cnf_base.proofs.{MemberLemmas.variable-complement, SetLemmas.complements_has}
-use Rattle.propagation.proofs.PropagationLemmas.Passes.{still_set}
-use Rattle.trail.proofs.TrailLemmas.Truth.{same_literal, more_cases, variable_open}
+use Rattle.cnf_base.proofs.{MemberLemmas.variable-complement, SetLemmas.has_append_right}
+use Rattle.cnf_base.proofs.SetLemmas.{both_pass, complements_has, filter_has, has-complements}
+use Rattle.cnf_base.proofs.SetLemmas.{has-filter, has_append_cases, has_append_left}
+use Rattle.{cnf_base.proofs.WalkLemmas.{has_take, is_in}, std.proofs.Common.{◌≡◌, ◌≢◌, ◌≤◌, ◌⊎◌}}
+use Rattle.cnf_base.specs.Literals.{Literal, complement, complements, has, variable}
+use Rattle.{propagation.proofs.PropagationLemmas.Passes.still_set, theory.specs.Sets.SameSet}
+use Rattle.propagation.specs.{Assumptions.{Assumption, MayAssume, assumed_by}, Code.Levels.pushed}
+use Rattle.propagation.specs.Code.Levels.{AreLevels, IsLevel, IsNumbered, Notes, assumptions_of}
+use Rattle.propagation.specs.Code.Levels.{first_number, is_noted, is_noted_by_two, of_variables}
+use Rattle.propagation.specs.declared.{answer.Answer.TheVariants.Clash, levels.Level.Level}
+use Rattle.propagation.specs.declared.levels.Levels.{Levels, TheVariants.{Nothing, One, Two}}
+use Rattle.std.proofs.Common.{Bool, List, [], append-nil, arith, cond, eq-eqb, eqb-true, false}
+use Rattle.std.proofs.Common.{filter, get_or, inl, inr, is_some, length, length-append, map, not}
+use Rattle.std.proofs.Common.{refl, rules, subst, sym, take, true, ℕ, ◌++◌, ◌+◌, ◌/◌, ◌<◌, ◌∙◌, ◌∷◌}
+use Rattle.std.proofs.lemmas.Bool.{cases_eq, false≢true, or_cases, or_left, or_right, true≢false}
+use Rattle.std.proofs.lemmas.List.{take-append-le, Elements.{filter-append, filter_agree}}
+use Rattle.tables.specs.ByKey.{at}
+use Rattle.{tables.specs.declared.by_key.ByKey.ByKey, trail.proofs.TrailLemmas.MakesFalse.by_open}
+use Rattle.trail.proofs.TrailLemmas.Truth.{more_cases, same_literal, variable_open}
+use Rattle.trail.specs.{Numbers.number_at, Trail.{HasNoVariableTwice, TrailState}}
 
 -- ---- Variables of lists
 
@@ -229,3 +226,5 @@ module _ (first number : ℕ) (c : List Literal) (keeps : Literal → Bool) (bef
     module _ (next : ℕ → ℕ) (var : ℕ) (of_x : var ≡ x / 2) (other : (v : ℕ) → v ≢ var → next v ≡ now v) (old : now var ≡ first → next var ≡ first) (new : now var ≢ first → next var ≡ number) where
       pub noted_next : keeps x ≡ true → NotesTo first number c keeps (i + 1) before next
       noted_next kept = grind (arith, cases_eq, has_mapped, has-filter, is_in, more_cases)
+
+pub ruleset true_steps = (true_levels, true_assumptions)

@@ -1,16 +1,14 @@
 -- Passes over the clauses: what they keep, and why they end.
-use Rattle.std.proofs.Common.{◌≡◌, ℕ, ◌+◌, ◌/◌, ◌<◌, ◌≤◌, Bool, true, false, not, cond, Some, None}
-use Rattle.std.proofs.Common.{List, [], ◌∷◌, ◌++◌, map, inl, inr, arith}
-use Rattle.std.proofs.lemmas.{List.Sums.sum_by-cons, List.map-append, Bool.false≢true}
-use Rattle.cnf_base.specs.Literals.{Literal, complement, Clause, has, variable}
-use Rattle.cnf_base.proofs.SetLemmas.{has_cases, has_append_left, has_append_right, has_head}
-use Rattle.trail.specs.{Code.Left.IsSettled, Left.how_many, Trail.TrailState}
-use Rattle.theory.specs.Propagation.{Live, open_literals}
-use Rattle.propagation.specs.{declared.scan.unit.Pass.Pass, Code.Passes.unset}
-use Rattle.propagation.specs.declared.scan.unit.Pass.TheVariants.{Conflict, Changed}
-use Rattle.propagation.specs.declared.scan.unit.Pass.TheVariants.{Quiet}
-use Rattle.trail.proofs.TrailLemmas.Truth.{variable_open}
+use Rattle.cnf_base.proofs.SetLemmas.{has_append_left, has_append_right, has_cases, has_head}
+use Rattle.cnf_base.specs.Literals.{Clause, Literal, complement, has, variable}
 use Rattle.propagation.proofs.PropagationLemmas.Below.{below_none, below_some}
+use Rattle.propagation.specs.{Code.Passes.unset, declared.scan.unit.Pass.Pass}
+use Rattle.propagation.specs.declared.scan.unit.Pass.TheVariants.{Changed, Conflict, Quiet}
+use Rattle.std.proofs.Common.{Bool, List, None, Some, [], arith, cond, false, inl, inr, map, not}
+use Rattle.std.proofs.{Common.{true, ℕ, ◌++◌, ◌+◌, ◌/◌, ◌<◌, ◌∷◌, ◌≡◌, ◌≤◌}, lemmas.Bool.false≢true}
+use Rattle.{std.proofs.lemmas.List.{map-append, Sums.sum_by-cons}, theory.specs.Propagation.Live}
+use Rattle.{theory.specs.Propagation.open_literals, trail.proofs.TrailLemmas.Truth.variable_open}
+use Rattle.trail.specs.{Code.Left.IsSettled, Left.how_many, Trail.TrailState}
 
 -- ---- How many variables are open
 

@@ -1,12 +1,10 @@
 -- What holds of live clauses, where a store has the same ones.
-use Rattle.std.proofs.Common.{◌≡◌, ℕ, true, Option, Some, is_some}
-use Rattle.std.proofs.{lemmas.Bool.false≢true, Common.arith, lemmas.Option.same_Some}
-use Rattle.std.specs.{Ordering.nat_cmp, FinMap.FinMap}
-use Rattle.cnf_base.specs.Literals.{Literal, Clause, has, same_clause}
-use Rattle.cnf_base.proofs.SetLemmas.{both_pass, same_there, same_back}
-use Rattle.cnf_base.proofs.MapLemmas.{sum_lighter, weight_at}
-use Rattle.clause_db.specs.Store.{copies_with}
-use Rattle.propagation.specs.Assumptions.{AreSameClauses, HasAt}
+use Rattle.{clause_db.specs.Store.copies_with, cnf_base.proofs.MapLemmas.{sum_lighter, weight_at}}
+use Rattle.cnf_base.{proofs.SetLemmas.{both_pass, same_back, same_there}, specs.Literals.Clause}
+use Rattle.cnf_base.specs.Literals.{Literal, has, same_clause}
+use Rattle.{propagation.specs.Assumptions.{AreSameClauses, HasAt}, std.proofs.Common.{Option, Some}}
+use Rattle.std.proofs.{Common.{arith, is_some, true, ℕ, ◌≡◌}, lemmas.Bool.false≢true}
+use Rattle.std.{proofs.lemmas.Option.same_Some, specs.{FinMap.FinMap, Ordering.nat_cmp}}
 use Rattle.std.specs.FinMap as maps
 
 -- what is there

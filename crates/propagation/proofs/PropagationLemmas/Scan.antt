@@ -1,25 +1,21 @@
 -- The invariant of the plainest propagation, as clauses come and go.
-use Rattle.std.proofs.Common.{◌≡◌, ◌≢◌, ℕ, ◌++◌, ◌∷◌, true, false, length, take, Some, List, []}
-use Rattle.std.proofs.Common.{arith, rules}
-use Rattle.std.specs.FinMap as maps
-use Rattle.std.specs.{Ordering.nat_cmp, FinMap.FinMap, Result.IfOk, Result.OnErr, Result.is_err}
-use Rattle.std.specs.declared.result.Result.{Result}
-use Rattle.std.proofs.lemmas.{Option.none-some, Option.same_Some, Bool.false≢true, Bool.cases_eq}
-use Rattle.cnf_base.specs.Literals.{Literal, Clause, has, same_clause, size}
-use Rattle.propagation.specs.Assumptions.{Assuming, AssumptionsState, IsAnswer, MayAssume}
-use Rattle.propagation.specs.Assumptions.{Propagation, assumed_by}
-use Rattle.theory.specs.Propagation.{Live, IsClosed, Forced, Clash}
-use Rattle.propagation.specs.Code.Scan.{AssumesOn, IsHeld, IsScan}
-use Rattle.clause_db.specs.Store.{StoreState, literals_in, no_clauses}
-use Rattle.trail.specs.Trail.{HasRoom, HasRoomForAll}
-use Rattle.theory.specs.Sets.{SameSet, conflicts}
-use Rattle.propagation.specs.{declared.answer.Answer.Answer, Code.Exact.IsExact}
-use Rattle.propagation.specs.{declared.answer.Answer.TheVariants.Quiet}
+use Rattle.{clause_db.specs.Store.{MemoryState, literals_in, no_clauses}, std.specs.Ordering.nat_cmp}
+use Rattle.cnf_base.proofs.{MapLemmas.{get_remove, sum_empty}, SetLemmas.has_append_right}
 use Rattle.cnf_base.proofs.SetLemmas.{both_pass, has_append_cases, has_append_left, same_there}
-use Rattle.propagation.proofs.PropagationLemmas.Exact.{answer_through}
-use Rattle.propagation.proofs.PropagationLemmas.Exact.{conflict_clashes, answer_from, exact_after}
-use Rattle.theory.proofs.PropagationLemmas.Forced.{forced_assumed}
-use Rattle.cnf_base.proofs.{MapLemmas.get_remove, MapLemmas.sum_empty, SetLemmas.has_append_right}
+use Rattle.cnf_base.specs.Literals.{Clause, Literal, has, same_clause, size}
+use Rattle.propagation.proofs.PropagationLemmas.Exact.{answer_from, answer_through, exact_after}
+use Rattle.propagation.{proofs.PropagationLemmas.Exact.conflict_clashes, specs.Code.Exact.IsExact}
+use Rattle.propagation.specs.Assumptions.{Assuming, AssumptionsState, IsAnswer, MayAssume}
+use Rattle.propagation.specs.{Assumptions.Propagation, Code.Scan.{AssumesOn, IsHeld, IsScan}}
+use Rattle.{propagation.specs.Assumptions.assumed_by, trail.specs.Trail.{HasRoom, HasRoomForAll}}
+use Rattle.propagation.specs.declared.answer.Answer.{Answer, TheVariants.Quiet}
+use Rattle.std.proofs.Common.{List, Some, [], arith, false, length, rules, take, true, ℕ, ◌++◌, ◌∷◌}
+use Rattle.{std.proofs.Common.{◌≡◌, ◌≢◌}, theory.proofs.PropagationLemmas.Forced.forced_assumed}
+use Rattle.std.{proofs.lemmas.Bool.{cases_eq, false≢true}, specs.Result.{IfOk, OnErr, is_err}}
+use Rattle.std.{proofs.lemmas.Option.{none-some, same_Some}, specs.declared.result.Result.Result}
+use Rattle.std.specs.FinMap.{FinMap}
+use Rattle.theory.specs.{Propagation.{Clash, Forced, IsClosed, Live}, Sets.{SameSet, conflicts}}
+use Rattle.std.specs.FinMap as maps
 
 pub scan_empty : (live : FinMap nat_cmp Clause) (held : AssumptionsState) → live ≡ maps.empty
     → held.trail.lits ≡ [] → held.assumptions ≡ [] → IsScan live held
@@ -61,7 +57,7 @@ pub room_inserted : {E : Type 0} (reserved : List ℕ) (live after : FinMap nat_
 room_inserted = grind (arith, cases_eq, same_there, same_Some)
 
 -- what is kept in a store without clauses
-pub none_alone : (s : StoreState) → s ≡ no_clauses → s.stored ≡ literals_in s.live
+pub none_alone : (s : MemoryState) → s ≡ no_clauses → s.stored ≡ literals_in s.live
 none_alone s is = cc (sum_empty size)
 
 -- ---- One more assumption
@@ -123,3 +119,5 @@ assumed_none live before after added r h h2 = grind (arith, false≢true)
 -- the same literals in another order
 pub assuming_alike : {E : Type 0} (before after : Propagation) (first second : List Literal) (r : Result Answer E) → SameSet first second → Assuming before after first r → Assuming before after second r
 assuming_alike = grind (arith, answer_through, forced_assumed, both_pass, has_append_cases, has_append_left, has_append_right)
+
+pub ruleset removed_steps = (scan_with, room_removed)

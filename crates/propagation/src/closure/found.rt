@@ -108,6 +108,7 @@ impl Found {
 
     /// Adds what follows from a clause: all its literals where their complements are there, or the
     /// one whose complement is not.
+    #[tactic(auto, using(crate::proofs::PropagationLemmas::Closing::take_steps))]
     pub(crate) fn take(&mut self, clause: &[Lit]) -> Result<(), OutOfMemory>
         ensures follows { OnOk result ((l : Literal) → IsTrue (has self.new l) →
             FollowsFrom self.old clause.now l) }

@@ -1,36 +1,28 @@
 -- Clauses in order are the same sets, and literals follow from their reasons.
-use Rattle.clause_db.specs.Store.{IsTouchedAt, literals_in}
-use Rattle.cnf_base.proofs.{LiteralLemmas.complement-complement, MapLemmas.get_insert}
-use Rattle.cnf_base.proofs.MapLemmas.{get_remove, inserted_is, remove_here, remove_other, same_maps}
-use Rattle.cnf_base.proofs.{MemberLemmas.place_in_front, SetLemmas.both_pass}
-use Rattle.cnf_base.proofs.SetLemmas.{complements_has, filter_has, has-complements, has-filter}
-use Rattle.cnf_base.proofs.SetLemmas.{has_append_left, has_append_right, has_cases, has_head}
-use Rattle.cnf_base.proofs.{SetLemmas.same_from, SizeLemmas.size_same}
+use Rattle.{clause_db.specs.Store.{IsTouchedAt, literals_in}, cnf_base.proofs.SizeLemmas.size_same}
+use Rattle.cnf_base.proofs.{LiteralLemmas.complement-complement, SetLemmas.{has_head, same_from}}
+use Rattle.cnf_base.proofs.MapLemmas.{get_insert, get_remove, inserted_is, remove_here}
+use Rattle.cnf_base.proofs.{MapLemmas.{remove_other, same_maps}, MemberLemmas.place_in_front}
+use Rattle.cnf_base.proofs.SetLemmas.{both_pass, complements_has, filter_has, has-complements}
+use Rattle.cnf_base.proofs.SetLemmas.{has-filter, has_append_left, has_append_right, has_cases}
 use Rattle.cnf_base.specs.Literals.{Clause, Literal, complement, complements, has, same_clause}
-use Rattle.cnf_base.specs.{Literals.size, Maps.sum_over}
-use Rattle.{propagation.specs.Assumptions.HasAt, root_literals.proofs.RootLemmas.Watched.front_part}
-use Rattle.root_literals.specs.Order.{each_in_order, in_order, set_of}
+use Rattle.{cnf_base.specs.{Literals.size, Maps.sum_over}, std.specs.Cmp.nat_cmp_total}
+use Rattle.{propagation.specs.Assumptions.HasAt, std.specs.FinMap.{is_sorted, Entries.below_all}}
+use Rattle.root_literals.proofs.RootLemmas.{Terms.{Clauses, ReasonOf, shown}, Watched.front_part}
+use Rattle.root_literals.specs.{Order.{each_in_order, in_order, set_of}, declared.uses.Uses.Uses}
 use Rattle.root_literals.specs.Roots.{AreReasoned, FollowsReasons, IsReasonAt}
 use Rattle.root_literals.specs.Uses.{AreCounted, clause_in, is_in, times, uses_of}
-use Rattle.root_literals.specs.declared.uses.Uses.{Uses}
-use Rattle.std.proofs.Common.{Bool, List, Option, Some, [], ap, arith, cond, eqb, eqb-true}
-use Rattle.std.proofs.Common.{false, filter, get_or, inl, inr, is_lt, is_some, length}
-use Rattle.std.proofs.Common.{length-append, length-take, map, nat_cmp, option_map, refl, remove}
-use Rattle.std.proofs.Common.{rules, suc, sum_by, sym, take, take-take, take_all, true}
-use Rattle.std.proofs.Common.{true≢false, zero, ℕ, ◌++◌, ◌+◌, ◌<◌, ◌∙◌, ◌∷◌, ◌≡◌, ◌≢◌, ◌≤◌}
-use Rattle.std.proofs.lemmas.Bool.{Decides.nat_tests, cases_eq, cases_lt, false≢true, or_right}
-use Rattle.std.proofs.lemmas.Grind.{common_steps}
-use Rattle.std.proofs.lemmas.List.{Edits.length-remove, Sums.sum_by-cons, take-append-le, take_more}
-use Rattle.std.proofs.lemmas.Option.{none-some, same_Some}
-use Rattle.std.specs.{Cmp.nat_cmp_total, FinMap.Entries.below_all, FinMap.FinMap, FinMap.find}
-use Rattle.std.specs.{FinMap.is_sorted, Ordering.eq_by_cmp}
-use Rattle.theory.specs.Propagation.{Forced, Live}
+use Rattle.std.proofs.Common.{Bool, List, Option, Some, [], ap, arith, cond, eqb, eqb-true, false}
+use Rattle.std.proofs.Common.{filter, get_or, inl, inr, is_lt, is_some, length, length-append}
+use Rattle.std.proofs.Common.{length-take, length-take-le, map, nat_cmp, option_map, refl, remove}
+use Rattle.std.proofs.Common.{rules, suc, sum_by, sym, take, take-take, take_all, true, true≢false}
+use Rattle.std.{proofs.Common.{zero, ℕ, ◌++◌, ◌+◌, ◌<◌, ◌∙◌, ◌∷◌, ◌≡◌, ◌≢◌, ◌≤◌}, specs.FinMap.find}
+use Rattle.std.proofs.lemmas.Bool.{cases_eq, cases_lt, false≢true, or_right, Decides.nat_tests}
+use Rattle.std.proofs.lemmas.{Grind.common_steps, List.{take-append-le, Sums.sum_by-cons}}
+use Rattle.std.proofs.lemmas.{List.{take_more, Edits.length-remove}, Option.{none-some, same_Some}}
+use Rattle.{theory.specs.Propagation.{Forced, Live}, trail.specs.Trail.HasNoVariableTwice}
 use Rattle.trail.proofs.TrailLemmas.{Longer.pushed_each, Truth.places_apart, Without.none_left}
-use Rattle.trail.specs.Trail.{HasNoVariableTwice}
 use Rattle.std.specs.FinMap as maps
-
-tie_back : (k q : ℕ) → eq_by_cmp nat_cmp k q ≡ eqb q k
-tie_back = grind (arith, nat_tests)
 
 -- ---- One clause
 
@@ -40,7 +32,7 @@ in_set (k ∷ c) l = grind (arith, nat_tests, maps.get-insert nat_cmp_total (set
 
 -- the same literals
 pub has-in_order : (c : Clause) (l : Literal) → has (in_order c) l ≡ has c l
-has-in_order c l = grind (arith, tie_back, maps.contains_key-keys (set_of c) l, in_set c l)
+has-in_order c l = grind (arith, nat_tests, maps.contains_key-keys (set_of c) l, in_set c l)
 
 pub same-in_order : (c : Clause) → same_clause (in_order c) c ≡ true
 same-in_order = grind (arith, same_from, has-in_order)
@@ -50,7 +42,8 @@ size-in_order = grind (arith, size_same, has-in_order)
 
 -- clauses with the same literals are shown alike
 pub alike_in_order : (c d : Clause) → ((l : Literal) → has c l ≡ has d l) → in_order c ≡ in_order d
-alike_in_order c d alike = ap maps.keys (same_maps _ _ (λ l. grind (arith, in_set c l, in_set d l, alike l, true≢false)))
+alike_in_order c d alike = ap maps.keys (same_maps _ _
+    (λ l. grind (arith, in_set c l, in_set d l, alike l, true≢false)))
 
 -- ---- All clauses
 
@@ -69,19 +62,21 @@ find_ordered : (q : ℕ) (es : List (ℕ × Clause)) → find nat_cmp q (ordered
 find_ordered q [] = refl
 find_ordered q (e ∷ es) = grind (arith, find_ordered q es)
 
-weights_ordered : (w v : Clause → ℕ) → ((c : Clause) → w (in_order c) ≡ v c) → (es : List (ℕ × Clause)) → sum_by w (map (λ e. e.1) (ordered es)) ≡ sum_by v (map (λ e. e.1) es)
-weights_ordered w v alike [] = refl
-weights_ordered w v alike (e ∷ es) = grind (arith, sum_by-cons, weights_ordered w v alike es)
-
-pub get_ordered : (live : FinMap nat_cmp Clause) (s : ℕ) → maps.get (each_in_order live) s ≡ option_map in_order (maps.get live s)
+pub get_ordered : (live : Clauses) (s : ℕ) → shown live s ≡ option_map in_order (maps.get live s)
 unfolding each_in_order
 get_ordered = grind (arith, maps.get-from_sorted, sorted_ordered, maps.entries_sorted, find_ordered, option_map, maps.get-entries)
 
-pub sum_ordered : (w v : Clause → ℕ) → ((c : Clause) → w (in_order c) ≡ v c) → (live : FinMap nat_cmp Clause) → sum_over w (each_in_order live) ≡ sum_over v live
-unfolding each_in_order
-sum_ordered = grind (arith, sum_by, map, maps.entries-from_sorted, sorted_ordered, maps.entries_sorted, weights_ordered)
+module _ (w v : Clause → ℕ) (alike : (c : Clause) → w (in_order c) ≡ v c) where
+  weights_ordered : (es : List (ℕ × Clause)) →
+      sum_by w (map (λ e. e.1) (ordered es)) ≡ sum_by v (map (λ e. e.1) es)
+  weights_ordered [] = refl
+  weights_ordered (e ∷ es) = grind (arith, sum_by-cons, weights_ordered es)
 
-pub literals_ordered : (live : FinMap nat_cmp Clause) → literals_in (each_in_order live) ≡ literals_in live
+  pub sum_ordered : (live : Clauses) → sum_over w (each_in_order live) ≡ sum_over v live
+  unfolding each_in_order
+  sum_ordered = grind (arith, sum_by, map, maps.entries-from_sorted, sorted_ordered, maps.entries_sorted, weights_ordered)
+
+pub literals_ordered : (live : Clauses) → literals_in (each_in_order live) ≡ literals_in live
 literals_ordered = sum_ordered size size size-in_order
 
 -- ---- Changes
@@ -89,7 +84,7 @@ literals_ordered = sum_ordered size size size-in_order
 pub ordered_empty : each_in_order maps.empty ≡ maps.empty
 ordered_empty = grind (arith, same_maps, get_ordered, option_map, maps.get-empty)
 
-module _ (live : FinMap nat_cmp Clause) (s : ℕ) where
+module _ (live : Clauses) (s : ℕ) where
   pub ordered_remove : each_in_order (maps.remove live s) ≡ maps.remove (each_in_order live) s
   ordered_remove = grind (arith, same_maps, get_ordered, get_remove)
 
@@ -99,29 +94,29 @@ module _ (live : FinMap nat_cmp Clause) (s : ℕ) where
 
   -- ---- Look-ups
 
-  pub seen_there : (c : Clause) → maps.get live s ≡ Some c → maps.get (each_in_order live) s ≡ Some (in_order c)
+  pub seen_there : (c : Clause) → maps.get live s ≡ Some c → shown live s ≡ Some (in_order c)
   seen_there = grind (arith, get_ordered)
 
-  pub there_seen : (d : Clause) → maps.get (each_in_order live) s ≡ Some d → (c : Clause) × (maps.get live s ≡ Some c) × ((l : Literal) → has d l ≡ has c l)
+  pub there_seen : (d : Clause) → shown live s ≡ Some d → (c : Clause) × (maps.get live s ≡ Some c) × ((l : Literal) → has d l ≡ has c l)
   there_seen = grind (arith, get_ordered, none-some, same_Some, has-in_order)
 
-  pub alive_alike : is_some (maps.get (each_in_order live) s) ≡ is_some (maps.get live s)
+  pub alive_alike : is_some (shown live s) ≡ is_some (maps.get live s)
   alive_alike = grind (arith, get_ordered)
 
   pub alive_clause : is_some (maps.get live s) ≡ true → (c : Clause) × (maps.get live s ≡ Some c)
   alive_clause = search rules
 
-pub seen_has_at : (live : FinMap nat_cmp Clause) (l : Literal) (s : ℕ) → HasAt (maps.get (each_in_order live)) l s → HasAt (maps.get live) l s
+pub seen_has_at : (live : Clauses) (l : Literal) (s : ℕ) → HasAt (shown live) l s → HasAt (maps.get live) l s
 seen_has_at = search (rules, there_seen)
 
-pub touched_seen : (live : FinMap nat_cmp Clause) (lits : List Literal) (s : ℕ) → IsTouchedAt live lits s → IsTouchedAt (each_in_order live) lits s
+pub touched_seen : (live : Clauses) (lits : List Literal) (s : ℕ) → IsTouchedAt live lits s → IsTouchedAt (each_in_order live) lits s
 touched_seen live lits s h = search (rules, seen_there, has-in_order)
 
-pub seen_touched : (live : FinMap nat_cmp Clause) (lits : List Literal) (s : ℕ) → IsTouchedAt (each_in_order live) lits s → IsTouchedAt live lits s
+pub seen_touched : (live : Clauses) (lits : List Literal) (s : ℕ) → IsTouchedAt (each_in_order live) lits s → IsTouchedAt live lits s
 seen_touched = search (rules, there_seen)
 
 -- the literals of the clause in a slot were put in another order
-pub ordered_alike : (live after : FinMap nat_cmp Clause) (slot : ℕ) (c d : Clause) → maps.get live slot ≡ Some c → maps.get after slot ≡ Some d → ((l : Literal) → has d l ≡ has c l) → ((s : ℕ) → s ≢ slot → maps.get after s ≡ maps.get live s) → each_in_order after ≡ each_in_order live
+pub ordered_alike : (live after : Clauses) (slot : ℕ) (c d : Clause) → maps.get live slot ≡ Some c → maps.get after slot ≡ Some d → ((l : Literal) → has d l ≡ has c l) → ((s : ℕ) → s ≢ slot → maps.get after s ≡ maps.get live s) → each_in_order after ≡ each_in_order live
 ordered_alike live after slot c d here there alike others = ap each_in_order (grind (arith, inserted_is)) ∙ ordered_same _ _ _ _ here alike
 
 -- ---- Parts
@@ -131,7 +126,9 @@ part_alike keeps c d alike l = both_pass _ _ (there c d alike l) (there d c (λ 
   where
     there : (c d : Clause) → ((l : Literal) → has c l ≡ has d l) → (l : Literal) → has (complements (filter keeps c)) l ≡ true → has (complements (filter keeps d)) l ≡ true
     there c d alike l h =
-        cc (complement-complement l, has-complements (filter keeps d) (complement l) (has-filter keeps d (complement l) (sym (alike (complement l)) ∙ (filter_has keeps c (complement l) (complements_has (filter keeps c) l h)).0) (filter_has keeps c (complement l) (complements_has (filter keeps c) l h)).1))
+        let w = filter_has keeps c (complement l) (complements_has (filter keeps c) l h) in
+        let kept = has-filter keeps d (complement l) (sym (alike (complement l)) ∙ w.0) w.1 in
+        cc (complement-complement l, has-complements (filter keeps d) (complement l) kept)
 
 -- ---- Literals that follow from their reasons
 
@@ -140,10 +137,10 @@ pub not_before : (lits : List Literal) (place : ℕ) (l : Literal) → place < l
 not_before lits place l inside stands apart n low member = let w = place_in_front lits n l member in
     places_apart lits apart w.0 place (omega arith) inside (grind arith)
 
-module _ (live : Live) (reason_of : Literal → Option ℕ) (lits : List Literal) (are : AreReasoned live reason_of lits) where
+module _ (live : Live) (reason_of : ReasonOf) (lits : List Literal) (are : AreReasoned live reason_of lits) where
   in_all : (passes : Literal → Bool) → FollowsReasons live reason_of lits passes → (l : Literal) → has lits l ≡ true → passes l ≡ true
   in_all passes follows l member =
-      grind (arith, are.in_each (length lits) passes, front_part, take_all)
+      grind (arith, are.in_each (length lits) passes, take_all)
 
   pub reasoned_forced : (l : Literal) → has lits l ≡ true → Forced live [] l
   reasoned_forced l member =
@@ -154,7 +151,7 @@ module _ (live : Live) (reason_of : Literal → Option ℕ) (lits : List Literal
   reasoned_some = in_all (λ k. is_some (reason_of k)) (λ k s c there is _ _. ap is_some is)
 
   -- the same reasons
-  pub reasoned_same : (reason_now : Literal → Option ℕ) → ((l : Literal) → has lits l ≡ true → reason_now l ≡ reason_of l) → AreReasoned live reason_now lits
+  pub reasoned_same : (reason_now : ReasonOf) → ((l : Literal) → has lits l ≡ true → reason_now l ≡ reason_of l) → AreReasoned live reason_now lits
   reasoned_same reason_now same = record {
     has_it = grind (arith, are.has_it);
     in_each = λ n passes follows. are.in_each n passes (grind (arith, follows, front_part));
@@ -178,7 +175,7 @@ module _ (live : Live) (reason_of : Literal → Option ℕ) (lits : List Literal
   }
 
   -- one more literal, which a clause makes true
-  module _ (reason_now : Literal → Option ℕ) (m : Literal) (slot : ℕ) (c : Clause) (there : live slot ≡ Some c) (m_there : has c m ≡ true) (set : reason_now m ≡ Some slot) where
+  module _ (reason_now : ReasonOf) (m : Literal) (slot : ℕ) (c : Clause) (there : live slot ≡ Some c) (m_there : has c m ≡ true) (set : reason_now m ≡ Some slot) where
     pub reasoned_more : ((k : Literal) → has c k ≡ true → k ≢ m → has lits (complement k) ≡ true) → ((l : Literal) → has lits l ≡ true → reason_now l ≡ reason_of l) → AreReasoned live reason_now (lits ++ m ∷ [])
     reasoned_more others same = record {
       has_it = λ l s member is.
@@ -200,7 +197,7 @@ module _ (live : Live) (reason_of : Literal → Option ℕ) (lits : List Literal
     }
 
   -- another clause makes a literal true, by those that stand before it
-  module _ (reason_now : Literal → Option ℕ) (m : Literal) (slot : ℕ) (apart : HasNoVariableTwice lits) (by : IsReasonAt live slot lits m) (set : reason_now m ≡ Some slot) (same : (l : Literal) → l ≢ m → reason_now l ≡ reason_of l) where
+  module _ (reason_now : ReasonOf) (m : Literal) (slot : ℕ) (apart : HasNoVariableTwice lits) (by : IsReasonAt live slot lits m) (set : reason_now m ≡ Some slot) (same : (l : Literal) → l ≢ m → reason_now l ≡ reason_of l) where
     from_front : (n : ℕ) (passes : Literal → Bool) → FollowsReasons live reason_now (take n lits) passes → has (take n lits) m ≡ true → passes m ≡ true
     from_front n passes follows member = let before = not_before lits by.place m by.inside by.stands apart in elim (cases_lt by.place n) [
       | inl low ↦ follows m slot by.clause member set by.at (λ k h ne. are.in_each by.place passes (λ l s c there is at others. grind (arith, follows l s c, take-take by.place n lits, front_part by.place (take n lits) l, same l, before by.place)) (complement k) (by.others k h ne))
@@ -222,12 +219,12 @@ one o k = cond (is_in o k) 1 0
 -- ---- A list of literals
 
 -- the same literals, whose reasons have no other literals than before
-pub uses_at_most : (before after : Live) (r s : Literal → Option ℕ) (k : Literal) (lits : List Literal) → ((l : Literal) → has lits l ≡ true → is_in (clause_in after (s l)) k ≡ true → is_in (clause_in before (r l)) k ≡ true) →
+pub uses_at_most : (before after : Live) (r s : ReasonOf) (k : Literal) (lits : List Literal) → ((l : Literal) → has lits l ≡ true → is_in (clause_in after (s l)) k ≡ true → is_in (clause_in before (r l)) k ≡ true) →
     uses_of after s lits k ≤ uses_of before r lits k
 uses_at_most before after r s k [] among = omega arith
 uses_at_most before after r s k (l ∷ lits) among = grind (arith, has_head, has_cases, uses_at_most before after r s k lits (grind (arith, or_right)))
 
-module _ (live : Live) (r : Literal → Option ℕ) (k : Literal) where
+module _ (live : Live) (r : ReasonOf) (k : Literal) where
   -- one literal more
   pub uses_more : (lits : List Literal) (l : Literal) → uses_of live r (lits ++ l ∷ []) k ≡ uses_of live r lits k + one (clause_in live (r l)) k
   uses_more [] l = omega arith
@@ -243,25 +240,16 @@ module _ (live : Live) (r : Literal → Option ℕ) (k : Literal) where
   uses_out (l ∷ lits) (suc n) (suc place) low within = grind (arith, uses_out lits n place)
   uses_out lits n place h h2 = search (rules, arith)
 
--- those before the one that is taken out
-take_before : (lits : List Literal) (n place : ℕ) → n ≤ place → take n (remove lits place) ≡ take n lits
-take_before lits zero place low = refl
-take_before (l ∷ lits) (suc n) (suc place) low = ap (λ ls. l ∷ ls) (take_before lits n place (omega (arith, low)))
-take_before [] (suc n) (suc place) low = refl
-take_before lits (suc n) place low = grind arith
-
 -- ---- What is counted
 
 -- the same reasons, or others that have no other literals
-pub counted_among : (before after : Live) (r s : Literal → Option ℕ) (lits : List Literal) (uses : Uses) → AreCounted before r lits uses →
-    ((k l : Literal) → has lits l ≡ true → is_in (clause_in after (s l)) k ≡ true → is_in (clause_in before (r l)) k ≡ true) → AreCounted after s lits uses
+pub counted_among : (before after : Live) (r s : ReasonOf) (lits : List Literal) (uses : Uses) →
+    AreCounted before r lits uses →
+    ((k l : Literal) → has lits l ≡ true → is_in (clause_in after (s l)) k ≡ true →
+    is_in (clause_in before (r l)) k ≡ true) → AreCounted after s lits uses
 counted_among = grind (arith, uses_at_most, front_part)
 
-module _ (live : Live) (r : Literal → Option ℕ) (lits : List Literal) (uses : Uses) where
-  -- nothing
-  pub counted_none : uses.counted ≡ 0 → AreCounted live r lits uses
-  counted_none = search rules
-
+module _ (live : Live) (r : ReasonOf) (lits : List Literal) (uses : Uses) where
   -- the same counts
   pub counted_same : (now : Uses) → now.counted ≡ uses.counted → ((k : Literal) → times now k ≡ times uses k) → AreCounted live r lits uses → AreCounted live r lits now
   counted_same = search rules
@@ -274,11 +262,11 @@ module _ (live : Live) (r : Literal → Option ℕ) (lits : List Literal) (uses 
 
 module _ (lits : List Literal) (place : ℕ) (l : Literal) (inside : place < length lits) (stands : get_or lits place 0 ≡ l) (different : HasNoVariableTwice lits) where
   -- another reason
-  pub counted_instead : (live : Live) (r s : Literal → Option ℕ) (uses now : Uses) (before after : Clause) → clause_in live (r l) ≡ Some before → clause_in live (s l) ≡ Some after → ((m : Literal) → m ≢ l → s m ≡ r m) →
+  pub counted_instead : (live : Live) (r s : ReasonOf) (uses now : Uses) (before after : Clause) → clause_in live (r l) ≡ Some before → clause_in live (s l) ≡ Some after → ((m : Literal) → m ≢ l → s m ≡ r m) →
       (now.counted ≢ 0 → now.counted ≡ uses.counted) → (now.counted ≢ 0 → place < uses.counted → (k : Literal) → times uses k + cond (has after k) 1 0 ≤ times now k + cond (has before k) 1 0) → (uses.counted ≤ place → now ≡ uses) →
       AreCounted live r lits uses → AreCounted live s lits now
   counted_instead live r s uses now before after was is same counted exchanged stays are =
-      grind (arith, cases_eq, counted_none, cases_lt, behind, uses_at_most, not_before lits place l inside stands different)
+      grind (arith, cases_eq, cases_lt, behind, uses_at_most, not_before lits place l inside stands different)
     where
       behind : now.counted ≢ 0 → place < uses.counted → (k : Literal) → uses_of live s (take now.counted lits) k ≤ times now k
       behind some low k = by_count uses.counted refl
@@ -292,10 +280,10 @@ module _ (lits : List Literal) (place : ℕ) (l : Literal) (inside : place < len
               grind (arith, counted some, exchanged some low k, are.enough k)
 
   -- the literal is taken back, whose reason has no other
-  pub counted_out : (live rest : Live) (r : Literal → Option ℕ) (uses now : Uses) → clause_in live (r l) ≡ Some (l ∷ []) → ((k m : Literal) → is_in (clause_in rest (r m)) k ≡ true → is_in (clause_in live (r m)) k ≡ true) →
+  pub counted_out : (live rest : Live) (r : ReasonOf) (uses now : Uses) → clause_in live (r l) ≡ Some (l ∷ []) → ((k m : Literal) → is_in (clause_in rest (r m)) k ≡ true → is_in (clause_in live (r m)) k ≡ true) →
       (place < uses.counted → now.counted + 1 ≡ uses.counted) → ((k : Literal) → times uses k ≤ times now k + cond (eqb k l) 1 0) → (uses.counted ≤ place → now ≡ uses) → AreCounted live r lits uses → AreCounted rest r (remove lits place) now
   counted_out live rest r uses now unit among fewer less stays are =
-      grind (arith, cases_lt, length-remove, behind, uses_at_most, take_before)
+      grind (arith, cases_lt, length-remove, behind, uses_at_most, length-take-le, take-append-le, take-take)
     where
       behind : place < uses.counted → (k : Literal) → uses_of rest r (take now.counted (remove lits place)) k ≤ times now k
       behind low k = let e = fewer low in let within = are.inside in
@@ -305,7 +293,7 @@ module _ (lits : List Literal) (place : ℕ) (l : Literal) (inside : place < len
 
 -- ---- Clauses
 
-module _ (live : FinMap nat_cmp Clause) (slot : ℕ) where
+module _ (live : Clauses) (slot : ℕ) where
   -- one clause fewer
   pub in_rest : (k : Literal) (o : Option ℕ) → is_in (clause_in (maps.get (maps.remove live slot)) o) k ≡ true → is_in (clause_in (maps.get live) o) k ≡ true
   in_rest = grind (arith, cases_eq, false≢true, remove_here, remove_other)
@@ -314,15 +302,15 @@ module _ (live : FinMap nat_cmp Clause) (slot : ℕ) where
   in_rest_too = search (rules, remove_other)
 
 -- the order of literals in a clause is nothing to it
-in_ordered : (live : FinMap nat_cmp Clause) (k : Literal) (o : Option ℕ) → is_in (clause_in (maps.get (each_in_order live)) o) k ≡ is_in (clause_in (maps.get live) o) k
+in_ordered : (live : Clauses) (k : Literal) (o : Option ℕ) → is_in (clause_in (shown live) o) k ≡ is_in (clause_in (maps.get live) o) k
 in_ordered = grind (arith, get_ordered, has-in_order)
 
-pub counted_in_order : (a b : FinMap nat_cmp Clause) (r s : Literal → Option ℕ) (lits : List Literal) (uses : Uses) → each_in_order b ≡ each_in_order a → ((l : Literal) → has lits l ≡ true → s l ≡ r l) → AreCounted (maps.get a) r lits uses → AreCounted (maps.get b) s lits uses
+pub counted_in_order : (a b : Clauses) (r s : ReasonOf) (lits : List Literal) (uses : Uses) → each_in_order b ≡ each_in_order a → ((l : Literal) → has lits l ≡ true → s l ≡ r l) → AreCounted (maps.get a) r lits uses → AreCounted (maps.get b) s lits uses
 counted_in_order a b r s lits uses same reasons are = counted_among _ _ _ _ _ _ are (λ k l h there. grind (arith, in_ordered a k (r l), in_ordered b k (s l), reasons l))
 
 -- ---- One reason more or less is counted
 
-module _ (live : Live) (r : Literal → Option ℕ) (lits : List Literal) (uses now : Uses) (are : AreCounted live r lits uses) where
+module _ (live : Live) (r : ReasonOf) (lits : List Literal) (uses now : Uses) (are : AreCounted live r lits uses) where
   -- the next one
   pub counted_more : uses.counted < length lits → now.counted ≡ uses.counted + 1 → ((k : Literal) → times uses k + one (clause_in live (r (get_or lits uses.counted 0))) k ≤ times now k) → AreCounted live r lits now
   counted_more = grind (arith, common_steps, take_more, uses_more)

@@ -1,25 +1,21 @@
 -- Clauses of which a literal is true, and when the literals that are kept were propagated.
-use Rattle.cnf_base.proofs.LiteralLemmas.{complement-complement}
+use Rattle.{cnf_base.proofs.LiteralLemmas.complement-complement, std.proofs.lemmas.Option.same_Some}
 use Rattle.cnf_base.proofs.SetLemmas.{has_append_left, has_append_right, has_head}
 use Rattle.cnf_base.specs.Literals.{Clause, Literal, complement, has}
-use Rattle.root_literals.specs.Code.{Doubts.AreSettled, Propagated.AreFalse, Propagated.IsUnit}
-use Rattle.root_literals.specs.History.{IsHistory, IsRewound, sure_of, visits}
-use Rattle.root_literals.specs.Watched.{HasUnit, IsMet, IsPart, IsWatched}
-use Rattle.root_literals.specs.declared.history.History.{History}
+use Rattle.root_literals.specs.{Code.Doubts.AreSettled, Watched.{HasUnit, IsMet, IsPart, IsWatched}}
+use Rattle.root_literals.specs.{Code.Propagated.{AreFalse, IsUnit}, History.{sure_of, visits}}
+use Rattle.root_literals.specs.{History.{IsHistory, IsRewound}, declared.history.History.History}
 use Rattle.std.proofs.Common.{Bool, List, Option, Some, [], ap, arith, cond, drop, eq-eqb, false}
 use Rattle.std.proofs.Common.{get_or, get_or-take, inl, inr, length, length-append, length-take-le}
 use Rattle.std.proofs.Common.{not, refl, rules, sym, take, take-append-drop, take-take, take_all}
 use Rattle.std.proofs.Common.{true, true≢false, ℕ, ◌++◌, ◌+◌, ◌<◌, ◌∙◌, ◌∷◌, ◌≡◌, ◌≤◌, ◌⊎◌}
-use Rattle.std.proofs.Math.Seq.{get_or-append_seam}
-use Rattle.std.proofs.lemmas.Bool.{cases_Bool, cases_eq, cases_lt, false≢true, not-false}
-use Rattle.std.proofs.lemmas.{Grind.common_steps, List.Sums.get_or-le-sum_by}
-use Rattle.std.proofs.lemmas.{List.get_or_append_left, List.take_more, Option.same_Some}
+use Rattle.{std.proofs.Math.Seq.get_or-append_seam, theory.specs.Propagation.{Live, open_literals}}
+use Rattle.std.proofs.lemmas.{Bool.{cases_Bool, cases_eq, cases_lt, false≢true}, Grind.common_steps}
+use Rattle.{std.proofs.lemmas.Bool.not-false, watch_lists.proofs.WatchListsLemmas.Entries.has_times}
+use Rattle.std.proofs.lemmas.List.{get_or_append_left, take_more, Sums.get_or-le-sum_by}
 use Rattle.theory.proofs.PropagationLemmas.Open.{open_cases, open_has}
-use Rattle.theory.specs.Propagation.{Live, open_literals}
-use Rattle.trail.proofs.TrailLemmas.{Left.nothing_is, Left.one_is, Longer.pushed_each}
-use Rattle.trail.specs.Left.{how_many}
-use Rattle.trail.specs.declared.left.Left.TheVariants.{Nothing, One}
-use Rattle.watch_lists.proofs.WatchListsLemmas.Entries.{has_times}
+use Rattle.trail.proofs.TrailLemmas.{Left.{nothing_is, one_is}, Longer.pushed_each}
+use Rattle.trail.specs.{Left.how_many, declared.left.Left.TheVariants.{Nothing, One}}
 use Rattle.watch_lists.specs.Watched.{IsUnitList, is_unit_or_empty, unit_for, watches}
 
 pub met_more : (c : Clause) (l : Literal) (first second : List Literal) → IsPart first second → IsMet c l first → IsMet c l second
@@ -28,37 +24,22 @@ met_more = grind arith
 pub met_unwatched : (c : Clause) (l : Literal) (trues : List Literal) → watches c l ≡ false → IsMet c l trues
 met_unwatched = grind (arith, true≢false)
 
-pub unit_more : (c : Clause) (first second : List Literal) → IsPart first second → HasUnit c first → HasUnit c second
-unit_more = search rules
-
 pub front_part : (n : ℕ) (trues : List Literal) → IsPart (take n trues) trues
 front_part n trues l h = ap (λ ls. has ls l) (sym (take-append-drop n trues)) ∙ has_append_left (take n trues) (drop n trues) l h
 
 -- one more literal is propagated
-pub watched_more : (live : Live) (done trues : List Literal) (p : Literal) → IsWatched live done trues → ((s : ℕ) (c : Clause) → live s ≡ Some c → IsMet c (complement p) trues) → IsWatched live (done ++ p ∷ []) trues
+pub watched_more : (live : Live) (done now trues : List Literal) (p : Literal) → now ≡ done ++ p ∷ [] → IsWatched live done trues → ((s : ℕ) (c : Clause) → live s ≡ Some c → IsMet c (complement p) trues) → IsWatched live now trues
 watched_more = grind (arith, common_steps, pushed_each, complement-complement)
 
-pub watched_grown : (live : Live) (done trues more : List Literal) → IsPart trues more → IsWatched live done trues → IsWatched live done more
-watched_grown = search rules
-
-pub watched_done : (live : Live) (done other trues : List Literal) → other ≡ done → IsWatched live done trues → IsWatched live other trues
-watched_done = search rules
-
 -- ---- Clauses that are not doubtful
-
-pub sure_is : (doubts : List ℕ) (live : Live) (s : ℕ) (c : Clause) → sure_of doubts live s ≡ Some c → (live s ≡ Some c) × (has doubts s ≡ false)
-sure_is = search rules
 
 pub sure_by : (doubts : List ℕ) (live : Live) (s : ℕ) (c : Clause) → live s ≡ Some c → has doubts s ≡ false → sure_of doubts live s ≡ Some c
 sure_by = grind arith
 
-pub watched_all : (live : Live) (doubts : List ℕ) (done trues : List Literal) → IsWatched live done trues → IsWatched (sure_of doubts live) done trues
-watched_all = search rules
-
 -- after a cut or not
 pub watched_most : (live : Live) (doubts : List ℕ) (lacks_units : Bool) (done trues : List Literal) → IsWatched (sure_of (cond lacks_units doubts []) live) done trues → IsWatched (sure_of doubts live) done trues
 watched_most live doubts true done trues watched = watched
-watched_most live doubts false done trues watched = grind (arith, watched_all)
+watched_most live doubts false done trues watched = grind arith
 
 -- ---- Fewer propagated literals
 
@@ -70,17 +51,16 @@ front_in_front lits d n low l h = front_part d (take n lits) l (rw take-take h)
 
 -- ---- No visits
 
-pub history_none : (live : Live) (history : History) (lits : List Literal) → visits history ≡ 0 → IsHistory live history lits
-history_none = search rules
-
 pub watched_none : (live : Live) (history : History) (lits : List Literal) → visits history ≡ 0 → IsWatched live (take (visits history) lits) lits
 watched_none = search rules
 
 -- ---- Other clauses
 
 -- the same visits among other clauses, where what is known of them is, or no cut is told of
-pub history_noted : (live after : Live) (history noted : History) (lits : List Literal) → noted.visited ≡ history.visited →
-    ((noted.floor ≡ history.floor) × ((d p : ℕ) → IsWatched live (take d lits) (take p lits) → IsWatched after (take d lits) (take p lits))) ⊎ (noted.floor ≡ length lits) → IsHistory live history lits → IsHistory after noted lits
+pub history_noted : (live after : Live) (history noted : History) (lits : List Literal) →
+    noted.visited ≡ history.visited → ((noted.floor ≡ history.floor) × ((d p : ℕ) →
+    IsWatched live (take d lits) (take p lits) → IsWatched after (take d lits) (take p lits)))
+    ⊎ (noted.floor ≡ length lits) → IsHistory live history lits → IsHistory after noted lits
 history_noted live after history noted lits visited either is =
     record { inside = grind arith; began = grind (arith, is.began); before = grind (arith, is.before) }
 
@@ -132,9 +112,6 @@ module _ (live : Live) (history now : History) (lits : List Literal) (place : �
 
 -- ---- One clause
 
-pub only_literal : (c : Clause) (l : Literal) → c ≡ l ∷ [] → (k : Literal) → has c k ≡ true → l ≡ k
-only_literal = grind arith
-
 -- a literal that is set where it was open is true
 pub set_by : (before after : List Literal) (l : Literal) (is_open : Bool) → is_open ≡ not (has before l) → after ≡ cond is_open (before ++ l ∷ []) before → has after l ≡ true
 set_by = grind (arith, has_append_right, has_head, not-false)
@@ -155,9 +132,7 @@ module _ (live : Live) (slots : List ℕ) (listed : IsUnitList live slots) where
 -- one more unit is set
 pub units_more : (live : Live) (slots : List ℕ) (place : ℕ) (trues more : List Literal) → place < length slots → IsPart trues more → (l : Literal) → live (get_or slots place 0) ≡ Some (l ∷ []) → has more l ≡ true →
     ((s : ℕ) → has (take place slots) s ≡ true → (c : Clause) → live s ≡ Some c → HasUnit c trues) → (s : ℕ) → has (take (place + 1) slots) s ≡ true → (c : Clause) → live s ≡ Some c → HasUnit c more
-units_more live slots place trues more inside part l here set_l set s there =
-    pushed_each (λ x. (c : Clause) → live x ≡ Some c → HasUnit c more) (take place slots) (get_or slots place 0) (grind (arith, unit_more))
-    (grind (arith, same_Some)) s (grind (arith, take_more))
+units_more = grind (arith, common_steps, pushed_each, take_more, same_Some)
 
 -- ---- Looks at doubtful clauses
 

@@ -14,7 +14,7 @@ ghost use Rattle.steps.specs.Code.Groups.{is_unnamed};
 use crate::lrat::walk::{WalkEnd, refusal_of, walk};
 use cnf_base::{Lit, OutOfMemory};
 use live_clauses::{IdSet, LiveClauses};
-use std::alloc::{AllocError, Global};
+use std::alloc::Global;
 use theory::Refusal;
 use trail::{Except, Trail};
 
@@ -73,7 +73,7 @@ fn judge_group(
     named: &mut IdSet,
     candidate: u64,
     hints: &[i64],
-) -> Result<Option<Refusal>, AllocError>
+) -> Result<Option<Refusal>, OutOfMemory>
     requires quiet { IsFalse (conflicts trues.old.lits) }
     requires room { HasRoomForAll trues.old.reserved (maps.get live.now.live) }
     ensures refusal { IfOk result (λ refusal. refusal ≡ group_refusal
@@ -108,7 +108,7 @@ pub(crate) fn judge_groups(
     pivot: Lit,
     named: &mut IdSet,
     hints: &[i64],
-) -> Result<Option<Refusal>, AllocError>
+) -> Result<Option<Refusal>, OutOfMemory>
     requires quiet { IsFalse (conflicts trues.old.lits) }
     requires room { HasRoomForAll trues.old.reserved (maps.get live.now.live) }
     requires none_named { named.old ≡ [] }

@@ -1,24 +1,23 @@
 -- The rule of DRAT depends only on how many copies of each clause are alive.
-use Rattle.std.proofs.Common.{◌≡◌, ℕ, zero, suc, ◌+◌, ◌-◌, ◌<◌, Bool, true, false, cond, Some, Ok}
-use Rattle.std.proofs.Common.{Err, List, [], ◌∷◌, ◌++◌, slice_get, refl, sym, inl, inr, arith}
-use Rattle.std.{proofs.Common.rules, proofs.Common.true≢false, specs.List.list_any}
+use Rattle.{cnf_base.proofs.LiteralLemmas.complement-complement, std.proofs.Common.{◌<◌, ◌∷◌, ◌≡◌}}
+use Rattle.cnf_base.proofs.SetLemmas.{both_pass, complements_has, filter_has, has-complements}
+use Rattle.cnf_base.proofs.SetLemmas.{has-filter, has-without, has_append_cases, has_append_left}
+use Rattle.cnf_base.proofs.SetLemmas.{has_append_right, same_back, same_itself, same_symm}
+use Rattle.cnf_base.proofs.{SetLemmas.{same_there, same_trans, without_has}, SizeLemmas.IsWithin}
+use Rattle.cnf_base.specs.Literals.{Clause, Literal, complement, complements, same_clause, without}
+use Rattle.std.proofs.Common.{Bool, Err, List, Ok, Some, [], arith, cond, false, inl, inr, refl}
+use Rattle.std.proofs.Common.{rules, slice_get, suc, sym, true, true≢false, zero, ℕ, ◌++◌, ◌+◌, ◌-◌}
 use Rattle.std.proofs.lemmas.Bool.{false≢true, or_cases, or_left, or_right, Decides.nat_tests}
-use Rattle.std.proofs.lemmas.{Option.none-some, Grind.common_steps, List.Sums.sum_by-cons}
-use Rattle.cnf_base.specs.Literals.{Literal, complement, Clause, complements, without, same_clause}
-use Rattle.cnf_base.proofs.SetLemmas.{same_there, same_back, same_itself, same_symm, same_trans}
-use Rattle.cnf_base.proofs.SetLemmas.{both_pass, has_append_left, has_append_right, has-complements}
-use Rattle.cnf_base.proofs.SetLemmas.{has_append_cases, complements_has, has-without, without_has}
-use Rattle.cnf_base.proofs.{SetLemmas.has-filter, SetLemmas.filter_has, SizeLemmas.IsWithin}
-use Rattle.cnf_base.proofs.LiteralLemmas.{complement-complement}
-use Rattle.theory.specs.declared.accepted.Accepted.TheVariants.{Rat, Pr, Empty}
-use Rattle.theory.specs.declared.refusal.Refusal.TheVariants.{NotRup, NeitherRupNorRat}
-use Rattle.theory.specs.{declared.refusal.Refusal.TheVariants.NeitherRupNorPr, Answers.StepAnswer}
-use Rattle.theory.specs.Drat.{SameLive, DratStep, add, delete, AnswersAdd, AnswersDelete, take_off}
-use Rattle.theory.specs.Drat.{AnswersDrat, AnswersWithWitness, IsKeptUnit, after_drat, copies_of}
-use Rattle.theory.specs.Propagation.{Live, HasRup, HasRat, HasPr, open_literals}
+use Rattle.std.proofs.lemmas.{Grind.common_steps, List.Sums.sum_by-cons, Option.none-some}
+use Rattle.{std.specs.List.list_any, theory.specs.Propagation.{HasPr, HasRat, HasRup, Live}}
 use Rattle.theory.proofs.PropagationLemmas.Covers.{Covers, clash_covers, reason_covers}
-use Rattle.theory.proofs.PropagationLemmas.Forced.{forced_assumed, clash_through}
-use Rattle.theory.specs.declared.{drat_rules.DratRules.DratRules, accepted.Accepted.Accepted}
+use Rattle.theory.proofs.PropagationLemmas.Forced.{clash_through, forced_assumed}
+use Rattle.theory.specs.{Answers.StepAnswer, declared.drat_rules.DratRules.DratRules}
+use Rattle.theory.specs.Drat.{AnswersAdd, AnswersDelete, AnswersDrat, AnswersWithWitness, DratStep}
+use Rattle.theory.specs.Drat.{IsKeptUnit, SameLive, add, after_drat, copies_of, delete, take_off}
+use Rattle.theory.specs.{Propagation.open_literals, declared.refusal.Refusal.TheVariants.NotRup}
+use Rattle.theory.specs.declared.accepted.Accepted.{Accepted, TheVariants.{Empty, Pr, Rat}}
+use Rattle.theory.specs.declared.refusal.Refusal.TheVariants.{NeitherRupNorPr, NeitherRupNorRat}
 
 -- ---- Copies
 

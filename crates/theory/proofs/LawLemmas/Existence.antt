@@ -1,28 +1,25 @@
 -- Each step has an answer, under either rule.
-use Rattle.std.proofs.Common.{◌≡◌, ℕ, suc, ◌<◌, ◌≤◌, max, not, ◌&&◌, eqb, nat_le, Bool, true, false}
-use Rattle.std.proofs.Common.{◌⊎◌, inl, inr, Option, None, Some, List, [], ◌∷◌, length, slice_get}
-use Rattle.std.proofs.Common.{refl, arith, Ok, Err, rules, zero, ◌++◌, sym, ◌∙◌, true≢false}
-use Rattle.std.proofs.lemmas.Bool.{cases_lt, cases_eq, cases_Bool}
-use Rattle.std.{proofs.lemmas.Option.none-some, specs.List.list_any}
-use Rattle.cnf_base.specs.Literals.{Literal, Clause, complements, complement, has, without}
-use Rattle.cnf_base.specs.Literals.{same_clause}
-use Rattle.cnf_base.proofs.SetLemmas.{any_from, any_some}
-use Rattle.theory.specs.declared.accepted.Accepted.TheVariants.{Rup, Rat, Empty, Pr, Deleted}
-use Rattle.theory.specs.declared.{accepted.Accepted.TheVariants.Ignored, refusal.Refusal.Refusal}
-use Rattle.theory.specs.Propagation.{Live, Clash, HasRup, HasRat, HasPr, open_literals, by_empty}
-use Rattle.theory.specs.Rules.{Same, IsFiniteMap, IsFinite, Rule, lrat, drat, State, by_ids, start}
-use Rattle.theory.specs.Rules.{by_copies, after}
-use Rattle.theory.specs.Lrat.{deletion_refusal, answer_of, numbered, ChainEnd, open_with, not_unit}
-use Rattle.theory.specs.Lrat.{chain, Group, LratStep, add, delete, LratState, is_left_out}
-use Rattle.theory.specs.Lrat.{AnswersGroups, AnswersChain, AnswersLrat, after_lrat, lrat_step}
-use Rattle.theory.specs.{declared.accepted.Accepted.Accepted, Laws.AnswersExist, Lrat.without_ids}
-use Rattle.theory.specs.Drat.{drat_step, DratStep, add, delete, AnswersAdd, AnswersDelete}
-use Rattle.theory.specs.{Drat.AnswersDrat, Drat.AnswersWithWitness, Drat.IsKeptUnit, Sets.conflicts}
+use Rattle.cnf_base.{proofs.SetLemmas.{any_from, any_some}, specs.Literals.without}
+use Rattle.cnf_base.specs.Literals.{Clause, Literal, complement, complements, has, same_clause}
+use Rattle.{proofs.specs.Steps.Step, std.specs.List.list_any}
+use Rattle.std.proofs.Common.{Bool, Err, List, None, Ok, Option, Some, [], arith, eqb, false, inl}
+use Rattle.std.proofs.Common.{inr, length, max, nat_le, not, refl, rules, slice_get, suc, sym, true}
+use Rattle.std.proofs.Common.{true≢false, zero, ℕ, ◌&&◌, ◌++◌, ◌<◌, ◌∙◌, ◌∷◌, ◌≡◌, ◌≤◌, ◌⊎◌}
+use Rattle.std.proofs.lemmas.{Bool.{cases_Bool, cases_eq, cases_lt}, Option.none-some}
+use Rattle.theory.proofs.LawLemmas.Reasons.{IsDecided, all_that_follows, reason_decided}
+use Rattle.theory.proofs.{LratLemmas.Sums.with_other, PropagationLemmas.Conflicts.not_both}
 use Rattle.theory.proofs.PropagationLemmas.Unit.{clash_of_conflict, closed_quiet}
-use Rattle.theory.proofs.LawLemmas.Reasons.{all_that_follows, reason_decided, IsDecided}
-use Rattle.theory.{proofs.PropagationLemmas.Conflicts.not_both, specs.Answers.StepAnswer}
-use Rattle.theory.{specs.declared.drat_rules.DratRules.DratRules, proofs.LratLemmas.Sums.with_other}
-use Rattle.proofs.specs.Steps.{Step}
+use Rattle.theory.specs.{Answers.StepAnswer, Laws.AnswersExist, Sets.conflicts}
+use Rattle.theory.specs.Drat.{AnswersAdd, AnswersDelete, AnswersDrat, AnswersWithWitness, DratStep}
+use Rattle.theory.specs.{Drat.{IsKeptUnit, add, delete, drat_step}, Rules.{drat, lrat, start}}
+use Rattle.theory.specs.Lrat.{AnswersChain, AnswersGroups, AnswersLrat, ChainEnd, Group, LratState}
+use Rattle.theory.specs.Lrat.{LratStep, add, after_lrat, answer_of, chain, delete, deletion_refusal}
+use Rattle.theory.specs.Lrat.{is_left_out, lrat_step, not_unit, numbered, open_with, without_ids}
+use Rattle.theory.specs.Propagation.{Clash, HasPr, HasRat, HasRup, Live, by_empty, open_literals}
+use Rattle.theory.specs.Rules.{IsFinite, IsFiniteMap, Rule, Same, State, after, by_copies, by_ids}
+use Rattle.theory.specs.declared.{accepted.Accepted.Accepted, refusal.Refusal.Refusal}
+use Rattle.theory.specs.declared.accepted.Accepted.TheVariants.{Deleted, Empty, Ignored, Pr, Rat}
+use Rattle.theory.specs.declared.{accepted.Accepted.TheVariants.Rup, drat_rules.DratRules.DratRules}
 use Rattle.theory.specs.declared.refusal.Refusal.TheVariants as refused
 
 -- ---- Each step of a DRAT proof has an answer: whether propagation clashes can be decided

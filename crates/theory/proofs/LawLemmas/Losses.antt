@@ -1,24 +1,22 @@
 -- What deletions lose.
-use Rattle.std.proofs.Common.{arith, ◌≡◌, ◌≢◌, true, List, [], ◌∷◌, slice_get, inl, inr, rules, ℕ}
-use Rattle.std.proofs.Common.{suc, Some, Ok, ◌⊎◌, IsTrue}
-use Rattle.std.proofs.lemmas.Bool.{cases_Bool, cases_eq}
-use Rattle.cnf_base.specs.Literals.{Literal, Clause, complement, has, same_clause}
-use Rattle.cnf_base.proofs.SetLemmas.{same_itself, same_there, same_back}
-use Rattle.theory.specs.Drat.{take_off, SameLive, delete, after_drat, DratStep, add, AnswersListed}
-use Rattle.theory.specs.{Drat.AnswersDrat, Drat.drat_step, declared.accepted.Accepted.Accepted}
-use Rattle.theory.specs.Losses.{LosesLiteral, LosesRootLiteral, DeleteLoses, StepLoses, HasLost}
-use Rattle.theory.specs.Propagation.{Live, Forced, Clash, IsRootReason, by_both, IsClosed}
-use Rattle.theory.proofs.PropagationLemmas.Covers.{Covers, forced_covers, clash_covers}
-use Rattle.theory.proofs.{PropagationLemmas.Covers.reason_covers, LawLemmas.Truth.take_off_from}
-use Rattle.theory.proofs.DratLemmas.Copies.{same_live_symm, after_same as after_drat_same}
-use Rattle.theory.proofs.{PropagationLemmas.Forced.forced_unit, DratLemmas.Copies.covers_of}
-use Rattle.theory.proofs.LawLemmas.Reasons.{IsAll, reason_decided, all_that_follows}
-use Rattle.theory.{specs.declared.drat_rules.DratRules.DratRules, proofs.LawLemmas.Rules.after_same}
-use Rattle.theory.specs.declared.accepted.Accepted.TheVariants.{Deleted}
-use Rattle.theory.specs.Verdicts.{DeletesReason, DeletedReason, Ending, Ends}
-use Rattle.theory.specs.Laws.{LostWithReason, UnitsAreKept, ReasonsAreKept}
-use Rattle.theory.specs.Rules.{by_copies, after, State, Same, Answers}
+use Rattle.cnf_base.proofs.SetLemmas.{same_back, same_itself, same_there}
+use Rattle.cnf_base.specs.Literals.{Clause, Literal, complement, has, same_clause}
 use Rattle.proofs.specs.Steps.{Step, clause_part, witness_part}
+use Rattle.std.proofs.Common.{IsTrue, List, Ok, Some, [], arith, inl, inr, rules, slice_get, suc}
+use Rattle.std.proofs.{Common.{true, ℕ, ◌∷◌, ◌≡◌, ◌≢◌, ◌⊎◌}, lemmas.Bool.{cases_Bool, cases_eq}}
+use Rattle.theory.proofs.DratLemmas.Copies.{after_same as after_drat_same, covers_of}
+use Rattle.theory.proofs.{DratLemmas.Copies.same_live_symm, LawLemmas.Truth.take_off_from}
+use Rattle.theory.proofs.LawLemmas.Reasons.{IsAll, all_that_follows, reason_decided}
+use Rattle.theory.{proofs.LawLemmas.Rules.after_same, specs.declared.drat_rules.DratRules.DratRules}
+use Rattle.theory.proofs.PropagationLemmas.Covers.{Covers, clash_covers, forced_covers}
+use Rattle.theory.proofs.PropagationLemmas.{Covers.reason_covers, Forced.forced_unit}
+use Rattle.theory.specs.Drat.{AnswersDrat, AnswersListed, DratStep, SameLive, add, after_drat}
+use Rattle.theory.specs.{Drat.{delete, drat_step, take_off}, Verdicts.{DeletesReason, Ending, Ends}}
+use Rattle.theory.specs.Laws.{LostWithReason, ReasonsAreKept, UnitsAreKept}
+use Rattle.theory.specs.Losses.{DeleteLoses, HasLost, LosesLiteral, LosesRootLiteral, StepLoses}
+use Rattle.theory.specs.Propagation.{Clash, Forced, IsClosed, IsRootReason, Live, by_both}
+use Rattle.theory.specs.{Rules.{Answers, Same, State, after, by_copies}, Verdicts.DeletedReason}
+use Rattle.theory.specs.declared.accepted.Accepted.{Accepted, TheVariants.Deleted}
 
 -- ---- What follows with nothing assumed, and where the rules keep it
 

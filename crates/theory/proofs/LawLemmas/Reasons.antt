@@ -1,17 +1,16 @@
 -- Whether a clause is the reason of a root-level literal can be decided: what follows with nothing
 -- assumed is a list, past a clash too.
-use Rattle.std.proofs.Common.{◌≡◌, ℕ, zero, suc, ◌≤◌, Bool, true, false, not, ◌||◌, ◌&&◌, eqb, Some}
-use Rattle.std.proofs.Common.{eqb-true, eq-eqb, List, [], ◌∷◌, slice_get, refl, inl, inr, arith}
-use Rattle.std.proofs.Common.{rules, true≢false, ◌<◌, ◌++◌, ◌⊎◌, ◌+◌, cond}
-use Rattle.std.proofs.lemmas.Bool.{false≢true, cases_Bool, cases_eq, or_cases, or_left, or_right}
-use Rattle.std.proofs.lemmas.{Bool.and_parts, Bool.and_from, Option.none-some}
-use Rattle.std.{specs.List.list_any, specs.List.list_all, proofs.lemmas.List.Sums.sum_by-cons}
-use Rattle.cnf_base.specs.Literals.{Literal, complement, Clause, has}
-use Rattle.cnf_base.proofs.SetLemmas.{any_from, any_some, any_none, all_each, each_all, has_head}
-use Rattle.cnf_base.proofs.SetLemmas.{has_tail, has_append_left, has_append_right}
-use Rattle.theory.specs.Code.Propagation.{OthersFail, IsClosedAt}
-use Rattle.theory.{proofs.PropagationLemmas.Forced.forced_assumed, specs.Code.Sets.lacking}
-use Rattle.theory.specs.Propagation.{Live, IsClosed, Forced, IsRootReason}
+use Rattle.cnf_base.proofs.SetLemmas.{all_each, any_from, any_none, any_some, each_all}
+use Rattle.cnf_base.proofs.SetLemmas.{has_append_left, has_append_right, has_head, has_tail}
+use Rattle.{cnf_base.specs.Literals.{Clause, Literal, complement, has}, std.specs.List.list_any}
+use Rattle.std.proofs.Common.{Bool, List, Some, [], arith, cond, eq-eqb, eqb, eqb-true, false, inl}
+use Rattle.std.proofs.Common.{inr, not, refl, rules, slice_get, suc, true, true≢false, zero, ℕ}
+use Rattle.std.proofs.{Common.{◌&&◌, ◌++◌}, lemmas.{List.Sums.sum_by-cons, Option.none-some}}
+use Rattle.std.proofs.{Common.{◌+◌, ◌<◌, ◌||◌, ◌∷◌, ◌≡◌, ◌≤◌, ◌⊎◌}, lemmas.Bool.{or_left, or_right}}
+use Rattle.std.proofs.lemmas.Bool.{and_from, and_parts, cases_Bool, cases_eq, false≢true, or_cases}
+use Rattle.{std.specs.List.list_all, theory.proofs.PropagationLemmas.Forced.forced_assumed}
+use Rattle.theory.specs.Code.{Propagation.{IsClosedAt, OthersFail}, Sets.lacking}
+use Rattle.theory.specs.Propagation.{Forced, IsClosed, IsRootReason, Live}
 
 -- ---- How many literals are not found yet
 

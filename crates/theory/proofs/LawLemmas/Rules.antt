@@ -1,21 +1,19 @@
 -- What both rules share: a step has at most one answer, and answers, states and sums depend only on
 -- the clauses.
-use Rattle.std.proofs.Common.{◌≡◌, Ok, List, slice_get, ◌∙◌, arith, rules, nat_le, Err, [], ◌∷◌}
-use Rattle.std.proofs.{Common.sym, Common.true≢false, lemmas.Bool.cases_Bool}
-use Rattle.cnf_base.specs.Literals.{Clause, Literal}
-use Rattle.theory.specs.Rules.{State, by_ids, by_copies, Answers, after, sum_of, Same, Rule, start}
-use Rattle.theory.specs.{declared.refusal.Refusal.TheVariants.NeitherRupNorPr, Rules.IsSatisfiable}
-use Rattle.theory.proofs.LawLemmas.Truth.{lrat_keeps, drat_keeps, lrat_refutes, drat_refutes}
-use Rattle.theory.proofs.LawLemmas.Sizes.{total_same, sums_same}
-use Rattle.theory.specs.declared.accepted.Accepted.TheVariants.{Empty, Rup, Rat, Pr}
-use Rattle.theory.specs.declared.refusal.Refusal.TheVariants.{NotRup, NeitherRupNorRat}
-use Rattle.theory.specs.{declared.drat_rules.DratRules.DratRules, Propagation.Live, Models.HasModel}
-use Rattle.theory.specs.Drat.{DratStep, AnswersDelete, AnswersDrat, AnswersListed}
-use Rattle.theory.specs.Lrat.{LratState, LratStep, add as add_lrat, delete as delete_lrat, Group}
-use Rattle.theory.specs.Lrat.{ChainEnd, open_with, AnswersChain, AnswersLrat}
-use Rattle.theory.{proofs.LratLemmas.LiveSets.SameClauses-trans, specs.Answers.StepAnswer}
-use Rattle.theory.{specs.declared.accepted.Accepted.Accepted, proofs.DratLemmas.Copies.drat_same}
-use Rattle.proofs.specs.Steps.{Step}
+use Rattle.{cnf_base.specs.Literals.{Clause, Literal}, std.proofs.Common.{◌∙◌, ◌∷◌, ◌≡◌}}
+use Rattle.{proofs.specs.Steps.Step, theory.specs.Models.HasModel}
+use Rattle.std.proofs.Common.{Err, List, Ok, [], arith, nat_le, rules, slice_get, sym, true≢false}
+use Rattle.{std.proofs.lemmas.Bool.cases_Bool, theory.specs.declared.drat_rules.DratRules.DratRules}
+use Rattle.theory.proofs.{DratLemmas.Copies.drat_same, LratLemmas.LiveSets.SameClauses-trans}
+use Rattle.theory.{proofs.LawLemmas.Sizes.{sums_same, total_same}, specs.Answers.StepAnswer}
+use Rattle.theory.proofs.LawLemmas.Truth.{drat_keeps, drat_refutes, lrat_keeps, lrat_refutes}
+use Rattle.theory.specs.Drat.{AnswersDelete, AnswersDrat, AnswersListed, DratStep}
+use Rattle.theory.specs.Lrat.{AnswersChain, AnswersLrat, ChainEnd, Group, LratState, LratStep}
+use Rattle.theory.specs.{Lrat.{add as add_lrat, delete as delete_lrat, open_with}, Propagation.Live}
+use Rattle.theory.specs.Rules.{Answers, IsSatisfiable, Rule, Same, State, after, by_copies, by_ids}
+use Rattle.theory.specs.{Rules.{start, sum_of}, declared.refusal.Refusal.TheVariants.NotRup}
+use Rattle.theory.specs.declared.accepted.Accepted.{Accepted, TheVariants.{Empty, Pr, Rat, Rup}}
+use Rattle.theory.specs.declared.refusal.Refusal.TheVariants.{NeitherRupNorPr, NeitherRupNorRat}
 use Rattle.theory.proofs.DratLemmas.Copies as copies
 use Rattle.theory.proofs.LratLemmas.States as ids
 

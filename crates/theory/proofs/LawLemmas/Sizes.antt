@@ -1,14 +1,12 @@
 -- Clauses that are the same set are equally large, and so are states with the same clauses.
-use Rattle.std.proofs.Common.{◌≡◌, true, Option, rules, ◌+◌, ◌<◌, cond, List, [], ◌∷◌, refl, sym}
-use Rattle.std.proofs.{Common.ap, Common.◌∙◌, Common.arith, Common.sum_by, lemmas.Bool.false≢true}
-use Rattle.std.{proofs.lemmas.List.Sums.sum_by-cons, specs.List.list_any}
-use Rattle.cnf_base.specs.Literals.{Clause, same_clause, size}
-use Rattle.cnf_base.proofs.SetLemmas.{same_itself, same_there, same_back}
-use Rattle.cnf_base.proofs.SizeLemmas.{size_same as by_sets}
-use Rattle.theory.specs.{Laws.EqualSetsEqualTotals, Laws.EqualCopiesEqualSums, Sizes.size_at}
-use Rattle.theory.specs.{Drat.copies_of, Drat.take_off, Drat.SameLive, Lrat.SameAt}
-use Rattle.theory.proofs.DratLemmas.Copies.{copies-take_off, copies_alive, copies-cons}
-use Rattle.theory.proofs.LratLemmas.Sums.{sum_agree}
+use Rattle.{cnf_base.proofs.SetLemmas.{same_back, same_itself, same_there}, std.specs.List.list_any}
+use Rattle.{cnf_base.proofs.SizeLemmas.size_same as by_sets, std.proofs.lemmas.Bool.false≢true}
+use Rattle.{cnf_base.specs.Literals.{Clause, same_clause, size}, theory.specs.Lrat.SameAt}
+use Rattle.std.proofs.Common.{List, Option, [], ap, arith, cond, refl, rules, sum_by, sym, true}
+use Rattle.std.proofs.{Common.{◌+◌, ◌<◌, ◌∙◌, ◌∷◌, ◌≡◌}, lemmas.List.Sums.sum_by-cons}
+use Rattle.theory.proofs.DratLemmas.Copies.{copies-cons, copies-take_off, copies_alive}
+use Rattle.theory.{proofs.LratLemmas.Sums.sum_agree, specs.Drat.{SameLive, copies_of, take_off}}
+use Rattle.theory.specs.{Laws.{EqualCopiesEqualSums, EqualSetsEqualTotals}, Sizes.size_at}
 
 pub size_same : (c d : Clause) → same_clause c d ≡ true → size c ≡ size d
 size_same c d same = by_sets c d (same_there c d same) (same_back c d same)

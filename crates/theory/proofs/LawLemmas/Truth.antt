@@ -1,25 +1,23 @@
 -- What is true under an assignment, the assignment that makes a witness true, and that accepted
 -- steps keep satisfiability.
-use Rattle.std.proofs.Common.{◌∷◌, ◌++◌, sym, ap, ◌∙◌, inl, inr, if◌then◌else◌, ne_eqb, rules, ◌≡◌}
-use Rattle.std.proofs.Common.{arith, ◌≢◌, ℕ, ◌+◌, ◌*◌, true, false, not, ◌||◌, Some, List, []}
-use Rattle.std.proofs.Common.{true≢false, zero, suc, Ok, slice_get}
-use Rattle.std.proofs.lemmas.Bool.{false≢true, cases_Bool, cases_eq, not-true, true_from_ne_false}
-use Rattle.std.proofs.{lemmas.Bool.Decides.nat_tests, lemmas.Option.none-some}
-use Rattle.cnf_base.specs.Literals.{Literal, complement, Clause, has, complements, without}
 use Rattle.cnf_base.proofs.LiteralLemmas.{complement-complement, complement-other}
-use Rattle.cnf_base.proofs.SetLemmas.{has_head, any_from, any_some, any_none, has_append_cases}
-use Rattle.cnf_base.proofs.SetLemmas.{complements_has, without_has, filter_has}
-use Rattle.cnf_base.specs.Literals.{same_clause}
-use Rattle.theory.specs.Propagation.{Live, IsClosed, Forced, Clash, HasRup, HasRat, HasPr}
-use Rattle.theory.specs.Propagation.{open_literals, by_empty, by_both}
-use Rattle.theory.specs.Models.{Assignment, holds, satisfies, Models, HasModel}
-use Rattle.theory.specs.declared.accepted.Accepted.TheVariants.{Rup, Rat, Pr, Empty, Ignored}
-use Rattle.theory.specs.Drat.{after_drat, DratStep, add, delete, AnswersDrat, AnswersListed}
-use Rattle.theory.specs.Lrat.{LratState, LratStep, add as add_lrat, delete as delete_lrat}
-use Rattle.theory.specs.Lrat.{AnswersLrat, after_lrat, with_clause, without_ids}
-use Rattle.theory.proofs.LratLemmas.Steps.{lrat_redundant, deletion_word}
-use Rattle.theory.specs.{declared.drat_rules.DratRules.DratRules, Laws.IsRedundant, Drat.take_off}
-use Rattle.theory.specs.declared.accepted.Accepted.{Accepted}
+use Rattle.cnf_base.proofs.SetLemmas.{any_from, any_none, any_some, complements_has, filter_has}
+use Rattle.cnf_base.proofs.SetLemmas.{has_append_cases, has_head, without_has}
+use Rattle.cnf_base.specs.Literals.{Clause, Literal, complement, complements, has, same_clause}
+use Rattle.{cnf_base.specs.Literals.without, std.proofs.Common.{List, Ok, Some, [], ap, arith}}
+use Rattle.std.proofs.Common.{false, if◌then◌else◌, inl, inr, ne_eqb, not, rules, slice_get, suc}
+use Rattle.std.proofs.Common.{sym, true, true≢false, zero, ℕ, ◌*◌, ◌++◌, ◌+◌, ◌||◌, ◌∙◌, ◌∷◌, ◌≡◌}
+use Rattle.std.proofs.{Common.◌≢◌, lemmas.Bool.{cases_Bool, cases_eq, false≢true, not-true}}
+use Rattle.std.proofs.lemmas.{Bool.{true_from_ne_false, Decides.nat_tests}, Option.none-some}
+use Rattle.theory.{proofs.LratLemmas.Steps.{deletion_word, lrat_redundant}, specs.Drat.AnswersDrat}
+use Rattle.theory.specs.Drat.{AnswersListed, DratStep, add, after_drat, delete, take_off}
+use Rattle.theory.specs.{Laws.IsRedundant, Lrat.{AnswersLrat, LratState, LratStep, add as add_lrat}}
+use Rattle.theory.specs.Lrat.{after_lrat, delete as delete_lrat, with_clause, without_ids}
+use Rattle.theory.specs.{Models.{Assignment, HasModel, Models, holds, satisfies}, Propagation.Clash}
+use Rattle.theory.specs.Propagation.{Forced, HasPr, HasRat, HasRup, IsClosed, Live, by_both}
+use Rattle.theory.specs.{Propagation.{by_empty, open_literals}, declared.accepted.Accepted.Accepted}
+use Rattle.theory.specs.declared.accepted.Accepted.TheVariants.{Empty, Ignored, Pr, Rat, Rup}
+use Rattle.theory.specs.declared.drat_rules.DratRules.{DratRules}
 
 -- ---- What an assignment says of a complement
 

@@ -1,17 +1,15 @@
 -- A proof has one verdict, which depends on the clauses alone, and a verified formula has no model.
-use Rattle.std.proofs.Common.{arith, ◌≡◌, zero, suc, true, Ok, Err, List, [], ◌∷◌}
-use Rattle.std.proofs.Common.{slice_get, refl, rules, inl, inr}
-use Rattle.std.{proofs.lemmas.Bool.false≢true, proofs.lemmas.Bool.cases_Bool, specs.List.list_any}
-use Rattle.cnf_base.specs.Literals.{Clause}
-use Rattle.proofs.specs.Steps.{Step}
-use Rattle.theory.specs.declared.accepted.Accepted.{Accepted, TheVariants.Empty}
-use Rattle.theory.specs.{declared.refusal.Refusal.Refusal, Verdicts.is_empty, Verdicts.Verdict}
-use Rattle.theory.specs.{Answers.StepAnswer, Models.HasModel}
-use Rattle.theory.specs.Rules.{Rule, State, start, Answers, after, Same, IsSatisfiable, IsFinite}
-use Rattle.theory.specs.Verdicts.{Ending, verified, refused, no_empty_clause, is_last, Ends}
-use Rattle.theory.proofs.LawLemmas.Existence.{some_answer, after_finite, start_finite}
-use Rattle.theory.proofs.LawLemmas.Rules.{answers_same, after_same, answer_unique, keeps, refutes}
-use Rattle.theory.proofs.{LawLemmas.Rules.started, LratLemmas.Steps.ok_is, LratLemmas.Steps.ok_err}
+use Rattle.{cnf_base.specs.Literals.Clause, proofs.specs.Steps.Step, std.proofs.Common.{Err, List}}
+use Rattle.std.proofs.Common.{Ok, [], arith, inl, inr, refl, rules, slice_get, suc, true, zero, ◌∷◌}
+use Rattle.std.{proofs.{Common.◌≡◌, lemmas.Bool.{cases_Bool, false≢true}}, specs.List.list_any}
+use Rattle.theory.proofs.LawLemmas.Existence.{after_finite, some_answer, start_finite}
+use Rattle.theory.proofs.LawLemmas.Rules.{after_same, answer_unique, answers_same, keeps, refutes}
+use Rattle.theory.proofs.{LawLemmas.Rules.started, LratLemmas.Steps.{ok_err, ok_is}}
+use Rattle.theory.specs.{Answers.StepAnswer, Models.HasModel, Rules.{Answers, IsFinite}}
+use Rattle.theory.specs.{Rules.{IsSatisfiable, Rule, Same, State, after, start}, Verdicts.Ending}
+use Rattle.theory.specs.Verdicts.{Ends, Verdict, is_empty, is_last, no_empty_clause, refused}
+use Rattle.theory.specs.{Verdicts.verified, declared.accepted.Accepted.Accepted}
+use Rattle.theory.specs.declared.{accepted.Accepted.TheVariants.Empty, refusal.Refusal.Refusal}
 
 -- ---- The same clauses
 

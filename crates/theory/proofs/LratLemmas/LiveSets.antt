@@ -1,9 +1,8 @@
 -- Live clauses that are the same sets.
-use Rattle.std.proofs.Common.{◌≡◌, ℕ, true, Option, rules}
-use Rattle.std.proofs.lemmas.Bool.{and_from}
-use Rattle.cnf_base.{specs.Literals.Clause, specs.Literals.same_clause, proofs.SetLemmas.each_all}
-use Rattle.theory.specs.{Propagation.Live, Lrat.SameAt, Lrat.SameClauses, Sets.SameSet}
-use Rattle.theory.proofs.LratLemmas.SameSets.{same_set_from}
+use Rattle.cnf_base.{proofs.SetLemmas.each_all, specs.Literals.{Clause, same_clause}}
+use Rattle.std.proofs.{Common.{Option, rules, true, ℕ, ◌≡◌}, lemmas.Bool.and_from}
+use Rattle.theory.{proofs.LratLemmas.SameSets.same_set_from, specs.Lrat.{SameAt, SameClauses}}
+use Rattle.theory.specs.{Propagation.Live, Sets.SameSet}
 
 pub same_clause_from : (c d : Clause) → SameSet c d → same_clause c d ≡ true
 same_clause_from c d same = search (rules, and_from, each_all)

@@ -1,19 +1,18 @@
 -- The rule of LRAT depends only on the sets of the live clauses.
-use Rattle.std.proofs.Common.{arith, ◌≡◌, ℕ, true, ◌||◌, eqb, Option, Some, option_map, List, []}
-use Rattle.std.proofs.Common.{◌∷◌, refl, sym, ap, ◌∙◌, rules}
+use Rattle.cnf_base.proofs.SetLemmas.{both_pass, filter_has, has-filter, has-without, has_head}
+use Rattle.cnf_base.proofs.SetLemmas.{same_back, same_symm, same_there, without_has}
+use Rattle.{cnf_base.proofs.SizeLemmas.IsWithin, std.proofs.Common.{true, ℕ, ◌||◌, ◌∙◌, ◌∷◌, ◌≡◌}}
+use Rattle.cnf_base.specs.Literals.{Clause, Literal, same_clause, without}
+use Rattle.std.proofs.Common.{List, Option, Some, [], ap, arith, eqb, option_map, refl, rules, sym}
 use Rattle.std.{proofs.lemmas.Bool.false≢true, specs.List.list_all}
-use Rattle.cnf_base.specs.Literals.{Literal, Clause, without, same_clause}
-use Rattle.cnf_base.proofs.SetLemmas.{both_pass, has_head, has-filter, filter_has, has-without}
-use Rattle.cnf_base.proofs.SetLemmas.{without_has, same_there, same_back, same_symm}
-use Rattle.cnf_base.proofs.SizeLemmas.{IsWithin}
-use Rattle.theory.specs.Lrat.{SameClauses, ChainEnd, look_at, chain, Group, LratStep, chain_refusal}
-use Rattle.theory.specs.Lrat.{with_candidate, group_refusal, groups_refusal, is_unsettled, SameAt}
-use Rattle.theory.specs.Lrat.{is_left_out, AnswersGroups, AnswersChain, with_clause, without_id}
-use Rattle.theory.specs.{Lrat.without_ids, Lrat.deletion_refusal, Lrat.AnswersLrat, Sets.SameSet}
-use Rattle.theory.specs.{Propagation.Live, declared.refusal.Refusal.Refusal, Answers.StepAnswer}
-use Rattle.theory.{specs.Propagation.open_literals, proofs.DratLemmas.Copies.complements_within}
-use Rattle.theory.proofs.{PropagationLemmas.Conflicts.conflicts_same, DratLemmas.Copies.append_more}
-use Rattle.theory.proofs.PropagationLemmas.Open.{first_alone, alone_first}
+use Rattle.theory.proofs.DratLemmas.Copies.{append_more, complements_within}
+use Rattle.theory.{proofs.PropagationLemmas.Conflicts.conflicts_same, specs.Answers.StepAnswer}
+use Rattle.theory.proofs.PropagationLemmas.Open.{alone_first, first_alone}
+use Rattle.theory.specs.Lrat.{AnswersChain, AnswersGroups, AnswersLrat, ChainEnd, Group, LratStep}
+use Rattle.theory.specs.Lrat.{SameAt, SameClauses, chain, chain_refusal, deletion_refusal}
+use Rattle.theory.specs.Lrat.{group_refusal, groups_refusal, is_left_out, is_unsettled, look_at}
+use Rattle.theory.specs.{Lrat.{with_candidate, with_clause, without_id, without_ids}, Sets.SameSet}
+use Rattle.theory.specs.{Propagation.{Live, open_literals}, declared.refusal.Refusal.Refusal}
 
 pub same_set_from : (c d : Clause) → same_clause c d ≡ true → SameSet c d
 same_set_from c d same l = search (rules, both_pass, same_there, same_back)

@@ -1,13 +1,12 @@
 -- States with the same clauses, and what the clauses of a formula leave.
-use Rattle.std.proofs.Common.{◌≡◌, ℕ, suc, ◌+◌, true, cond, eqb, ne_eqb, Some, List, [], ◌∷◌, ◌++◌}
-use Rattle.std.proofs.Common.{length, slice_get, subst, rules}
-use Rattle.cnf_base.specs.Literals.{Clause, same_clause}
-use Rattle.cnf_base.proofs.SetLemmas.{any_from, any_some, same_itself, same_there, same_symm}
-use Rattle.theory.specs.{Propagation.Live, Answers.StepAnswer, Lrat.SameClauses, Drat.SameLive}
-use Rattle.theory.specs.Models.{Assignment, holds, satisfies, Models, HasModel}
-use Rattle.theory.specs.Lrat.{LratState, LratStep, AnswersLrat, after_lrat, with_clause, numbered}
-use Rattle.theory.proofs.DratLemmas.Copies.{covers_of}
-use Rattle.theory.proofs.LratLemmas.SameSets.{with_same, without_all_same, lrat_same}
+use Rattle.cnf_base.proofs.SetLemmas.{any_from, any_some, same_itself, same_symm, same_there}
+use Rattle.{cnf_base.specs.Literals.{Clause, same_clause}, std.proofs.Common.{List, Some, [], cond}}
+use Rattle.std.proofs.Common.{eqb, length, ne_eqb, rules, slice_get, subst, suc, true, ℕ, ◌++◌, ◌+◌}
+use Rattle.{std.proofs.Common.{◌∷◌, ◌≡◌}, theory.proofs.DratLemmas.Copies.covers_of}
+use Rattle.theory.proofs.LratLemmas.SameSets.{lrat_same, with_same, without_all_same}
+use Rattle.theory.specs.{Answers.StepAnswer, Drat.SameLive, Lrat.{AnswersLrat, LratState, LratStep}}
+use Rattle.theory.specs.{Lrat.{SameClauses, after_lrat, numbered, with_clause}, Models.Assignment}
+use Rattle.theory.specs.{Models.{HasModel, Models, holds, satisfies}, Propagation.Live}
 
 -- ---- States with the same clauses
 

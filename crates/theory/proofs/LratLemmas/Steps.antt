@@ -1,22 +1,20 @@
 -- What an accepted LRAT step shows.
-use Rattle.std.proofs.Common.{◌≡◌, ℕ, true, false, eqb, eqb-true, Option, Some, None, Ok, Err, List}
-use Rattle.std.proofs.Common.{[], ◌∷◌, ◌++◌, inl, inr, arith, rules, refl}
-use Rattle.std.proofs.lemmas.{Bool.false≢true, Bool.cases_Bool, Bool.or_cases, List.map-append}
-use Rattle.std.specs.{Option.option_or, List.list_any}
-use Rattle.cnf_base.specs.Literals.{Literal, complement, Clause, has, complements, without}
-use Rattle.cnf_base.proofs.SetLemmas.{has_head, has_append_left, has_append_right, has_append_cases}
-use Rattle.cnf_base.proofs.SetLemmas.{has_cases}
-use Rattle.theory.specs.Propagation.{Live, Forced, Clash, HasRat, open_literals}
-use Rattle.theory.specs.Lrat.{ChainEnd, conflict, chain, Group, with_candidate, AnswersGroups}
-use Rattle.theory.specs.Lrat.{AnswersChain, answer_of, chain_refusal, group_refusal, groups_refusal}
-use Rattle.theory.specs.Lrat.{is_left_out, open_with, unknown, not_unit, look_at}
-use Rattle.theory.proofs.PropagationLemmas.Forced.{forced_assumed, forced_through, clash_through}
-use Rattle.theory.proofs.PropagationLemmas.Unit.{none_left_clashes, clash_of_conflict}
-use Rattle.theory.specs.Laws.{IsRedundant, LratShowsRedundant}
-use Rattle.theory.proofs.PropagationLemmas.{Unit.left_is_forced, Open.first_alone}
-use Rattle.theory.specs.{declared.refusal.Refusal.TheVariants.GroupWithoutConflict, Sets.conflicts}
-use Rattle.theory.specs.{Answers.StepAnswer, declared.accepted.Accepted.TheVariants.Deleted}
-use Rattle.theory.specs.declared.{accepted.Accepted.Accepted, refusal.Refusal.Refusal}
+use Rattle.cnf_base.proofs.SetLemmas.{has_append_cases, has_append_left, has_append_right}
+use Rattle.{cnf_base.proofs.SetLemmas.{has_cases, has_head}, std.specs.Option.option_or}
+use Rattle.cnf_base.specs.Literals.{Clause, Literal, complement, complements, has, without}
+use Rattle.std.proofs.Common.{Err, List, None, Ok, Option, Some, [], arith, eqb, eqb-true, false}
+use Rattle.std.{proofs.Common.{inl, inr, refl, rules, true, ℕ, ◌++◌, ◌∷◌, ◌≡◌}, specs.List.list_any}
+use Rattle.std.proofs.lemmas.{Bool.{cases_Bool, false≢true, or_cases}, List.map-append}
+use Rattle.theory.proofs.PropagationLemmas.Forced.{clash_through, forced_assumed, forced_through}
+use Rattle.theory.proofs.PropagationLemmas.{Open.first_alone, Unit.none_left_clashes}
+use Rattle.theory.proofs.PropagationLemmas.Unit.{clash_of_conflict, left_is_forced}
+use Rattle.theory.specs.{Answers.StepAnswer, Laws.{IsRedundant, LratShowsRedundant}, Sets.conflicts}
+use Rattle.theory.specs.Lrat.{AnswersChain, AnswersGroups, ChainEnd, Group, answer_of, chain}
+use Rattle.theory.specs.Lrat.{chain_refusal, conflict, group_refusal, groups_refusal, is_left_out}
+use Rattle.theory.specs.Lrat.{look_at, not_unit, open_with, unknown, with_candidate}
+use Rattle.theory.specs.Propagation.{Clash, Forced, HasRat, Live, open_literals}
+use Rattle.theory.specs.declared.accepted.Accepted.{Accepted, TheVariants.Deleted}
+use Rattle.theory.specs.declared.refusal.Refusal.{Refusal, TheVariants.GroupWithoutConflict}
 
 -- ---- A walk over hints adds only literals that are forced, and a conflict in it is a clash
 

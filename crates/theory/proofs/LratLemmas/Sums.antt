@@ -1,10 +1,8 @@
 -- Sums of sizes over identifiers.
-use Rattle.std.proofs.Common.{◌≡◌, ◌≢◌, ℕ, zero, suc, ◌+◌, ◌<◌, ◌≤◌, ne_eqb, eq-eqb, Some}
-use Rattle.std.proofs.Common.{None, refl, ap, ◌∙◌, arith, inl, inr, rules}
-use Rattle.std.proofs.lemmas.Bool.{cases_lt, cases_eq}
-use Rattle.cnf_base.specs.Literals.{Clause, size}
-use Rattle.theory.specs.{Propagation.Live, Lrat.with_clause, Lrat.without_id}
-use Rattle.theory.specs.Sizes.{size_at, sum_to}
+use Rattle.{cnf_base.specs.Literals.{Clause, size}, std.proofs.Common.{None, Some, ap, arith}}
+use Rattle.std.proofs.Common.{eq-eqb, inl, inr, ne_eqb, refl, rules, suc, zero, ℕ, ◌+◌, ◌<◌, ◌∙◌}
+use Rattle.std.proofs.{Common.{◌≡◌, ◌≢◌, ◌≤◌}, lemmas.Bool.{cases_eq, cases_lt}}
+use Rattle.theory.specs.{Lrat.{with_clause, without_id}, Propagation.Live, Sizes.{size_at, sum_to}}
 
 pub sum_agree : (n : ℕ) (f g : ℕ → ℕ) → ((k : ℕ) → 1 ≤ k → k ≤ n → f k ≡ g k)
     → sum_to n f ≡ sum_to n g

@@ -1,8 +1,7 @@
 -- Forced literals: the least set, its growth with what is assumed, and one clause's rule.
-use Rattle.std.proofs.Common.{◌≡◌, ◌≢◌, ℕ, true, Some, List, [], ◌∷◌, rules}
-use Rattle.cnf_base.specs.Literals.{Literal, complement, Clause, has}
-use Rattle.cnf_base.proofs.SetLemmas.{has_head}
-use Rattle.theory.specs.Propagation.{Live, Forced, Clash, by_empty, by_both}
+use Rattle.cnf_base.{proofs.SetLemmas.has_head, specs.Literals.{Clause, Literal, complement, has}}
+use Rattle.std.proofs.Common.{List, Some, [], rules, true, ℕ, ◌∷◌, ◌≡◌, ◌≢◌}
+use Rattle.theory.specs.Propagation.{Clash, Forced, Live, by_both, by_empty}
 
 module _ (live : Live) (assumed : List Literal) where
   -- a literal of the list is forced

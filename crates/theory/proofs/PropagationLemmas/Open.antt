@@ -1,11 +1,9 @@
 -- The literals of a clause that are not false.
-use Rattle.std.proofs.Common.{◌≡◌, true, false, eqb, eqb-true, eq-eqb, List, ◌∷◌, sym, ◌∙◌, ◌⊎◌}
-use Rattle.std.proofs.{Common.rules, lemmas.Bool.cases_Bool, lemmas.Bool.not-true}
-use Rattle.std.specs.List.{list_all}
-use Rattle.cnf_base.specs.Literals.{Literal, complement, Clause, has}
-use Rattle.cnf_base.proofs.SetLemmas.{has_head, has_tail, has_cases, all_each, each_all, has-filter}
-use Rattle.cnf_base.proofs.SetLemmas.{filter_has}
-use Rattle.theory.specs.Propagation.{open_literals}
+use Rattle.cnf_base.proofs.SetLemmas.{all_each, each_all, filter_has, has-filter, has_cases}
+use Rattle.{cnf_base.proofs.SetLemmas.{has_head, has_tail}, theory.specs.Propagation.open_literals}
+use Rattle.cnf_base.specs.Literals.{Clause, Literal, complement, has}
+use Rattle.std.proofs.Common.{List, eq-eqb, eqb, eqb-true, false, rules, sym, true, ◌∙◌, ◌∷◌, ◌≡◌}
+use Rattle.std.{proofs.{Common.◌⊎◌, lemmas.Bool.{cases_Bool, not-true}}, specs.List.list_all}
 
 -- each literal of the list is this one
 abbrev pub AreAll : List Literal → Literal → Type 0

@@ -1,14 +1,13 @@
 -- The unit rule by the literals of clauses that are not false: what follows, and where nothing more
 -- does.
-use Rattle.std.proofs.Common.{arith, ◌≡◌, ℕ, true, false, Some, List, [], sym, ap, ◌∙◌, inl, inr}
-use Rattle.std.proofs.Common.{rules}
-use Rattle.std.proofs.lemmas.Bool.{false≢true, true≢false, cases_eq}
-use Rattle.cnf_base.specs.Literals.{Literal, complement, Clause, has}
-use Rattle.theory.specs.{Code.Propagation.OthersFail, Code.Propagation.IsClosedAt, Sets.conflicts}
-use Rattle.theory.specs.Propagation.{Live, IsClosed, Forced, Clash, open_literals, by_both}
+use Rattle.{cnf_base.specs.Literals.{Clause, Literal, complement, has}, std.proofs.Common.List}
+use Rattle.std.proofs.Common.{Some, [], ap, arith, false, inl, inr, rules, sym, true, ℕ, ◌∙◌, ◌≡◌}
+use Rattle.std.proofs.lemmas.Bool.{cases_eq, false≢true, true≢false}
 use Rattle.theory.proofs.PropagationLemmas.Conflicts.{conflict_from, conflicts_some}
-use Rattle.theory.proofs.PropagationLemmas.Forced.{forced_unit, clash_by_false}
-use Rattle.theory.proofs.PropagationLemmas.Open.{AreAll, IsAlone, open_has, open_cases}
+use Rattle.theory.proofs.PropagationLemmas.{Forced.{clash_by_false, forced_unit}, Open.AreAll}
+use Rattle.theory.proofs.PropagationLemmas.Open.{IsAlone, open_cases, open_has}
+use Rattle.theory.specs.{Code.Propagation.{IsClosedAt, OthersFail}, Propagation.{Clash, Forced}}
+use Rattle.theory.specs.{Propagation.{IsClosed, Live, by_both, open_literals}, Sets.conflicts}
 
 -- ---- One clause
 

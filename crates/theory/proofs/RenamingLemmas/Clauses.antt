@@ -1,11 +1,10 @@
 -- Clauses under a map of literals that another map undoes.
-use Rattle.std.proofs.Common.{arith, ◌≡◌, ℕ, suc, take, drop, Bool, true, eqb, List, [], ◌∷◌}
-use Rattle.std.proofs.Common.{Some, ◌++◌, map, filter, refl, rules}
-use Rattle.std.{proofs.lemmas.Bool.false≢true, specs.List.list_any, specs.List.list_all}
-use Rattle.cnf_base.specs.Literals.{Literal, complement, Clause, has, complements, without}
-use Rattle.cnf_base.specs.Literals.{same_clause}
-use Rattle.cnf_base.proofs.SetLemmas.{has_head, has_tail, has_cases, filter_has, has_append_cases}
-use Rattle.theory.specs.{Propagation.open_literals, Propagation.Live, Sets.conflicts}
+use Rattle.cnf_base.proofs.SetLemmas.{filter_has, has_append_cases, has_cases, has_head, has_tail}
+use Rattle.cnf_base.specs.Literals.{Clause, Literal, complement, complements, has, same_clause}
+use Rattle.{cnf_base.specs.Literals.without, std.proofs.Common.{Bool, List, Some, [], arith, drop}}
+use Rattle.std.proofs.Common.{eqb, filter, map, refl, rules, suc, take, true, ℕ, ◌++◌, ◌∷◌, ◌≡◌}
+use Rattle.std.{proofs.lemmas.Bool.false≢true, specs.List.{list_all, list_any}}
+use Rattle.theory.specs.{Propagation.{Live, open_literals}, Sets.conflicts}
 
 -- each literal of the list is one of these
 abbrev pub AreAmong : (Literal → Type 0) → List Literal → Type 0

@@ -1,24 +1,22 @@
 -- The rule of DRAT under other names.
-use Rattle.std.proofs.Common.{◌≡◌, ℕ, zero, suc, not, eqb, Option, Some, option_map, Ok, Err, List}
-use Rattle.std.proofs.Common.{[], ◌∷◌, map, slice_get, refl, sym, ap, arith, rules}
-use Rattle.std.proofs.{lemmas.List.length-map, Common.◌∙◌}
-use Rattle.std.proofs.lemmas.Option.{none-some, same_Some, slice_get-map}
-use Rattle.std.specs.List.{list_any, take-map, drop-map, prefix_len}
-use Rattle.cnf_base.specs.Literals.{Literal, complement, Clause, same_clause}
-use Rattle.cnf_base.proofs.SetLemmas.{has_head}
-use Rattle.proofs.specs.{Steps.clause_part, Steps.witness_part, declared.step_buf.StepKind.StepKind}
-use Rattle.theory.specs.declared.{drat_rules.DratRules.DratRules, accepted.Accepted.Accepted}
-use Rattle.theory.specs.declared.accepted.Accepted.TheVariants.{Rup, Rat, Pr, Empty}
-use Rattle.theory.specs.declared.refusal.Refusal.TheVariants.{NotRup, NeitherRupNorRat}
+use Rattle.{cnf_base.proofs.SetLemmas.has_head, std.specs.List.{drop-map, list_any, prefix_len}}
+use Rattle.cnf_base.specs.Literals.{Clause, Literal, complement, same_clause}
+use Rattle.proofs.specs.{Steps.{clause_part, witness_part}, declared.step_buf.StepKind.StepKind}
+use Rattle.std.proofs.Common.{Err, List, Ok, Option, Some, [], ap, arith, eqb, map, not, option_map}
+use Rattle.std.proofs.Common.{refl, rules, slice_get, suc, sym, zero, ℕ, ◌∙◌, ◌∷◌, ◌≡◌}
+use Rattle.std.proofs.lemmas.{List.length-map, Option.{none-some, same_Some, slice_get-map}}
+use Rattle.{std.specs.List.take-map, theory.specs.{Answers.StepAnswer, Drat.take_off}}
+use Rattle.theory.proofs.RenamingLemmas.Clauses.{AreAmong, GoesTo, LiveAmong, Renames, back_there}
+use Rattle.theory.proofs.RenamingLemmas.Clauses.{conflicts_mapped, equal_is, mapped_among}
+use Rattle.theory.proofs.RenamingLemmas.{Clauses.same_mapped, Forced.{reason_image, rup_of}}
+use Rattle.theory.proofs.RenamingLemmas.Forced.{Carries, carries_back, pr_image, rat_image}
+use Rattle.theory.specs.Drat.{AnswersAdd, AnswersDelete, AnswersDrat, AnswersListed, drat_step_of}
+use Rattle.theory.specs.Drat.{AnswersWithWitness, DratStep, IsKeptUnit, add, after_drat, delete}
+use Rattle.theory.specs.Propagation.{HasPr, HasRat, HasRup, IsRootReason, Live}
+use Rattle.theory.specs.{Renaming.answer_renamed, declared.drat_rules.DratRules.DratRules}
+use Rattle.theory.specs.declared.accepted.Accepted.{Accepted, TheVariants.{Empty, Pr, Rat, Rup}}
 use Rattle.theory.specs.declared.refusal.Refusal.TheVariants.{InconsistentSet, NeitherRupNorPr}
-use Rattle.theory.specs.{Renaming.answer_renamed, Answers.StepAnswer, Drat.AnswersListed}
-use Rattle.theory.specs.Drat.{AnswersDelete, AnswersDrat, IsKeptUnit, DratStep, add, delete}
-use Rattle.theory.specs.Drat.{drat_step_of, take_off, after_drat, AnswersAdd, AnswersWithWitness}
-use Rattle.theory.specs.Propagation.{Live, HasRup, HasRat, HasPr, IsRootReason}
-use Rattle.theory.proofs.RenamingLemmas.Clauses.{AreAmong, Renames, GoesTo, mapped_among, equal_is}
-use Rattle.theory.proofs.RenamingLemmas.Clauses.{back_there, conflicts_mapped, same_mapped}
-use Rattle.theory.proofs.RenamingLemmas.{Forced.rat_image, Forced.pr_image, Clauses.LiveAmong}
-use Rattle.theory.proofs.RenamingLemmas.Forced.{reason_image, Carries, carries_back, rup_of}
+use Rattle.theory.specs.declared.refusal.Refusal.TheVariants.{NeitherRupNorRat, NotRup}
 
 -- a step whose literals are mapped
 abbrev pub drat_mapped : (Literal → Literal) → DratStep → DratStep

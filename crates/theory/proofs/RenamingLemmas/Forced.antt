@@ -1,13 +1,12 @@
 -- What is forced under other names, and the clauses that are redundant.
-use Rattle.std.proofs.Common.{arith, ◌≡◌, ℕ, Bool, true, Some, List, [], ◌∷◌, map}
-use Rattle.std.proofs.Common.{refl, sym, ap, ◌∙◌, subst, inl, inr, rules}
-use Rattle.std.proofs.lemmas.List.{map-append}
-use Rattle.cnf_base.specs.Literals.{Literal, complement, Clause, has, complements, without}
-use Rattle.theory.specs.Propagation.{Live, IsClosed, Forced, Clash, by_empty, by_both}
-use Rattle.theory.specs.Propagation.{open_literals, IsRootReason, HasRup, HasRat, HasPr}
-use Rattle.theory.proofs.RenamingLemmas.Clauses.{AreAmong, Renames, GoesTo, reversed, has_mapped}
-use Rattle.theory.proofs.RenamingLemmas.Clauses.{mapped_has, has_is, without_mapped, open_mapped}
-use Rattle.theory.proofs.RenamingLemmas.Clauses.{mapped_among}
+use Rattle.cnf_base.specs.Literals.{Clause, Literal, complement, complements, has, without}
+use Rattle.std.proofs.Common.{Bool, List, Some, [], ap, arith, inl, inr, map, refl, rules, subst}
+use Rattle.std.proofs.{Common.{sym, true, ℕ, ◌∙◌, ◌∷◌, ◌≡◌}, lemmas.List.map-append}
+use Rattle.theory.proofs.RenamingLemmas.Clauses.{AreAmong, GoesTo, Renames, has_is, has_mapped}
+use Rattle.theory.proofs.RenamingLemmas.Clauses.{mapped_among, mapped_has, open_mapped, reversed}
+use Rattle.theory.{proofs.RenamingLemmas.Clauses.without_mapped, specs.Propagation.{Clash, Forced}}
+use Rattle.theory.specs.Propagation.{HasPr, HasRat, HasRup, IsClosed, IsRootReason, Live, by_both}
+use Rattle.theory.specs.Propagation.{by_empty, open_literals}
 
 -- each clause of the one has its image in the other
 abbrev pub HasImages : (Literal → Literal) → Live → Live → Type 0

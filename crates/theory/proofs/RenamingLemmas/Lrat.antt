@@ -1,21 +1,19 @@
 -- The rule of LRAT under other names.
-use Rattle.std.proofs.Common.{option_map, List, [], ◌∷◌, map, refl, ℕ, rules, arith, ◌≡◌, Bool, eqb}
-use Rattle.std.proofs.Common.{Option, Some, None}
-use Rattle.std.proofs.{lemmas.List.map-append, lemmas.Option.none-some, lemmas.Option.same_Some}
-use Rattle.std.specs.{Bool.then_some, Option.option_or, Prelude.⊤}
-use Rattle.cnf_base.specs.Literals.{Literal, Clause, complements}
-use Rattle.cnf_base.proofs.{SetLemmas.has_head, SetLemmas.has_tail}
-use Rattle.theory.specs.Renaming.{refusal_renamed, answer_renamed, AreRenamed}
-use Rattle.theory.specs.Lrat.{without_ids, deletion_refusal, ChainEnd, conflict, open_with, unknown}
-use Rattle.theory.specs.Lrat.{not_unit, look_at, chain, Group, LratStep, add, delete}
-use Rattle.theory.specs.Lrat.{with_candidate, chain_refusal, group_refusal, groups_refusal}
-use Rattle.theory.specs.Lrat.{is_unsettled, is_left_out, AnswersGroups, AnswersChain, AnswersLrat}
-use Rattle.theory.proofs.RenamingLemmas.Clauses.{AreAmong, Renames, all_mapped, equal_is}
-use Rattle.theory.proofs.RenamingLemmas.Clauses.{has_opposite, complements_mapped, without_mapped}
-use Rattle.theory.proofs.RenamingLemmas.Clauses.{open_mapped, conflicts_mapped, complements_among}
-use Rattle.theory.proofs.RenamingLemmas.Clauses.{filter_among, append_among, LiveAmong}
-use Rattle.theory.specs.{declared.refusal.Refusal.Refusal, Propagation.open_literals}
-use Rattle.theory.specs.{Answers.StepAnswer, Propagation.Live, Lrat.without_id}
+use Rattle.{cnf_base.proofs.SetLemmas.{has_head, has_tail}, std.proofs.lemmas.List.map-append}
+use Rattle.{cnf_base.specs.Literals.{Clause, Literal, complements}, std.specs.Option.option_or}
+use Rattle.std.proofs.Common.{Bool, List, None, Option, Some, [], arith, eqb, map, option_map, refl}
+use Rattle.std.proofs.{Common.{rules, ℕ, ◌∷◌, ◌≡◌}, lemmas.Option.{none-some, same_Some}}
+use Rattle.std.specs.{Bool.then_some, Prelude.⊤}
+use Rattle.theory.proofs.RenamingLemmas.Clauses.{AreAmong, LiveAmong, Renames, all_mapped}
+use Rattle.theory.proofs.RenamingLemmas.Clauses.{append_among, complements_among, without_mapped}
+use Rattle.theory.proofs.RenamingLemmas.Clauses.{complements_mapped, conflicts_mapped, equal_is}
+use Rattle.theory.proofs.RenamingLemmas.Clauses.{filter_among, has_opposite, open_mapped}
+use Rattle.theory.specs.{Answers.StepAnswer, Renaming.{AreRenamed, answer_renamed, refusal_renamed}}
+use Rattle.theory.specs.Lrat.{AnswersChain, AnswersGroups, AnswersLrat, ChainEnd, Group, LratStep}
+use Rattle.theory.specs.Lrat.{add, chain, chain_refusal, conflict, delete, deletion_refusal}
+use Rattle.theory.specs.Lrat.{group_refusal, groups_refusal, is_left_out, is_unsettled, look_at}
+use Rattle.theory.specs.Lrat.{not_unit, open_with, unknown, with_candidate, without_id, without_ids}
+use Rattle.theory.specs.{Propagation.{Live, open_literals}, declared.refusal.Refusal.Refusal}
 
 -- each literal of a clause is among these, where there is one
 abbrev IsAmong : (Literal → Type 0) → Option Clause → Type 0

@@ -1,23 +1,21 @@
 -- States, steps and proofs under other names.
-use Rattle.std.proofs.Common.{◌≡◌, ℕ, zero, suc, ◌+◌, ◌*◌, ◌%◌, Ok, List, [], ◌∷◌, map, slice_get}
-use Rattle.std.proofs.Common.{refl, ap, arith, rules, nat_abs}
-use Rattle.std.proofs.lemmas.{Option.none-some, Option.slice_get-map, Bool.false≢true}
-use Rattle.std.{proofs.lemmas.List.length-map, specs.List.list_any}
-use Rattle.cnf_base.specs.Literals.{Literal, complement, Clause, variable}
-use Rattle.cnf_base.proofs.MemberLemmas.{variable-complement}
-use Rattle.theory.specs.Drat.{DratStep, AnswersDrat, drat_step_of, take_off, after_drat}
-use Rattle.theory.specs.Lrat.{AnswersLrat, step_of, without_ids, after_lrat, LratState}
-use Rattle.theory.specs.Rules.{Rule, State, by_ids, by_copies, start, Answers, after}
-use Rattle.theory.specs.{Verdicts.Ending, Verdicts.Ends, Verdicts.is_empty, Answers.StepAnswer}
-use Rattle.theory.specs.Renaming.{renamed, step_renamed, answer_renamed, ending_renamed, IsUndone}
-use Rattle.theory.specs.Renaming.{AreUndone, StepsAreUndone, IsRenamed}
-use Rattle.theory.proofs.RenamingLemmas.Clauses.{Renames, take_has, drop_has}
-use Rattle.theory.proofs.RenamingLemmas.Drat.{IsOf, drat_answers_mapped, after_mapped, drat_mapped}
-use Rattle.theory.{proofs.RenamingLemmas.Drat.drat_step_mapped, specs.Laws.VerdictsKeepUnderNames}
-use Rattle.theory.specs.{declared.drat_rules.DratRules.DratRules, Propagation.Live}
-use Rattle.theory.{specs.declared.accepted.Accepted.Accepted, proofs.LawLemmas.Truth.take_off_from}
+use Rattle.{cnf_base.proofs.MemberLemmas.variable-complement, theory.specs.Propagation.Live}
+use Rattle.cnf_base.specs.Literals.{Clause, Literal, complement, variable}
+use Rattle.proofs.specs.{Steps.{Step, clause_part}, declared.step_buf.StepKind.StepKind}
+use Rattle.std.proofs.Common.{List, Ok, [], ap, arith, map, nat_abs, refl, rules, slice_get, suc}
+use Rattle.std.{proofs.Common.{zero, ℕ, ◌%◌, ◌*◌, ◌+◌, ◌∷◌, ◌≡◌}, specs.List.list_any}
+use Rattle.std.proofs.lemmas.{Bool.false≢true, List.length-map, Option.{none-some, slice_get-map}}
+use Rattle.theory.proofs.{LawLemmas.Truth.take_off_from, RenamingLemmas.Drat.drat_step_mapped}
+use Rattle.theory.proofs.RenamingLemmas.Clauses.{Renames, drop_has, take_has}
+use Rattle.theory.proofs.RenamingLemmas.Drat.{IsOf, after_mapped, drat_answers_mapped, drat_mapped}
 use Rattle.theory.proofs.RenamingLemmas.Lrat.{lrat_answers_mapped, without_all_mapped}
-use Rattle.proofs.specs.{Steps.Step, Steps.clause_part, declared.step_buf.StepKind.StepKind}
+use Rattle.theory.specs.{Answers.StepAnswer, Renaming.{ending_renamed, renamed, step_renamed}}
+use Rattle.theory.specs.Drat.{AnswersDrat, DratStep, after_drat, drat_step_of, take_off}
+use Rattle.theory.specs.{Laws.VerdictsKeepUnderNames, Verdicts.{Ending, Ends, is_empty}}
+use Rattle.theory.specs.Lrat.{AnswersLrat, LratState, after_lrat, step_of, without_ids}
+use Rattle.theory.specs.Renaming.{AreUndone, IsRenamed, IsUndone, StepsAreUndone, answer_renamed}
+use Rattle.theory.specs.Rules.{Answers, Rule, State, after, by_copies, by_ids, start}
+use Rattle.theory.specs.declared.{accepted.Accepted.Accepted, drat_rules.DratRules.DratRules}
 use Rattle.proofs.specs.declared.step_buf.StepKind.TheVariants as kinds
 
 -- ---- Names

@@ -1,19 +1,15 @@
 -- What is left of a clause: how many literals, and through one more literal.
-use Rattle.std.proofs.Common.{◌≡◌, ℕ, ◌+◌, ◌<◌, Bool, true, false, not, cond, eqb, Some, List, []}
-use Rattle.std.proofs.Common.{◌∷◌, ◌++◌, length, get_or, take, drop, length-append, arith, refl}
-use Rattle.std.proofs.Common.{sym, ◌∙◌, append-nil, rules}
-use Rattle.std.specs.List.{list_all}
-use Rattle.std.proofs.lemmas.List.Elements.{filter_more, filter-append}
-use Rattle.std.proofs.lemmas.List.{Folds.list_all-append, take-append-drop}
-use Rattle.cnf_base.specs.Literals.{Literal, complement, Clause, has}
-use Rattle.theory.specs.Propagation.{Live, IsClosed, Clash, open_literals}
-use Rattle.theory.specs.{Code.Propagation.IsClosedAt, Sets.conflicts}
-use Rattle.trail.specs.Code.Left.{with_one, IsCount, IsSettled}
-use Rattle.trail.specs.{declared.left.Left.Left, Left.how_many}
-use Rattle.trail.specs.declared.left.Left.TheVariants.{Nothing, One, More}
-use Rattle.theory.proofs.PropagationLemmas.Open.{AreAll, IsAlone, first_alone, alone_first}
-use Rattle.theory.proofs.PropagationLemmas.Open.{open_has}
-use Rattle.theory.proofs.PropagationLemmas.Unit.{true_closes, two_close, closed_quiet}
+use Rattle.{cnf_base.specs.Literals.{Clause, Literal, complement, has}, std.specs.List.list_all}
+use Rattle.std.proofs.Common.{Bool, List, Some, [], append-nil, arith, cond, drop, eqb, false}
+use Rattle.std.proofs.Common.{get_or, length, length-append, not, refl, rules, sym, take, true, ℕ}
+use Rattle.std.proofs.{Common.{◌++◌, ◌+◌, ◌<◌, ◌∙◌, ◌∷◌, ◌≡◌}, lemmas.List.take-append-drop}
+use Rattle.std.proofs.lemmas.List.{Elements.{filter-append, filter_more}, Folds.list_all-append}
+use Rattle.theory.proofs.PropagationLemmas.Open.{AreAll, IsAlone, alone_first, first_alone}
+use Rattle.theory.{proofs.PropagationLemmas.Open.open_has, specs.Code.Propagation.IsClosedAt}
+use Rattle.theory.proofs.PropagationLemmas.Unit.{closed_quiet, true_closes, two_close}
+use Rattle.theory.specs.{Propagation.{Clash, IsClosed, Live, open_literals}, Sets.conflicts}
+use Rattle.trail.specs.Code.Left.{IsCount, IsSettled, with_one}
+use Rattle.trail.specs.{Left.how_many, declared.left.Left.{Left, TheVariants.{More, Nothing, One}}}
 
 nothing_one : (m : Literal) → Nothing ≡ One m → ⊥
 nothing_one m e = cc

@@ -1,8 +1,7 @@
 -- Lists that begin with another, as a trail does after more literals were set.
-use Rattle.std.proofs.Common.{◌≡◌, ℕ, ◌≤◌, true, List, [], ◌∷◌, ◌++◌, length, take, drop, ap, ◌∙◌}
-use Rattle.std.proofs.{lemmas.List.take-append-le, lemmas.List.take-append-drop, Common.arith}
-use Rattle.cnf_base.specs.Literals.{has}
-use Rattle.cnf_base.proofs.SetLemmas.{has_append_left, has_append_cases}
+use Rattle.cnf_base.{proofs.SetLemmas.{has_append_cases, has_append_left}, specs.Literals.has}
+use Rattle.std.proofs.Common.{List, [], ap, arith, drop, length, take, true, ℕ, ◌++◌, ◌∙◌, ◌∷◌, ◌≡◌}
+use Rattle.std.proofs.{Common.◌≤◌, lemmas.List.{take-append-drop, take-append-le}}
 
 pub begins_push : (first ls : List ℕ) (m : ℕ) → take (length first) ls ≡ first
     → length first ≤ length ls → take (length first) (ls ++ m ∷ []) ≡ first

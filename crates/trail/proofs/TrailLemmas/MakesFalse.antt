@@ -1,19 +1,17 @@
 -- The literals that are true once those of a part of a clause are false.
-use Rattle.std.proofs.Common.{◌≡◌, ℕ, ◌+◌, ◌<◌, ◌≤◌, Bool, true, false, not, cond, arith}
-use Rattle.std.proofs.Common.{length-append, List, [], ◌∷◌, ◌++◌, filter, length, get_or, take}
-use Rattle.std.proofs.Common.{refl, sym, ap, ◌∙◌, inl, inr, append-nil}
-use Rattle.std.proofs.lemmas.List.{append_assoc, map-append, take_at, take_all}
-use Rattle.std.proofs.lemmas.List.Elements.{filter_more}
-use Rattle.cnf_base.specs.Literals.{Literal, complement, Clause, has, complements}
-use Rattle.cnf_base.proofs.SetLemmas.{has_append_left, has_append_right, has_append_cases}
-use Rattle.cnf_base.proofs.SetLemmas.{has-complements, complements_has, has-filter, filter_has}
-use Rattle.cnf_base.proofs.LiteralLemmas.{complement-complement}
-use Rattle.theory.specs.Sets.{conflicts, SameSet}
-use Rattle.trail.specs.Trail.{value_under, HasNoVariableTwice}
-use Rattle.trail.specs.declared.value.Value.{TheVariants.False, Value}
-use Rattle.cnf_base.proofs.WalkLemmas.{has_push, has_take, is_in}
-use Rattle.trail.proofs.TrailLemmas.Truth.{consistent}
-use Rattle.theory.proofs.PropagationLemmas.Conflicts.{conflict_from, conflicts_some}
+use Rattle.cnf_base.proofs.{LiteralLemmas.complement-complement, MemberLemmas.variable-complement}
+use Rattle.cnf_base.proofs.SetLemmas.{complements_has, filter_has, has-complements, has-filter}
+use Rattle.cnf_base.proofs.SetLemmas.{has_append_cases, has_append_left, has_append_right}
+use Rattle.cnf_base.{proofs.WalkLemmas.{has_push, has_take, is_in}, specs.Literals.Clause}
+use Rattle.{cnf_base.specs.Literals.{Literal, complement, complements, has}, std.proofs.Common.Bool}
+use Rattle.std.proofs.Common.{List, [], ap, append-nil, arith, cond, false, filter, get_or, inl}
+use Rattle.std.proofs.Common.{inr, length, length-append, not, refl, sym, take, true, ℕ, ◌++◌, ◌+◌}
+use Rattle.std.proofs.{Common.{◌<◌, ◌∙◌, ◌∷◌, ◌≡◌, ◌≤◌}, lemmas.List.{append_assoc, map-append}}
+use Rattle.std.proofs.lemmas.List.{take_all, take_at, Elements.filter_more}
+use Rattle.theory.proofs.PropagationLemmas.Conflicts.{conflict_from, conflicts_same, conflicts_some}
+use Rattle.{theory.specs.Sets.{SameSet, conflicts}, trail.proofs.TrailLemmas.Truth.consistent}
+use Rattle.trail.specs.{Trail.{HasNoVariableTwice, value_under}, declared.value.Value.Value}
+use Rattle.trail.specs.declared.value.Value.TheVariants.{False}
 
 pub no_conflict : (ls : List Literal) → HasNoVariableTwice ls → conflicts ls ≡ false
 no_conflict ls apart = grind (arith, conflicts_some, consistent)
@@ -106,3 +104,5 @@ whole_added after ls c same l = cc (same l, whole_is c)
 pub falsified_none : (ls : List Literal) (keeps : Literal → Bool) (c : Clause)
     → falsified ls keeps (take 0 c) ≡ ls
 falsified_none ls keeps c = append-nil ls
+
+pub ruleset false_steps = (is_in, variable-complement, complement-complement, take_all, conflicts_same)

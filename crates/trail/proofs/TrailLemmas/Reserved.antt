@@ -1,9 +1,7 @@
 -- The variables that were reserved, read off a table by variable.
-use Rattle.std.proofs.Common.{◌≡◌, ℕ, zero, suc, ◌+◌, ◌≤◌, [], length, false, cond, eqb, ◌||◌}
-use Rattle.std.proofs.Common.{◌&&◌, nat_le, Bool, true, refl, arith}
-use Rattle.std.proofs.{lemmas.Bool.Decides.nat_tests, Common.rules}
-use Rattle.cnf_base.specs.Literals.{has}
-use Rattle.trail.specs.Code.Values.{seen_up_to}
+use Rattle.{cnf_base.specs.Literals.has, std.proofs.Common.true, trail.specs.Code.Values.seen_up_to}
+use Rattle.std.proofs.Common.{Bool, [], arith, cond, eqb, false, length, nat_le, refl, rules, suc}
+use Rattle.std.proofs.{Common.{zero, ℕ, ◌&&◌, ◌+◌, ◌||◌, ◌≡◌, ◌≤◌}, lemmas.Bool.Decides.nat_tests}
 
 module _ (seen : ℕ → Bool) where
   pub seen_has : (n v : ℕ) → has (seen_up_to seen n) v

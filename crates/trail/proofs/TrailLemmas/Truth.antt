@@ -1,15 +1,14 @@
 -- What the literals of a trail say of others, and what they leave of a clause.
-use Rattle.std.proofs.Common.{◌≡◌, ℕ, ◌+◌, ◌<◌, true, false, eqb, eqb-true, List, map, nat_eq}
-use Rattle.std.proofs.Common.{length, get_or, take, arith, sym, ◌∙◌, inl, inr, ◌⊎◌}
-use Rattle.std.proofs.lemmas.Bool.{true≢false, false_from_ne_true, or_cases}
-use Rattle.std.proofs.lemmas.List.{get_or-map, length-map}
-use Rattle.std.proofs.lemmas.Map.Keys.{apart_from_distinct, IsDistinct-from_apart}
-use Rattle.cnf_base.specs.Literals.{Literal, complement, Clause, has, variable}
-use Rattle.cnf_base.proofs.{LiteralLemmas.complement-other, WalkLemmas.has_more}
-use Rattle.trail.specs.{Trail.value_under, Trail.HasNoVariableTwice}
-use Rattle.trail.specs.declared.value.Value.TheVariants.{True, False, Open}
-use Rattle.cnf_base.proofs.MemberLemmas.{place_of, has_place, place_of_variable, same_variable}
-use Rattle.cnf_base.proofs.MemberLemmas.{variable-complement}
+use Rattle.cnf_base.proofs.{LiteralLemmas.complement-other, MemberLemmas.{has_place, place_of}}
+use Rattle.cnf_base.proofs.MemberLemmas.{place_of_variable, same_variable, variable-complement}
+use Rattle.cnf_base.{proofs.WalkLemmas.has_more, specs.Literals.{Clause, Literal, complement, has}}
+use Rattle.{cnf_base.specs.Literals.variable, std.proofs.Common.{List, arith, eqb, eqb-true, false}}
+use Rattle.std.proofs.Common.{get_or, inl, inr, length, map, nat_eq, sym, take, true, ℕ, ◌+◌, ◌<◌}
+use Rattle.std.proofs.{Common.{◌∙◌, ◌≡◌, ◌⊎◌}, lemmas.Bool.{false_from_ne_true, or_cases}}
+use Rattle.std.proofs.lemmas.{Bool.true≢false, List.{get_or-map, length-map}}
+use Rattle.std.proofs.lemmas.Map.Keys.{IsDistinct-from_apart, apart_from_distinct}
+use Rattle.trail.specs.Trail.{HasNoVariableTwice, value_under}
+use Rattle.trail.specs.declared.value.Value.TheVariants.{False, Open, True}
 
 -- literals of one variable are equal
 module _ (ls : List ℕ) (apart : HasNoVariableTwice ls) where

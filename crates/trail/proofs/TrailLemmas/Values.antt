@@ -1,25 +1,22 @@
 -- What the values by literal say of a trail.
-use Rattle.std.proofs.Common.{◌≡◌, ℕ, ◌*◌, ◌+◌, ◌-◌, ◌<◌, ◌≤◌, Bool, true, false, ◌||◌, cond, eqb}
-use Rattle.std.proofs.Common.{eqb-true, eq-eqb, Option, Some, None, is_some, List, [], ◌∷◌, ◌++◌}
-use Rattle.std.proofs.Common.{map, take, drop, get_or, length, nat_eq, length-append, arith, ap}
-use Rattle.std.proofs.Common.{sym, ◌∙◌, inl, inr, ◌⊎◌, refl, subst}
-use Rattle.std.specs.{List.AllByRecursion, List.IsDistinct, Cmp.nat_eq_equiv}
-use Rattle.std.proofs.lemmas.Bool.{false≢true, false_from_ne_true, or_cases}
-use Rattle.std.proofs.lemmas.List.{map-append, length-map, length-drop, get_or_append_left}
-use Rattle.std.proofs.lemmas.List.{get_or-append_right, take_all, take-append-drop}
-use Rattle.std.proofs.lemmas.Map.{Made.length-le_from_is_member, Keys.IsDistinct-push}
-use Rattle.cnf_base.specs.Literals.{complement, has, variable, size}
-use Rattle.cnf_base.proofs.SetLemmas.{has_cases, has_append_left, has_append_right}
-use Rattle.cnf_base.proofs.{SetLemmas.has_append_cases, WalkLemmas.has_push}
 use Rattle.cnf_base.proofs.LiteralLemmas.{complement-complement, complement-other}
-use Rattle.cnf_base.proofs.SizeLemmas.{size_covered}
-use Rattle.trail.specs.{Trail.value_under, Trail.HasNoVariableTwice, declared.value.Value.Value}
-use Rattle.tables.specs.ByKey.{HaveRoom, is_of}
-use Rattle.trail.specs.Code.Values.{IsTrail, Opens, known_value}
-use Rattle.trail.specs.declared.value.Value.TheVariants.{True, False, Open}
-use Rattle.cnf_base.proofs.MemberLemmas.{place_of, has_mapped, has_any, variable-complement}
-use Rattle.trail.proofs.TrailLemmas.Truth.{HasNoVariableTwice-from_places, places_apart}
-use Rattle.trail.proofs.TrailLemmas.Truth.{open_from_value, variable_open}
+use Rattle.cnf_base.proofs.MemberLemmas.{has_any, has_mapped, place_of, variable-complement}
+use Rattle.cnf_base.proofs.SetLemmas.{has_append_cases, has_append_left, has_append_right}
+use Rattle.cnf_base.proofs.{SetLemmas.has_cases, SizeLemmas.size_covered, WalkLemmas.has_push}
+use Rattle.{cnf_base.specs.Literals.{complement, has, size, variable}, std.proofs.Common.Bool}
+use Rattle.std.proofs.Common.{List, None, Option, Some, [], ap, arith, cond, drop, eq-eqb, eqb}
+use Rattle.std.proofs.Common.{eqb-true, false, get_or, inl, inr, is_some, length, length-append}
+use Rattle.std.proofs.Common.{map, nat_eq, refl, subst, sym, take, true, ℕ, ◌*◌, ◌++◌, ◌+◌, ◌-◌}
+use Rattle.std.proofs.{Common.{◌<◌, ◌||◌, ◌∙◌, ◌∷◌, ◌≡◌, ◌≤◌, ◌⊎◌}, lemmas.Bool.false_from_ne_true}
+use Rattle.std.proofs.lemmas.{Bool.{false≢true, or_cases}, List.get_or-append_right}
+use Rattle.std.proofs.lemmas.List.{get_or_append_left, length-drop, length-map, map-append}
+use Rattle.std.proofs.lemmas.{List.{take-append-drop, take_all}, Map.Keys.IsDistinct-push}
+use Rattle.std.{proofs.lemmas.Map.Made.length-le_from_is_member, specs.Cmp.nat_eq_equiv}
+use Rattle.{std.specs.List.{AllByRecursion, IsDistinct}, tables.specs.ByKey.{HaveRoom, is_of}}
+use Rattle.trail.proofs.TrailLemmas.Truth.{HasNoVariableTwice-from_places, open_from_value}
+use Rattle.trail.{proofs.TrailLemmas.Truth.{places_apart, variable_open}, specs.Code.Values.IsTrail}
+use Rattle.trail.specs.{Code.Values.{Opens, known_value}, Trail.{HasNoVariableTwice, value_under}}
+use Rattle.trail.specs.declared.value.Value.{Value, TheVariants.{False, Open, True}}
 
 abbrev Values : Type 0
 Values = ℕ → Option Value

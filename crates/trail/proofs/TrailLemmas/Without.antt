@@ -1,19 +1,17 @@
 -- A trail from which one literal was taken out.
-use Rattle.std.proofs.Common.{◌≡◌, ◌≢◌, ℕ, ◌+◌, ◌-◌, ◌<◌, ◌≤◌, true, false, cond, eqb, eq-eqb}
-use Rattle.std.proofs.Common.{Bool, Option, Some, is_some, List, map, take, length, get_or, refl, sym, ap}
-use Rattle.std.proofs.Common.{◌∙◌, subst, arith, inl, inr, ◌⊎◌}
-use Rattle.std.specs.List.{remove}
+use Rattle.cnf_base.proofs.{LiteralLemmas.complement-complement, MemberLemmas.variable-complement}
+use Rattle.cnf_base.proofs.MemberLemmas.{has_front, has_mapped, has_place, has_variable}
+use Rattle.cnf_base.proofs.MemberLemmas.{place_in_front, place_of, place_of_variable}
+use Rattle.{cnf_base.specs.Literals.complement, trail.specs.Trail.{HasNoVariableTwice, value_under}}
+use Rattle.{cnf_base.specs.Literals.{has, variable}, trail.proofs.TrailLemmas.Truth.value_is_open}
+use Rattle.std.proofs.Common.{Bool, List, Option, Some, ap, arith, cond, eq-eqb, eqb, false, get_or}
+use Rattle.std.proofs.Common.{inl, inr, is_some, length, map, refl, subst, sym, take, true, ℕ, ◌+◌}
+use Rattle.std.{proofs.Common.{◌-◌, ◌<◌, ◌∙◌, ◌≡◌, ◌≢◌, ◌≤◌, ◌⊎◌}, specs.List.remove}
 use Rattle.std.proofs.lemmas.Bool.{cases_eq, cases_lt, false_from_ne_true, ne_eqb}
 use Rattle.std.proofs.lemmas.List.Edits.{get_or-remove_above, get_or-remove_below, length-remove}
-use Rattle.cnf_base.specs.Literals.{complement, has, variable}
-use Rattle.cnf_base.proofs.{LiteralLemmas.complement-complement}
-use Rattle.cnf_base.proofs.MemberLemmas.{has_front, has_mapped, has_place, place_in_front, place_of}
-use Rattle.cnf_base.proofs.MemberLemmas.{has_variable, place_of_variable, variable-complement}
-use Rattle.trail.specs.{declared.value.Value.Value, Code.Values.IsTrail, Trail.value_under}
-use Rattle.trail.specs.{declared.value.Value.TheVariants.Open, Trail.HasNoVariableTwice}
 use Rattle.trail.proofs.TrailLemmas.Truth.{HasNoVariableTwice-from_places, places_apart}
-use Rattle.trail.proofs.TrailLemmas.Truth.{value_is_open}
 use Rattle.trail.proofs.TrailLemmas.Values.{both_known, value_by_tests, written_some, written_value}
+use Rattle.trail.specs.{Code.Values.IsTrail, declared.value.Value.{Value, TheVariants.Open}}
 
 -- a place now and the same one before: those before the one that was taken out stay, those behind
 -- were one further

@@ -1,32 +1,27 @@
 -- Clauses whose literals change places: one that watches another literal, and one whose first two
 -- literals stay, perhaps in the other order.
-use Rattle.{clause_db.specs.Store.is_tautology, watch_lists.specs.declared.watcher.Watcher.Watcher}
-use Rattle.{cnf_base.proofs.MapLemmas.insert_twice, propagation.specs.Assumptions.AssumptionsState}
-use Rattle.cnf_base.proofs.{MapLemmas.insert_here, MemberLemmas.has_front, MemberLemmas.has_place}
-use Rattle.cnf_base.proofs.{SizeLemmas.distinct_before, SizeLemmas.size_same}
+use Rattle.clause_db.{proofs.StoreLemmas.Swap.has_swapped, specs.Store.is_tautology}
+use Rattle.cnf_base.proofs.MapLemmas.{insert_here, insert_other, insert_same, insert_twice}
+use Rattle.{cnf_base.proofs.MemberLemmas.{has_front, has_place}, std.proofs.Common.{◌≢◌, ◌≤◌}}
+use Rattle.{cnf_base.proofs.SizeLemmas.{distinct_before, size_same}, std.proofs.Math.Bool.or_comm}
 use Rattle.cnf_base.specs.Literals.{Clause, Literal, complement, has, size}
-use Rattle.{root_literals.specs.Code.Propagated.PropagatesTo, theory.specs.Propagation.Live}
-use Rattle.root_literals.proofs.RootLemmas.{Carried.extends_none, Reasons.ordered_same}
-use Rattle.{cnf_base.proofs.MapLemmas.insert_other, std.proofs.lemmas.List.Sums.get_or-le-sum_by}
-use Rattle.root_literals.specs.{Watched.IsMet}
-use Rattle.std.proofs.Common.{List, [], ap, arith, eq-eqb, eqb, false, inl, swap, sym, ◌+◌, ◌≡◌}
-use Rattle.std.proofs.Common.{Option, get_or, nat_cmp, set, subst, suc, true, ◌&&◌, ◌<◌, ◌∙◌, ◌≤◌}
-use Rattle.std.proofs.Common.{Some, cond, inr, length, not, refl, zero, ℕ, ◌++◌, ◌-◌, ◌||◌, ◌≢◌}
-use Rattle.std.proofs.{Common.true≢false, Math.Bool.or_comm, lemmas.List.Edits.swapped_from_swap}
-use Rattle.std.proofs.{Common.ne_eqb, lemmas.Bool.Decides.nat_tests, lemmas.Bool.false≢true}
-use Rattle.std.proofs.lemmas.{List.Edits.length-swap, List.Sums.sum_by_push, Option.same_Some}
-use Rattle.std.proofs.lemmas.Grind.{get_or_default_zero, same_number_lists}
-use Rattle.{cnf_base.proofs.MapLemmas.insert_same, watch.specs.declared.visit.Exchange.Exchange}
-use Rattle.{root_literals.proofs.RootLemmas.Watched.sure_by, std.proofs.lemmas.List.Sums.sum_by-set}
-use Rattle.{std.proofs.Common.◌∷◌, std.specs.FinMap.FinMap, watch.specs.Code.Visits.IsExchangeAt}
-use Rattle.{clause_db.proofs.StoreLemmas.Swap.has_swapped, watch.specs.Code.Visits.IsExchange}
-use Rattle.{std.proofs.lemmas.Bool.cases_eq, theory.proofs.PropagationLemmas.Forced.forced_assumed}
-use Rattle.watch_lists.proofs.WatchListsLemmas.{Lists.unfit_alike, Lists.unfit_none, Made.and_false}
-use Rattle.watch_lists.proofs.WatchListsLemmas.{Lists.entry_fits, Lists.unfit_pushed, Made.and_true}
-use Rattle.watch_lists.proofs.WatchListsLemmas.{Lists.eqb_turned, Watched.watches_first}
-use Rattle.watch_lists.specs.{Lists.entries_of, Lists.fits, Watched.entries_for, Watched.is_first}
-use Rattle.watch_lists.specs.{Lists.unfit_entries, Watched.is_unit_or_empty, Watched.watches}
-use Rattle.watch_lists.{proofs.WatchListsLemmas.Watched.tautology_alike, specs.Watched.IsListed}
+use Rattle.{propagation.specs.Assumptions.AssumptionsState, std.proofs.lemmas.Bool.false≢true}
+use Rattle.root_literals.proofs.RootLemmas.{Reasons.ordered_same, Terms.{Clauses, ReasonOf}}
+use Rattle.root_literals.{proofs.RootLemmas.Watched.sure_by, specs.Code.Propagated.PropagatesTo}
+use Rattle.{root_literals.specs.Watched.IsMet, watch_lists.proofs.WatchListsLemmas.Made.and_true}
+use Rattle.std.proofs.Common.{List, Some, [], ap, arith, cond, eq-eqb, eqb, false, get_or, inl, inr}
+use Rattle.std.proofs.Common.{length, ne_eqb, not, refl, set, subst, suc, swap, sym, take_all, true}
+use Rattle.std.proofs.Common.{true≢false, zero, ℕ, ◌&&◌, ◌++◌, ◌+◌, ◌-◌, ◌<◌, ◌||◌, ◌∙◌, ◌∷◌, ◌≡◌}
+use Rattle.std.proofs.lemmas.{Bool.cases_eq, List.Sums.{get_or-le-sum_by, sum_by-set, sum_by_push}}
+use Rattle.std.proofs.lemmas.{Bool.Decides.nat_tests, List.Edits.{length-swap, swapped_from_swap}}
+use Rattle.std.proofs.lemmas.{Grind.{get_or_default_zero, same_number_lists}, Option.same_Some}
+use Rattle.theory.{proofs.PropagationLemmas.Forced.forced_assumed, specs.Propagation.Live}
+use Rattle.watch.specs.{Code.Visits.{IsExchange, IsExchangeAt}, declared.visit.Exchange.Exchange}
+use Rattle.watch_lists.proofs.WatchListsLemmas.Lists.{entry_fits, eqb_turned, unfit_alike}
+use Rattle.watch_lists.proofs.WatchListsLemmas.{Lists.{unfit_none, unfit_pushed}, Made.and_false}
+use Rattle.watch_lists.proofs.WatchListsLemmas.Watched.{tautology_alike, watches_first}
+use Rattle.watch_lists.specs.{Lists.entries_of, Watched.{IsListed, entries_for, is_first, watches}}
+use Rattle.watch_lists.specs.{Lists.{fits, unfit_entries}, declared.watcher.Watcher.Watcher}
 use Rattle.std.specs.FinMap as maps
 
 -- three literals, two of which differ from the third
@@ -66,11 +61,8 @@ module _ (lists after : Literal → List Watcher) (l m : ℕ) (w : Watcher) (oth
   abbrev is : Literal → List Watcher
   is k = cond (eqb k l) left (after k)
 
-  put_times : (x s : ℕ) → entries_of s (after x) ≡ entries_of s (lists x) + cond (eqb x m && eqb s w.slot) 1 0
-  put_times = grind (arith, sum_by_push, eqb_turned)
-
   pub times_moved : (x s : ℕ) → entries_of s (is x) + cond (eqb x l && eqb s w.slot) 1 0 ≡ entries_of s (was x) + cond (eqb x m && eqb s w.slot) 1 0
-  times_moved = grind (arith, cases_eq, eq-eqb, ne_eqb, put_times)
+  times_moved = grind (arith, cases_eq, eq-eqb, ne_eqb, sum_by_push, eqb_turned)
 
   -- where the entry fits the clause
   pub unfit_moved : (c : Clause) → fits c m w.blocking w.is_binary ≡ true → ((s x : ℕ) (e : Clause) → unfit_entries s e x left ≤ unfit_entries s e x list) → (x s : ℕ) (e : Clause) → (s ≡ w.slot → e ≡ c) → unfit_entries s e x (is x) ≤ unfit_entries s e x (was x)
@@ -84,19 +76,15 @@ swap_back c a b low inside = let d = swap c a b in let len = length-swap c a b i
     grind (arith, same_number_lists, swap, length-swap, cases_eq)
 
 -- literals of a clause that are exchanged, and back
-pub exchanged_back : (live after back : FinMap nat_cmp Clause) (slot from to : ℕ) (c : Clause) → maps.get live slot ≡ Some c → from < length c → to < length c →
+pub exchanged_back : (live after back : Clauses) (slot from to : ℕ) (c : Clause) → maps.get live slot ≡ Some c → from < length c → to < length c →
     after ≡ maps.insert live slot (swap c from to) → ((d : Clause) → maps.get after slot ≡ Some d → back ≡ maps.insert after slot (swap d to from)) → back ≡ live
 exchanged_back live after back slot from to c here low inside moved again =
     let d = swap c from to in
     again d (grind (arith, insert_here)) ∙ ap (λ m. maps.insert m slot (swap d to from)) moved
     ∙ ap (maps.insert (maps.insert live slot d) slot) (swap_back _ _ _ low inside) ∙ insert_twice _ _ _ _ ∙ insert_same _ _ _ here
 
--- a clause is as long as another one
-units_as_long : (c d : Clause) → length d ≡ length c → is_unit_or_empty d ≡ is_unit_or_empty c
-units_as_long = grind arith
-
 -- a clause with the same literals takes the place of another one; of the literals that are watched, l may give way to m
-module _ (live : FinMap nat_cmp Clause) (slot : ℕ) (c d : Clause) (here : maps.get live slot ≡ Some c) (alike : (k : Literal) → has d k ≡ has c k) (as_long : length d ≡ length c) (l m : Literal)
+module _ (live : Clauses) (slot : ℕ) (c d : Clause) (here : maps.get live slot ≡ Some c) (alike : (k : Literal) → has d k ≡ has c k) (as_long : length d ≡ length c) (l m : Literal)
     (entries : (x : Literal) → cond (watches d x) 1 0 + cond {A = ℕ} (eqb x l) 1 0 ≡ cond (watches c x) 1 0 + cond {A = ℕ} (eqb x m) 1 0) where
   at_slot : maps.get (maps.insert live slot d) slot ≡ Some d
   at_slot = grind (arith, insert_here)
@@ -120,11 +108,11 @@ module _ (live : FinMap nat_cmp Clause) (slot : ℕ) (c d : Clause) (here : maps
   }
 
   -- where a literal that is false and watched now was so before
-  pub propagates_exchanged : (held : AssumptionsState) (reason_of : Literal → Option ℕ) → ((x : Literal) → has held.trail.lits (complement x) ≡ true → watches d x ≡ true → watches c x ≡ true) →
+  pub propagates_exchanged : (held : AssumptionsState) (reason_of : ReasonOf) → ((x : Literal) → has held.trail.lits (complement x) ≡ true → watches d x ≡ true → watches c x ≡ true) →
       PropagatesTo live (maps.insert live slot d) held held reason_of reason_of
   propagates_exchanged held reason_of still = record {
     same = ordered_same _ _ _ _ here alike;
-    units = grind (arith, cases_eq, at_slot, units_as_long, at_others);
+    units = grind (arith, cases_eq, at_slot, at_others);
     kept = λ doubts done trues p q watched. record {
       each = λ s e is x h.
           elim (cases_eq s slot) [
@@ -136,7 +124,7 @@ module _ (live : FinMap nat_cmp Clause) (slot : ℕ) (c d : Clause) (here : maps
           ];
     };
     sound = grind (arith, forced_assumed);
-    extends = extends_none held;
+    extends = grind (arith, take_all);
     noted = λ l h. h;
     as_before = λ l h. refl;
     reasoned = λ are. are;
@@ -144,51 +132,53 @@ module _ (live : FinMap nat_cmp Clause) (slot : ℕ) (c d : Clause) (here : maps
 
 -- ---- A slot in the list that is in hand
 
-slot_alive : (live : Live) (lists : Literal → List Watcher) (l : Literal) (list : List Watcher) → IsListed live (λ k. cond (eqb k l) list (lists k)) → (place : ℕ) (d : Watcher) → place < length list →
-    (c : Clause) × (live (get_or list place d).slot ≡ Some c) × (watches c l ≡ true) × (unfit_entries (get_or list place d).slot c l list ≡ 0)
-slot_alive live lists l list listed place d inside = let s = (get_or list place d).slot in
-    let one = get_or-le-sum_by (λ w. cond (eqb w.slot s) 1 0) list place d inside in
-    let here : cond {A = ℕ} (eqb s s) 1 0 ≡ 1 = ap (λ b. cond {A = ℕ} b 1 0) (eq-eqb s s refl) in
-    let count : entries_of s list ≡ entries_for (live s) l = grind (arith, eq-eqb) in
-    grind (arith, get_or-le-sum_by, eq-eqb)
+module _ (live : Live) (lists : Literal → List Watcher) (l : Literal) (list : List Watcher)
+    (listed : IsListed live (λ k. cond (eqb k l) list (lists k))) where
+  slot_alive : (place : ℕ) (d : Watcher) → place < length list →
+      (c : Clause) × (live (get_or list place d).slot ≡ Some c) × (watches c l ≡ true) × (unfit_entries (get_or list place d).slot c l list ≡ 0)
+  slot_alive place d inside = let s = (get_or list place d).slot in
+      let one = get_or-le-sum_by (λ w. cond (eqb w.slot s) 1 0) list place d inside in
+      let here : cond {A = ℕ} (eqb s s) 1 0 ≡ 1 = ap (λ b. cond {A = ℕ} b 1 0) (eq-eqb s s refl) in
+      let count : entries_of s list ≡ entries_for (live s) l = grind (arith, eq-eqb) in
+      grind (arith, get_or-le-sum_by, eq-eqb)
 
--- its clause, which the entry fits
-pub entry_alive : (live : Live) (lists : Literal → List Watcher) (l : Literal) (list : List Watcher) → IsListed live (λ k. cond (eqb k l) list (lists k)) → (place : ℕ) (e : Watcher) → place < length list → e ≡ get_or list place e →
-    (c : Clause) × (live e.slot ≡ Some c) × (watches c l ≡ true) × (fits c l e.blocking e.is_binary ≡ true)
-entry_alive live lists l list listed place e inside is =
-    let w = slot_alive live lists l list listed place e inside in grind (arith, entry_fits)
+  -- its clause, which the entry fits
+  pub entry_alive : (place : ℕ) (e : Watcher) → place < length list → e ≡ get_or list place e →
+      (c : Clause) × (live e.slot ≡ Some c) × (watches c l ≡ true) × (fits c l e.blocking e.is_binary ≡ true)
+  entry_alive place e inside is =
+      let w = slot_alive place e inside in grind (arith, entry_fits)
 
--- an entry with another literal of its clause
-pub listed_written : (live : Live) (lists : Literal → List Watcher) (l : Literal) (list : List Watcher) → IsListed live (λ k. cond (eqb k l) list (lists k)) → (place : ℕ) (e entry : Watcher) → place < length list → e ≡ get_or list place e → entry.slot ≡ e.slot →
-    ((c : Clause) → live e.slot ≡ Some c → fits c l entry.blocking entry.is_binary ≡ true) → IsListed live (λ k. cond (eqb k l) (set list place entry) (lists k))
-listed_written live lists l list listed place e entry inside is same fitting = record {
-  watched = λ k s. elim (cases_eq k l) [
-    | inl y ↦ simp (eq-eqb k l y) (as_many s ∙ (grind (arith, eq-eqb)))
-    | inr ne ↦ grind (arith, ne_eqb)
-  ];
-  low = listed.low;
-  fitting = λ k s c there. elim (cases_eq k l) [
-    | inl y ↦
-        let none = simp (eq-eqb k l y) at (listed.fitting k s c there) in
-        let left = fewer k y s c there in
-        simp (eq-eqb k l y) (omega (arith, none, left))
-    | inr ne ↦ simp (ne_eqb k l ne) (simp (ne_eqb k l ne) at (listed.fitting k s c there))
-  ];
-}
-  where
-    as_many : (s : ℕ) → entries_of s (set list place entry) ≡ entries_of s list
-    as_many s = let put = sum_by-set (λ w. cond (eqb w.slot s) 1 0) list place entry e inside in
-        let alike : cond {A = ℕ} (eqb entry.slot s) 1 0 ≡ cond (eqb (get_or list place e).slot s) 1 0 = ap (λ n. cond {A = ℕ} (eqb n s) 1 0) (same ∙ ap (λ x. x.slot) is) in
-        omega (arith, put, alike)
+  -- an entry with another literal of its clause
+  pub listed_written : (place : ℕ) (e entry : Watcher) → place < length list → e ≡ get_or list place e → entry.slot ≡ e.slot →
+      ((c : Clause) → live e.slot ≡ Some c → fits c l entry.blocking entry.is_binary ≡ true) → IsListed live (λ k. cond (eqb k l) (set list place entry) (lists k))
+  listed_written place e entry inside is same fitting = record {
+    watched = λ k s. elim (cases_eq k l) [
+      | inl y ↦ simp (eq-eqb k l y) (as_many s ∙ (grind (arith, eq-eqb)))
+      | inr ne ↦ grind (arith, ne_eqb)
+    ];
+    low = listed.low;
+    fitting = λ k s c there. elim (cases_eq k l) [
+      | inl y ↦
+          let none = simp (eq-eqb k l y) at (listed.fitting k s c there) in
+          let left = fewer k y s c there in
+          simp (eq-eqb k l y) (omega (arith, none, left))
+      | inr ne ↦ simp (ne_eqb k l ne) (simp (ne_eqb k l ne) at (listed.fitting k s c there))
+    ];
+  }
+    where
+      as_many : (s : ℕ) → entries_of s (set list place entry) ≡ entries_of s list
+      as_many s = let put = sum_by-set (λ w. cond (eqb w.slot s) 1 0) list place entry e inside in
+          let alike : cond {A = ℕ} (eqb entry.slot s) 1 0 ≡ cond (eqb (get_or list place e).slot s) 1 0 = ap (λ n. cond {A = ℕ} (eqb n s) 1 0) (same ∙ ap (λ x. x.slot) is) in
+          omega (arith, put, alike)
 
-    fewer : (k : Literal) → k ≡ l → (s : ℕ) (c : Clause) → live s ≡ Some c → unfit_entries s c k (set list place entry) ≤ unfit_entries s c k list
-    fewer k of_l s c there =
-        let put = sum_by-set (λ w. cond (eqb w.slot s && not (fits c k w.blocking w.is_binary)) 1 0) list place entry e inside in
-        let none = unfit_none s k c entry (grind arith) in omega (arith, put, none)
+      fewer : (k : Literal) → k ≡ l → (s : ℕ) (c : Clause) → live s ≡ Some c → unfit_entries s c k (set list place entry) ≤ unfit_entries s c k list
+      fewer k of_l s c there =
+          let put = sum_by-set (λ w. cond (eqb w.slot s && not (fits c k w.blocking w.is_binary)) 1 0) list place entry e inside in
+          let none = unfit_none s k c entry (grind arith) in omega (arith, put, none)
 
 -- ---- A clause whose first two literals stay, perhaps in the other order, and one whose second is
 
-module _ (live : FinMap nat_cmp Clause) (slot : ℕ) (c d : Clause) (here : maps.get live slot ≡ Some c) (alike : (l : Literal) → has d l ≡ has c l) (as_long : length d ≡ length c) (first : (l : Literal) → is_first d l ≡ is_first c l) where
+module _ (live : Clauses) (slot : ℕ) (c d : Clause) (here : maps.get live slot ≡ Some c) (alike : (l : Literal) → has d l ≡ has c l) (as_long : length d ≡ length c) (first : (l : Literal) → is_first d l ≡ is_first c l) where
   same_watches : (x : Literal) → watches d x ≡ watches c x
   same_watches = grind (arith, tautology_alike)
 
@@ -199,14 +189,16 @@ module _ (live : FinMap nat_cmp Clause) (slot : ℕ) (c d : Clause) (here : maps
   pub listed_reordered : (lists : Literal → List Watcher) → IsListed (maps.get live) lists → IsListed (maps.get (maps.insert live slot d)) lists
   listed_reordered lists listed = listed_moved _ _ _ _ here alike as_long 0 0 same_entries _ _ listed (λ x s. refl) (λ x s e same. omega arith)
 
-  pub propagates_reordered : (held : AssumptionsState) (reason_of : Literal → Option ℕ) → PropagatesTo live (maps.insert live slot d) held held reason_of reason_of
+  pub propagates_reordered : (held : AssumptionsState) (reason_of : ReasonOf) → PropagatesTo live (maps.insert live slot d) held held reason_of reason_of
   propagates_reordered held reason_of = propagates_exchanged _ _ _ _ here alike as_long 0 0 same_entries _ _ (λ x _ there. sym (same_watches x) ∙ there)
 
 -- ---- The second literal, which is false, is exchanged with a later one, which isn't
 
-pub propagates_moved : (live : FinMap nat_cmp Clause) (held : AssumptionsState) (slot : ℕ) (c : Clause) → maps.get live slot ≡ Some c → (to : ℕ) (l m : Literal) → is_tautology c ≡ false → size c ≡ length c →
-    get_or c 1 0 ≡ l → 2 ≤ to → to < length c → get_or c to 0 ≡ m → has held.trail.lits (complement m) ≡ false →
-    (reason_of : Literal → Option ℕ) → PropagatesTo live (maps.insert live slot (swap c 1 to)) held held reason_of reason_of
+pub propagates_moved : (live : Clauses) (held : AssumptionsState) (slot : ℕ) (c : Clause) →
+    maps.get live slot ≡ Some c → (to : ℕ) (l m : Literal) →
+    is_tautology c ≡ false → size c ≡ length c → get_or c 1 0 ≡ l → 2 ≤ to → to < length c →
+    get_or c to 0 ≡ m → has held.trail.lits (complement m) ≡ false → (reason_of : ReasonOf) →
+    PropagatesTo live (maps.insert live slot (swap c 1 to)) held held reason_of reason_of
 propagates_moved live held slot c here to l m apart different there past inside to_is m_open reason_of =
     let d = swap c 1 to in
     let moved = entries_moved l m c to apart different there past inside to_is in
@@ -254,11 +246,11 @@ module _ {c : Clause} {l : Literal} {x : Exchange} (w : IsExchange c l x) where
       }
 
 -- of the clause in the slot
-module _ {live : FinMap nat_cmp Clause} {slot : ℕ} {l : Literal} {x : Exchange} (w : IsExchangeAt live slot l x) where
+module _ {live : Clauses} {slot : ℕ} {l : Literal} {x : Exchange} (w : IsExchangeAt live slot l x) where
   abbrev pub turned_clause : Clause
   turned_clause = turned w.clause w.exchange.from
 
-  abbrev pub turned_live : FinMap nat_cmp Clause
+  abbrev pub turned_live : Clauses
   turned_live = maps.insert live slot turned_clause
 
   abbrev pub turned_at : IsExchangeAt turned_live slot l x
@@ -273,7 +265,7 @@ module _ {live : FinMap nat_cmp Clause} {slot : ℕ} {l : Literal} {x : Exchange
   pub turned_listed : (lists : Literal → List Watcher) → IsListed (maps.get live) lists → IsListed (maps.get turned_live) lists
   turned_listed = listed_reordered _ _ _ _ w.at (turned_has w.exchange) (turned_as_long w.exchange) (turned_first w.exchange)
 
-  pub turned_propagates : (held : AssumptionsState) (reason_of : Literal → Option ℕ) → PropagatesTo live turned_live held held reason_of reason_of
+  pub turned_propagates : (held : AssumptionsState) (reason_of : ReasonOf) → PropagatesTo live turned_live held held reason_of reason_of
   turned_propagates = propagates_reordered _ _ _ _ w.at (turned_has w.exchange) (turned_as_long w.exchange) (turned_first w.exchange)
 
   -- the clause after both
@@ -281,7 +273,7 @@ module _ {live : FinMap nat_cmp Clause} {slot : ℕ} {l : Literal} {x : Exchange
   exchanged = swap turned_clause 1 x.to
 
   -- both are written at once
-  module _ (after : FinMap nat_cmp Clause) (k : ℕ) (of_slot : k ≡ slot)
+  module _ (after : Clauses) (k : ℕ) (of_slot : k ≡ slot)
       (is : (d : Clause) (from : ℕ) → maps.get live k ≡ Some d → from < 2 → get_or d from 0 ≡ l
       → get_or d (1 - from) 0 ≡ x.other
       → after ≡ maps.insert live k (swap (swap d 0 (1 - from)) 1 x.to)) where

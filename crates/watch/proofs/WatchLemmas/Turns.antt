@@ -1,18 +1,15 @@
 -- Turns of a propagation.
-use Rattle.std.proofs.Common.{◌≡◌, ◌≢◌, ℕ, ◌+◌, ◌<◌, ◌≤◌, true, false, Option, Some, List, []}
-use Rattle.std.proofs.Common.{◌∷◌, length, take, get_or, sym, ap, ◌∙◌, subst, arith, inl, inr, take-take}
-use Rattle.std.specs.{FinMap.FinMap, Ordering.nat_cmp}
-use Rattle.std.specs.FinMap as maps
-use Rattle.std.proofs.lemmas.{Bool.cases_eq, List.take_more}
-use Rattle.cnf_base.specs.Literals.{Clause, Literal, complement, has}
 use Rattle.cnf_base.proofs.{LiteralLemmas.complement-complement, SetLemmas.has_append_cases}
-use Rattle.propagation.specs.Assumptions.{AssumptionsState}
-use Rattle.root_literals.specs.{Code.Propagated.PropagatesTo, Watched.IsMet, Watched.IsPart}
-use Rattle.root_literals.proofs.RootLemmas.Watched.{front_part, met_more}
-use Rattle.trail.proofs.TrailLemmas.Longer.{has_begun}
-use Rattle.watch.specs.Code.Turns.{IsTurn}
-use Rattle.watch_lists.specs.Waiting.{waits}
-use Rattle.watch_lists.specs.declared.waiting.Waiting.{Waiting}
+use Rattle.cnf_base.specs.Literals.{Clause, Literal, complement, has}
+use Rattle.{propagation.specs.Assumptions.AssumptionsState, std.proofs.lemmas.Bool.cases_eq}
+use Rattle.root_literals.proofs.RootLemmas.{Terms.{Clauses, ReasonOf}, Watched.front_part}
+use Rattle.root_literals.{proofs.RootLemmas.Watched.met_more, specs.Code.Propagated.PropagatesTo}
+use Rattle.{root_literals.specs.Watched.{IsMet, IsPart}, trail.proofs.TrailLemmas.Longer.has_begun}
+use Rattle.std.proofs.Common.{List, Some, [], ap, arith, false, get_or, inl, inr, length, subst}
+use Rattle.std.proofs.Common.{sym, take, take-take, true, ℕ, ◌+◌, ◌<◌, ◌∙◌, ◌∷◌, ◌≡◌, ◌≢◌, ◌≤◌}
+use Rattle.{std.proofs.lemmas.List.take_more, watch_lists.specs.declared.waiting.Waiting.Waiting}
+use Rattle.{watch.specs.Code.Turns.IsTurn, watch_lists.specs.Waiting.waits}
+use Rattle.std.specs.FinMap as maps
 
 one_false : (k l : Literal) → has (complement k ∷ []) (complement l) ≡ true → l ≡ k
 one_false k l h = elim (cases_eq (complement k) (complement l)) [
@@ -32,9 +29,9 @@ front_other trues done {l} inside is k ne h = elim (cases_eq (get_or trues done 
       ]
 ]
 
-module _ {a b : FinMap nat_cmp Clause} {x y : AssumptionsState} {r s : Literal → Option ℕ} (carried : PropagatesTo a b x y r s) where
+module _ {a b : Clauses} {x y : AssumptionsState} {r s : ReasonOf} (carried : PropagatesTo a b x y r s) where
   more : IsPart x.trail.lits y.trail.lits
-  more l h = has_begun x.trail.lits y.trail.lits l carried.extends.begins h
+  more = grind (arith, has_begun)
 
   -- the clauses of a literal that were visited still have a true literal
   met_on : (k : Literal) → has x.trail.lits (complement k) ≡ true → ((n : ℕ) (c : Clause) → maps.get a n ≡ Some c → IsMet c k x.trail.lits) → (n : ℕ) (c : Clause) → maps.get b n ≡ Some c → IsMet c k y.trail.lits

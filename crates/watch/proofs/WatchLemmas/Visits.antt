@@ -1,35 +1,30 @@
 -- Visits of clauses, one after the other, and what a look at one says.
-use Rattle.cnf_base.proofs.{LiteralLemmas.complement-complement, MemberLemmas.has_place}
-use Rattle.cnf_base.proofs.{MemberLemmas.place_of, SetLemmas.has_append_right, SetLemmas.has_head}
-use Rattle.cnf_base.specs.Literals.{Clause, Literal, complement, has}
-use Rattle.{cnf_base.specs.Literals.variable, propagation.specs.Assumptions.AssumptionsState}
+use Rattle.cnf_base.proofs.{LiteralLemmas.complement-complement, MemberLemmas.{has_place, place_of}}
+use Rattle.cnf_base.specs.Literals.{Clause, Literal, complement, has, variable}
+use Rattle.{propagation.specs.Assumptions.AssumptionsState, trail.specs.declared.value.Value.Value}
 use Rattle.root_literals.proofs.RootLemmas.Carried.{can_set_on, propagates_none, propagates_on}
-use Rattle.root_literals.proofs.RootLemmas.{Carried.room_for, Reasons.has-in_order}
-use Rattle.root_literals.proofs.RootLemmas.{Reasons.seen_there, Watched.met_more}
-use Rattle.root_literals.proofs.RootLemmas.Watched.{met_unwatched}
-use Rattle.root_literals.specs.{Code.Propagated.PropagatesTo, Order.each_in_order, Watched.IsMet}
-use Rattle.{root_literals.specs.Watched.IsPart, std.proofs.Common.Bool, std.proofs.Common.List}
-use Rattle.std.proofs.Common.{Option, Some, [], ap, arith, cond, eq-eqb, eqb, eqb-true, false}
-use Rattle.std.proofs.Common.{get_or, get_or-set_same, inl, inr, is_some, length, length-set}
-use Rattle.std.proofs.Common.{length-take-le, map, nat_cmp, ne_eqb, not, refl, remove, set}
-use Rattle.std.proofs.Common.{slice_get, take, take-take, take_all, true, true≢false, ℕ}
-use Rattle.std.proofs.Common.{◌++◌, ◌+◌, ◌-◌, ◌/◌, ◌<◌, ◌∙◌, ◌∷◌, ◌≡◌, ◌≢◌, ◌≤◌}
-use Rattle.std.proofs.lemmas.Bool.{Decides.nat_tests, and_from, and_parts, cases_eq, cases_lt}
-use Rattle.std.proofs.lemmas.{Bool.false_from_ne_true, Bool.false≢true, Grind.get_or_default_zero}
-use Rattle.std.proofs.lemmas.List.{Edits.length-remove, Sums.sum_by_more, Sums.sum_by_more_le}
-use Rattle.std.proofs.lemmas.List.{set-get_or, take-append-le}
-use Rattle.{std.proofs.lemmas.List.take-set, std.specs.FinMap.FinMap, theory.specs.Propagation.Live}
-use Rattle.trail.proofs.TrailLemmas.{Longer.has_begun, Truth.consistent, Values.fits_within}
-use Rattle.trail.specs.Trail.{HasNoVariableTwice, HasRoom, HasRoomForAll}
-use Rattle.trail.specs.{Trail.TrailState, Trail.value_under, declared.value.Value.TheVariants.False}
-use Rattle.{trail.specs.declared.value.Value.Value, watch.proofs.WatchLemmas.Moves.entry_alive}
-use Rattle.watch.specs.Code.Visits.{AreMet, CanFollow, CanLook}
-use Rattle.watch.specs.Code.Visits.{CanVisit, Followed, HasRoomForBlocking, IsEntryOf, IsFound}
-use Rattle.watch.specs.Code.Visits.{IsFoundAfter, IsFoundNext, IsInHand, Visited, entries_left}
-use Rattle.watch.specs.declared.follow.{Found.Found, Found.TheVariants.Unit, FoundAt.FoundAt}
-use Rattle.watch_lists.proofs.WatchListsLemmas.Lists.{entry_at}
-use Rattle.watch_lists.specs.{Cursor.CursorState, Lists.entries_of, Lists.fits}
-use Rattle.watch_lists.specs.{Lists.list_at, Watched.IsListed, Watched.entries_for, Watched.watches}
+use Rattle.root_literals.proofs.RootLemmas.{Carried.room_for, Reasons.{has-in_order, seen_there}}
+use Rattle.root_literals.proofs.RootLemmas.{Terms.{Clauses, ReasonOf, shown}, Watched.met_unwatched}
+use Rattle.root_literals.specs.{Code.Propagated.PropagatesTo, Watched.{IsMet, IsPart}}
+use Rattle.std.proofs.Common.{Bool, List, Option, Some, [], ap, arith, cond, eq-eqb, eqb, eqb-true}
+use Rattle.std.proofs.Common.{false, get_or, get_or-set_same, inl, inr, is_some, length, length-set}
+use Rattle.std.proofs.Common.{length-take-le, map, ne_eqb, refl, remove, set, slice_get, take}
+use Rattle.std.proofs.Common.{take-take, take_all, true, true≢false, ℕ, ◌+◌, ◌-◌, ◌/◌, ◌<◌, ◌∙◌}
+use Rattle.std.proofs.{Common.{◌∷◌, ◌≡◌, ◌≢◌, ◌≤◌}, lemmas.Bool.false≢true}
+use Rattle.std.proofs.lemmas.Bool.{and_from, and_parts, cases_eq, cases_lt, false_from_ne_true}
+use Rattle.{std.proofs.lemmas.Bool.Decides.nat_tests, trail.proofs.TrailLemmas.Truth.consistent}
+use Rattle.std.proofs.lemmas.{Grind.get_or_default_zero, List.Sums.{sum_by_more, sum_by_more_le}}
+use Rattle.std.proofs.lemmas.List.{set-get_or, take-append-le, take-set, Edits.length-remove}
+use Rattle.{theory.specs.Propagation.Live, watch_lists.proofs.WatchListsLemmas.Lists.entry_at}
+use Rattle.trail.{proofs.TrailLemmas.Longer.has_begun, specs.declared.value.Value.TheVariants.False}
+use Rattle.{trail.proofs.TrailLemmas.Values.fits_within, watch.proofs.WatchLemmas.Moves.entry_alive}
+use Rattle.trail.specs.Trail.{HasNoVariableTwice, HasRoom, HasRoomForAll, TrailState, value_under}
+use Rattle.watch.specs.Code.Visits.{AreMet, CanFollow, CanLook, CanVisit, Followed}
+use Rattle.watch.specs.Code.Visits.{HasRoomForBlocking, IsEntryOf, IsFound, IsFoundAfter}
+use Rattle.watch.specs.Code.Visits.{IsFoundNext, IsInHand, Visited, entries_left}
+use Rattle.watch.specs.declared.follow.{Found.{Found, TheVariants.Unit}, FoundAt.FoundAt}
+use Rattle.watch_lists.specs.{Cursor.CursorState, Watched.{IsListed, entries_for, watches}}
+use Rattle.watch_lists.specs.Lists.{entries_of, fits, list_at}
 use Rattle.watch_lists.specs.declared.{lists.WatchLists.WatchLists, watcher.Watcher.Watcher}
 use Rattle.std.specs.FinMap as maps
 
@@ -47,10 +42,6 @@ module _ (trues : List Literal) (c : Clause) (l : Literal) (from : ℕ) (inside 
 
   pub other_member : has c m ≡ true
   other_member = grind (arith, has_place)
-
--- a literal that was made true
-pub made_true : (b : Bool) (lits after : List Literal) (m : Literal) → b ≡ not (has lits m) → after ≡ cond b (lits ++ m ∷ []) lits → has after m ≡ true
-made_true = grind (arith, has_append_right, has_head, true≢false)
 
 -- ---- Entries that fit their clause
 
@@ -81,11 +72,6 @@ module _ (trues : List Literal) (c : Clause) (l other : Literal) (watched : watc
   pub binary_all : has trues (complement other) ≡ true → (k : Literal) → has c k ≡ true → has trues (complement k) ≡ true
   binary_all = grind (arith, cases_eq, binary_others)
 
--- ---- Visits of the clauses in a list, one after the other
-
-entries_one : (o : Option Clause) (l : Literal) → entries_for o l ≤ 1
-entries_one = grind arith
-
 -- ---- The list that is in hand
 
 module _ (live : Live) (lists : Literal → List Watcher) (l : Literal) (list : List Watcher) (listed : IsListed live (λ k. cond (eqb k l) list (lists k))) where
@@ -94,18 +80,12 @@ module _ (live : Live) (lists : Literal → List Watcher) (l : Literal) (list : 
 
   -- the slots before a place are others than the one at it
   pub front_apart : (place s : ℕ) (d : Watcher) → place < length list → 0 < entries_of s (take place list) → s ≢ (get_or list place d).slot
-  front_apart = grind (arith, sum_by_more_le, eq-eqb, in_list, entries_one)
+  front_apart = grind (arith, sum_by_more_le, eq-eqb, in_list)
 
 -- where all clauses of its list have a true literal, all that watch the literal have
 pub all_met : (live : Live) (l : Literal) (list : List Watcher) → ((s : ℕ) → entries_of s list ≡ entries_for (live s) l) → (trues : List Literal) (place : ℕ) → length list ≤ place →
     ((s : ℕ) → 0 < entries_of s (take place list) → (c : Clause) → live s ≡ Some c → IsMet c l trues) → (s : ℕ) (c : Clause) → live s ≡ Some c → IsMet c l trues
 all_met live l list in_list trues place past visited s c is = grind (arith, in_list, take_all, met_unwatched)
-
--- ---- Entries before a place
-
--- none stand before the first
-pub none_before : (list : List Watcher) (place s : ℕ) → place ≡ 0 → 0 < entries_of s (take place list) → ⊥
-none_before = grind arith
 
 -- ---- Lists that are the same
 
@@ -132,11 +112,8 @@ put_same = grind (arith, set-get_or)
 front_removed : (list : List Watcher) (place : ℕ) → place < length list → take place (remove list place) ≡ take place list
 front_removed = grind (arith, length-take-le, take-append-le, take-take)
 
-module _ (live after : FinMap nat_cmp Clause) (l : Literal) (trues more : List Literal) (part : IsPart trues more) (cursor now : CursorState) (slot : ℕ) (inside : cursor.visited < length cursor.entries)
+module _ (live after : Clauses) (l : Literal) (trues more : List Literal) (part : IsPart trues more) (cursor now : CursorState) (slot : ℕ) (inside : cursor.visited < length cursor.entries)
     (met : AreMet live cursor l trues) (others : (s : ℕ) → s ≢ slot → maps.get after s ≡ maps.get live s) where
-  still_met : (s : ℕ) → 0 < entries_of s (take cursor.visited cursor.entries) → s ≢ slot → (c : Clause) → maps.get after s ≡ Some c → IsMet c l more
-  still_met = grind (arith, met_more)
-
   -- the next entry is kept
   pub kept_met : (w : Watcher) → w.slot ≡ slot → now.entries ≡ set cursor.entries cursor.visited w → now.visited ≡ cursor.visited + 1 → ((c : Clause) → maps.get after slot ≡ Some c → IsMet c l more) → AreMet after now l more
   kept_met w of_slot entries visited here s there = elim (cases_eq s slot) [
@@ -147,12 +124,12 @@ module _ (live after : FinMap nat_cmp Clause) (l : Literal) (trues more : List L
         let split = sum_by_more (λ x. cond (eqb x.slot s) 1 0) list cursor.visited w (omega (arith, inside, len)) in
         let none : cond {A = ℕ} (eqb (get_or list cursor.visited w).slot s) 1 0 ≡ 0 = grind (arith, ne_eqb, get_or-set_same) in
         let same = ap (entries_of s) (take-set cursor.entries cursor.visited w) in
-        grind (arith, still_met)
+        grind arith
   ]
 
   -- it is taken out
   pub taken_met : now ≡ record { entries = remove cursor.entries cursor.visited; visited = cursor.visited } → ((s : ℕ) → 0 < entries_of s (take cursor.visited cursor.entries) → s ≢ slot) → AreMet after now l more
-  taken_met = grind (arith, front_removed, still_met)
+  taken_met = grind (arith, front_removed)
 
 module _ (cursor now : CursorState) (inside : cursor.visited < length cursor.entries) where
   pub kept_fewer : (w : Watcher) → now.entries ≡ set cursor.entries cursor.visited w → now.visited ≡ cursor.visited + 1 → entries_left now + 1 ≡ entries_left cursor
@@ -164,7 +141,7 @@ module _ (cursor now : CursorState) (inside : cursor.visited < length cursor.ent
 -- ---- Visits, one after the other
 
 -- they make no more literals true than there was room for
-pub fits_on : {a b : FinMap nat_cmp Clause} {x y : AssumptionsState} {r s : Literal → Option ℕ} → PropagatesTo a b x y r s → {t : TrailState} → t ≡ y.trail → HasNoVariableTwice t.lits →
+pub fits_on : {a b : Clauses} {x y : AssumptionsState} {r s : ReasonOf} → PropagatesTo a b x y r s → {t : TrailState} → t ≡ y.trail → HasNoVariableTwice t.lits →
     ((v : ℕ) → has (map variable t.lits) v ≡ true → has t.reserved v ≡ true) → length y.trail.lits ≤ length x.trail.reserved
 fits_on = grind (arith, fits_within)
 
@@ -181,14 +158,14 @@ false_at trues {shown} {place} {p} inside same read is =
 
 -- ---- All lists
 
-pub followed_none : {a : FinMap nat_cmp Clause} {lists : WatchLists} {x : AssumptionsState} {r : Literal → Option ℕ} → CanFollow a lists x r → Followed a a lists lists x x r r
+pub followed_none : {a : Clauses} {lists : WatchLists} {x : AssumptionsState} {r : ReasonOf} → CanFollow a lists x r → Followed a a lists lists x x r r
 followed_none {a} {lists} {x} {r} can = record { listed = can.listed; entries = refl; propagates = propagates_none a x r }
 
-module _ {a b : FinMap nat_cmp Clause} {lists lists_b : WatchLists} {x y : AssumptionsState} {r s : Literal → Option ℕ} where
+module _ {a b : Clauses} {lists lists_b : WatchLists} {x y : AssumptionsState} {r s : ReasonOf} where
   pub can_follow_on : CanFollow a lists x r → Followed a b lists lists_b x y r s → CanFollow b lists_b y s
   can_follow_on = grind (arith, can_set_on)
 
-  pub followed_on : {c : FinMap nat_cmp Clause} {lists_c : WatchLists} {z : AssumptionsState} {t : Literal → Option ℕ} → Followed a b lists lists_b x y r s → Followed b c lists_b lists_c y z s t → Followed a c lists lists_c x z r t
+  pub followed_on : {c : Clauses} {lists_c : WatchLists} {z : AssumptionsState} {t : ReasonOf} → Followed a b lists lists_b x y r s → Followed b c lists_b lists_c y z s t → Followed a c lists lists_c x z r t
   followed_on {c} {lists_c} {z} {t} first second = record {
     listed = second.listed;
     entries = second.entries ∙ first.entries;
@@ -198,26 +175,26 @@ module _ {a b : FinMap nat_cmp Clause} {lists lists_b : WatchLists} {x y : Assum
 -- ---- The list in hand
 
 -- the clause of the next entry
-pub next_entry : {live : FinMap nat_cmp Clause} {lists : WatchLists} {l : Literal} (cursor : CursorState) (entry : Watcher) → slice_get cursor.entries cursor.visited ≡ Some entry → IsInHand live lists cursor.entries l → IsEntryOf live entry l
+pub next_entry : {live : Clauses} {lists : WatchLists} {l : Literal} (cursor : CursorState) (entry : Watcher) → slice_get cursor.entries cursor.visited ≡ Some entry → IsInHand live lists cursor.entries l → IsEntryOf live entry l
 next_entry {live} {lists} {l} cursor entry is hand =
     let e = entry_at cursor.entries cursor.visited entry is in
     let w = entry_alive (maps.get live) (list_at lists) l cursor.entries hand.listed cursor.visited entry e.0 e.1 in
     grind arith
 
 -- what is found of its clause is found next
-pub found_at : {live : FinMap nat_cmp Clause} {lists : WatchLists} {l : Literal} {cursor : CursorState} {entry : Watcher} {trues : List Literal} {found : Found} → slice_get cursor.entries cursor.visited ≡ Some entry →
+pub found_at : {live : Clauses} {lists : WatchLists} {l : Literal} {cursor : CursorState} {entry : Watcher} {trues : List Literal} {found : Found} → slice_get cursor.entries cursor.visited ≡ Some entry →
     IsInHand live lists cursor.entries l → ((c : Clause) → maps.get live entry.slot ≡ Some c → IsFound trues c found) → IsFoundNext live cursor trues entry found
 found_at {cursor = cursor} {entry} is hand found = let w = next_entry cursor entry is hand in
     grind arith
 
-pub visited_none : {a : FinMap nat_cmp Clause} {lists : WatchLists} {list : List Watcher} {l : Literal} (x : AssumptionsState) (r : Literal → Option ℕ) → IsInHand a lists list l → Visited a a lists lists list list x x r r l
+pub visited_none : {a : Clauses} {lists : WatchLists} {list : List Watcher} {l : Literal} (x : AssumptionsState) (r : ReasonOf) → IsInHand a lists list l → Visited a a lists lists list list x x r r l
 visited_none {a} x r hand = record { hand = hand; entries = refl; propagates = propagates_none a x r }
 
-module _ {a b : FinMap nat_cmp Clause} {lists lists_b : WatchLists} {list list_b : List Watcher} {x y : AssumptionsState} {r s : Literal → Option ℕ} {l : Literal} where
+module _ {a b : Clauses} {lists lists_b : WatchLists} {list list_b : List Watcher} {x y : AssumptionsState} {r s : ReasonOf} {l : Literal} where
   pub can_visit_on : CanVisit a lists list x r l → Visited a b lists lists_b list list_b x y r s l → CanVisit b lists_b list_b y s l
   can_visit_on = grind (arith, has_begun, can_set_on)
 
-  pub visited_on : {c : FinMap nat_cmp Clause} {lists_c : WatchLists} {list_c : List Watcher} {z : AssumptionsState} {t : Literal → Option ℕ} → Visited a b lists lists_b list list_b x y r s l → Visited b c lists_b lists_c list_b list_c y z s t l →
+  pub visited_on : {c : Clauses} {lists_c : WatchLists} {list_c : List Watcher} {z : AssumptionsState} {t : ReasonOf} → Visited a b lists lists_b list list_b x y r s l → Visited b c lists_b lists_c list_b list_c y z s t l →
       Visited a c lists lists_c list list_c x z r t l
   visited_on {c} {lists_c} {list_c} {z} {t} first second = record {
     hand = second.hand;
@@ -226,12 +203,13 @@ module _ {a b : FinMap nat_cmp Clause} {lists lists_b : WatchLists} {list list_b
   }
 
 -- what was found of the clause of the next entry
-pub found_next : {live : FinMap nat_cmp Clause} {cursor : CursorState} {seen trues : List Literal} {o : Option FoundAt} → IsFoundAfter live cursor seen o →
-    {f : FoundAt} {found : Found} → o ≡ Some f → f.found ≡ found → seen ≡ trues → IsFoundNext live cursor trues f.entry found
+pub found_next : {live : Clauses} {cursor : CursorState} {seen trues : List Literal}
+    {o : Option FoundAt} → IsFoundAfter live cursor seen o → {f : FoundAt} {found : Found} →
+    o ≡ Some f → f.found ≡ found → seen ≡ trues → IsFoundNext live cursor trues f.entry found
 found_next = grind arith
 
 -- there is room for a literal that is found to follow after visits
-pub room_found : {a b d : FinMap nat_cmp Clause} {lists lists_b lists_d : WatchLists} {list list_b list_d : List Watcher} {x y z : AssumptionsState} {r s t : Literal → Option ℕ} {l : Literal} → CanVisit a lists list x r l →
+pub room_found : {a b d : Clauses} {lists lists_b lists_d : WatchLists} {list list_b list_d : List Watcher} {x y z : AssumptionsState} {r s t : ReasonOf} {l : Literal} → CanVisit a lists list x r l →
     Visited a b lists lists_b list list_b x y r s l → Visited b d lists_b lists_d list_b list_d y z s t l → {cursor : CursorState} {trues : List Literal} {entry : Watcher} {m : Literal} → IsFoundNext d cursor trues entry (Unit m) →
     (has z.trail.reserved (m / 2) ≡ true) × (is_some (t m) ≡ true)
 room_found can first second {m = m} f = room_for (can_visit_on (can_visit_on can first) second).can_set _ f.clause f.at m f.holds.0
@@ -239,11 +217,11 @@ room_found can first second {m = m} f = room_for (can_visit_on (can_visit_on can
 -- ---- Looks at clauses
 
 -- there is room for the literals of a clause
-pub room_in : (live : FinMap nat_cmp Clause) {reserved : List ℕ} → HasRoomForAll reserved (maps.get (each_in_order live)) → (slot : ℕ) (c : Clause) → maps.get live slot ≡ Some c → HasRoom reserved c
+pub room_in : (live : Clauses) {reserved : List ℕ} → HasRoomForAll reserved (shown live) → (slot : ℕ) (c : Clause) → maps.get live slot ≡ Some c → HasRoom reserved c
 room_in live room slot c here m member = let shown = seen_there live slot c here in grind (arith, has-in_order)
 
 -- so there is for those that stand in entries
-pub room_for_blocking : {live : FinMap nat_cmp Clause} {lists : WatchLists} {cursor : CursorState} {trail : TrailState} {l : Literal} → CanLook live lists cursor trail l → HasRoomForBlocking trail.reserved cursor.entries
+pub room_for_blocking : {live : Clauses} {lists : WatchLists} {cursor : CursorState} {trail : TrailState} {l : Literal} → CanLook live lists cursor trail l → HasRoomForBlocking trail.reserved cursor.entries
 room_for_blocking {live} {cursor = cursor} can k e is =
     let w = next_entry (record { entries = cursor.entries; visited = k }) e is can.hand in
     grind (arith, room_in, and_parts)

@@ -1,15 +1,13 @@
 -- The entries of one clause, and the slots of those that have none.
-use Rattle.clause_db.proofs.StoreLemmas.Below.{below_all}
+use Rattle.clause_db.{proofs.StoreLemmas.Below.below_all, specs.Store.is_tautology}
+use Rattle.cnf_base.{proofs.{SetLemmas.has_head, SizeLemmas.distinct_parts}, specs.Literals.Clause}
+use Rattle.{cnf_base.specs.Literals.{Literal, has, size}, std.proofs.Common.{Bool, List, Option}}
+use Rattle.std.proofs.Common.{Some, [], ap, arith, cond, eqb, false, get_or, length, ne_eqb, refl}
+use Rattle.std.proofs.Common.{rules, sym, true, ℕ, ◌&&◌, ◌+◌, ◌<◌, ◌||◌, ◌∙◌, ◌∷◌, ◌≡◌, ◌≢◌, ◌≤◌}
+use Rattle.std.proofs.lemmas.{Bool.{false≢true, true≢false}, List.Sums.sum_by-cons}
 use Rattle.std.proofs.lemmas.Option.{same_Some}
-use Rattle.watch_lists.proofs.WatchListsLemmas.Watched.{units_apart}
-use Rattle.std.proofs.Common.{rules, ◌≡◌, ◌≢◌, ℕ, ◌+◌, ◌<◌, ◌≤◌, Bool, true, false, cond, eqb, ◌||◌}
-use Rattle.std.proofs.Common.{◌&&◌, List, [], ◌∷◌, Option, Some, length, get_or, refl, sym, ap, ◌∙◌}
-use Rattle.std.proofs.Common.{arith, ne_eqb}
-use Rattle.std.proofs.lemmas.{Bool.true≢false, Bool.false≢true, List.Sums.sum_by-cons}
-use Rattle.cnf_base.specs.Literals.{Literal, Clause, has, size}
-use Rattle.cnf_base.proofs.{SetLemmas.has_head, SizeLemmas.distinct_parts}
-use Rattle.clause_db.specs.Store.{is_tautology}
-use Rattle.watch_lists.specs.{Lists.fits, Lists.times_in, Watched.watches, Watched.IsTautologyList}
+use Rattle.watch_lists.{proofs.WatchListsLemmas.Watched.units_apart, specs.Lists.{fits, times_in}}
+use Rattle.watch_lists.specs.Watched.{IsTautologyList, watches}
 
 -- a clause of two literals or more
 module _ (first second : Literal) where

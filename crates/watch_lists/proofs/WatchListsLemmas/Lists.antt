@@ -1,16 +1,14 @@
 -- Entries in lists.
-use Rattle.std.proofs.lemmas.List.{Sums.sum_by_more, take_all}
-use Rattle.std.proofs.Common.{rules, ◌≡◌, ℕ, ◌+◌, ◌-◌, ◌<◌, ◌≤◌, ◌&&◌, not, true, Bool, cond, eqb}
-use Rattle.std.proofs.Common.{List, length, get_or, drop, take, swap_remove, [], ◌∷◌, ◌++◌, ap}
-use Rattle.std.proofs.Common.{arith, slice_get, Some, None}
-use Rattle.std.proofs.lemmas.List.{drop-take, take-append-drop, take-take}
-use Rattle.std.proofs.lemmas.Option.{slice_get-get_or, slice_get_cases}
-use Rattle.std.proofs.lemmas.List.Sums.{get_or-le-sum_by, sum_by-append, sum_by-cons, sum_by_push}
-use Rattle.std.proofs.lemmas.List.Sums.{sum_by-le-sum_by, sum_by-remove, sum_by-swap_remove}
-use Rattle.std.{proofs.lemmas.Grind.get_or_default_zero, specs.List.remove}
-use Rattle.cnf_base.specs.Literals.{Clause, has}
-use Rattle.watch_lists.specs.Lists.{entries_of, fits, marked_entries, slot_at, slot_of, times_in}
-use Rattle.watch_lists.specs.{Lists.unfit_entries, Code.Lists.code_of, Code.Lists.entries_with}
+use Rattle.{cnf_base.specs.Literals.{Clause, has}, std.proofs.Common.{Bool, List, None, Some, []}}
+use Rattle.std.proofs.Common.{ap, arith, cond, drop, eqb, get_or, length, not, rules, slice_get}
+use Rattle.std.proofs.Common.{swap_remove, take, true, ℕ, ◌&&◌, ◌++◌, ◌+◌, ◌-◌, ◌<◌, ◌∷◌, ◌≡◌, ◌≤◌}
+use Rattle.std.proofs.lemmas.{Grind.get_or_default_zero, List.{drop-take, take-append-drop}}
+use Rattle.std.proofs.lemmas.List.{take-take, take_all, Sums.{get_or-le-sum_by, sum_by-append}}
+use Rattle.std.proofs.lemmas.List.Sums.{sum_by-cons, sum_by-le-sum_by, sum_by-remove}
+use Rattle.std.proofs.lemmas.List.Sums.{sum_by-swap_remove, sum_by_more, sum_by_push}
+use Rattle.std.{proofs.lemmas.Option.{slice_get-get_or, slice_get_cases}, specs.List.remove}
+use Rattle.watch_lists.specs.{Code.Lists.{code_of, entries_with}, Lists.{entries_of, fits}}
+use Rattle.watch_lists.specs.Lists.{marked_entries, slot_at, slot_of, times_in, unfit_entries}
 use Rattle.watch_lists.specs.declared.watcher.Watcher.{Watcher}
 
 pub eqb_turned : (a b : ℕ) → eqb a b ≡ eqb b a

@@ -1,15 +1,13 @@
 -- The lists of all clauses: one clause more or less.
-use Rattle.std.proofs.Common.{rules, ◌≡◌, ◌≢◌, ℕ, ◌+◌, ◌<◌, Bool, true, false, not, ◌&&◌, cond, eqb}
-use Rattle.std.proofs.Common.{Option, Some, None, nat_le, IsSome, length, arith}
-use Rattle.std.specs.FinMap as maps
-use Rattle.std.specs.{Ordering.nat_cmp, FinMap.FinMap}
-use Rattle.cnf_base.specs.Literals.{Clause, size}
+use Rattle.{clause_db.specs.Store.is_tautology, std.specs.FinMap.FinMap}
 use Rattle.cnf_base.proofs.MapLemmas.{insert_here, insert_other, remove_here, remove_other}
-use Rattle.cnf_base.proofs.MapLemmas.{sum_insert, sum_remove}
-use Rattle.clause_db.specs.Store.{is_tautology}
-use Rattle.watch_lists.specs.Watched.{AddsFitting, HasAll, HasEntry, is_unit_or_empty, is_unwatched}
+use Rattle.cnf_base.{proofs.MapLemmas.{sum_insert, sum_remove}, specs.Literals.{Clause, size}}
+use Rattle.std.proofs.Common.{Bool, IsSome, None, Option, Some, arith, cond, eqb, false, length}
+use Rattle.std.proofs.Common.{nat_le, not, rules, true, ℕ, ◌&&◌, ◌+◌, ◌<◌, ◌≡◌, ◌≢◌}
+use Rattle.{std.specs.Ordering.nat_cmp, watch_lists.proofs.WatchListsLemmas.Lists.unfit_absent}
 use Rattle.watch_lists.specs.{Lists.entries_in, declared.lists.WatchLists.WatchLists}
-use Rattle.watch_lists.proofs.WatchListsLemmas.Lists.{unfit_absent}
+use Rattle.watch_lists.specs.Watched.{AddsFitting, HasAll, HasEntry, is_unit_or_empty, is_unwatched}
+use Rattle.std.specs.FinMap as maps
 
 pub and_true : (b : Bool) → cond {A = ℕ} (b && true) 1 0 ≡ cond b 1 0
 and_true b = search rules

@@ -1,18 +1,16 @@
 -- The lists of all clauses, as they are filled part by part.
-use Rattle.std.proofs.Common.{rules, ◌≡◌, ℕ, ◌+◌, ◌<◌, ◌≤◌, Bool, true, false, ◌&&◌, cond, eqb}
-use Rattle.std.proofs.Common.{Some, None, nat_lt, IsSome, [], ◌∷◌, List, length, sum_by, min, refl}
-use Rattle.std.proofs.{Common.arith, lemmas.List.Sums.sum_by-cons}
-use Rattle.std.specs.{Ordering.nat_cmp, FinMap.FinMap}
-use Rattle.std.specs.FinMap as maps
-use Rattle.cnf_base.specs.{Literals.Literal, Literals.Clause, Literals.size, Maps.sum_over}
-use Rattle.cnf_base.proofs.MapLemmas.{sum_alike, sum_bound, sum_empty, sum_insert}
-use Rattle.clause_db.specs.Store.{is_tautology}
 use Rattle.clause_db.proofs.StoreLemmas.Below.{below, below_next, below_none, below_same, gone}
+use Rattle.{clause_db.specs.Store.is_tautology, std.proofs.lemmas.List.Sums.sum_by-cons}
+use Rattle.cnf_base.proofs.MapLemmas.{sum_alike, sum_bound, sum_empty, sum_insert}
+use Rattle.{cnf_base.specs.{Literals.{Clause, Literal, size}, Maps.sum_over}, std.proofs.Common.◌≤◌}
+use Rattle.std.proofs.Common.{Bool, IsSome, List, None, Some, [], arith, cond, eqb, false, length}
+use Rattle.std.proofs.Common.{min, nat_lt, refl, rules, sum_by, true, ℕ, ◌&&◌, ◌+◌, ◌<◌, ◌∷◌, ◌≡◌}
+use Rattle.{std.specs.FinMap.FinMap, watch_lists.proofs.WatchListsLemmas.Made.{added, is_counted}}
+use Rattle.{std.specs.Ordering.nat_cmp, watch_lists.specs.Code.Part.{is_in, part_of, watched_in}}
 use Rattle.watch_lists.specs.Lists.{entries_in, entries_of, list_at, unfit_entries}
 use Rattle.watch_lists.specs.Watched.{AddsFitting, HasAll, entries_for, watches}
-use Rattle.watch_lists.specs.Code.Part.{is_in, part_of, watched_in}
 use Rattle.watch_lists.specs.declared.{lists.WatchLists.WatchLists, part.Part.Part}
-use Rattle.watch_lists.proofs.WatchListsLemmas.Made.{added, is_counted}
+use Rattle.std.specs.FinMap as maps
 
 -- two sums at once
 sum_both : {X : Type 0} (f g h : X → ℕ) → ((x : X) → f x + g x ≡ h x)

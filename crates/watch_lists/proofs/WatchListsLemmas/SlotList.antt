@@ -1,11 +1,8 @@
 -- Slots by their places.
-use Rattle.watch_lists.proofs.WatchListsLemmas.Lists.{times_taken}
-use Rattle.std.proofs.lemmas.Grind.{get_or_default_zero}
-use Rattle.std.proofs.Common.{rules, ◌≡◌, ℕ, ◌<◌, ◌≤◌, true, false, Option, Some, None, List}
-use Rattle.std.proofs.Common.{length, get_or, eqb, arith}
-use Rattle.cnf_base.specs.Literals.{has}
-use Rattle.watch_lists.specs.Code.SlotList.{IsPlaced}
-use Rattle.cnf_base.proofs.MemberLemmas.{has_place, place_of as place_in}
+use Rattle.cnf_base.{proofs.MemberLemmas.{has_place, place_of as place_in}, specs.Literals.has}
+use Rattle.std.proofs.Common.{List, None, Option, Some, arith, eqb, false, get_or, length, rules}
+use Rattle.std.proofs.{Common.{true, ℕ, ◌<◌, ◌≡◌, ◌≤◌}, lemmas.Grind.get_or_default_zero}
+use Rattle.watch_lists.{proofs.WatchListsLemmas.Lists.times_taken, specs.Code.SlotList.IsPlaced}
 
 module _ (slots : List ℕ) (place_of : ℕ → Option ℕ) (placed : IsPlaced slots place_of) (s : ℕ) (there : has slots s ≡ true) where
   noted_at : (i : ℕ) × (i < length slots) × (get_or slots i 0 ≡ s) × (place_of s ≡ Some i)

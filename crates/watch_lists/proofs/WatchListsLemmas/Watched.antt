@@ -1,9 +1,8 @@
 -- The literals that a clause watches, and tautologies.
-use Rattle.std.proofs.Common.{arith, rules, ◌≡◌, true, false, [], ◌∷◌, refl}
-use Rattle.std.proofs.lemmas.Bool.{false≢true, false_from_ne_true}
-use Rattle.cnf_base.specs.Literals.{Literal, Clause, has}
-use Rattle.cnf_base.proofs.{LiteralLemmas.complement-other, SetLemmas.any_from, SetLemmas.any_some}
-use Rattle.clause_db.specs.Store.{is_tautology}
+use Rattle.{clause_db.specs.Store.is_tautology, cnf_base.proofs.LiteralLemmas.complement-other}
+use Rattle.cnf_base.{proofs.SetLemmas.{any_from, any_some}, specs.Literals.{Clause, Literal, has}}
+use Rattle.std.proofs.Common.{[], arith, false, refl, rules, true, ◌∷◌, ◌≡◌}
+use Rattle.std.proofs.lemmas.Bool.{false_from_ne_true, false≢true}
 use Rattle.watch_lists.specs.Watched.{is_first, is_unit_or_empty, watches}
 
 -- a clause that watches a literal has it among its first two, and is no tautology

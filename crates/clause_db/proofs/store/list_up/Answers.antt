@@ -1,9 +1,8 @@
-use Rattle.std.proofs.Common.{◌≡◌, ℕ, Option, Some, None, is_some, refl, ap, arith, nat_cmp}
+use Rattle.clause_db.{proofs.StoreLemmas.Kept.insert_undone, specs.Code.Counts.AreCounted}
+use Rattle.{cnf_base.{proofs.MapLemmas.insert_here, specs.Literals.Clause}, std.proofs.Common.None}
+use Rattle.std.proofs.Common.{Option, Some, ap, arith, is_some, nat_cmp, refl, ℕ, ◌≡◌}
+use Rattle.{std.specs.FinMap.FinMap, tables.specs.declared.by_key.ByKey.ByKey}
 use Rattle.std.specs.FinMap as maps
-use Rattle.std.specs.FinMap.{FinMap}
-use Rattle.cnf_base.{specs.Literals.Clause, proofs.MapLemmas.insert_here}
-use Rattle.tables.specs.declared.by_key.ByKey.{ByKey}
-use Rattle.clause_db.{specs.Code.Counts.AreCounted, proofs.StoreLemmas.Kept.insert_undone}
 use Rattle.clause_db.proofs.store.list_up.Goals as goal
 
 -- ---- Counts that are taken back

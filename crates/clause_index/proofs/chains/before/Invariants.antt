@@ -1,6 +1,5 @@
-use Rattle.std.proofs.Common.{◌≡◌, ℕ, List, length, true}
-use Rattle.cnf_base.specs.Literals.{has, size}
-use Rattle.clause_index.{specs.Code.Chains.AreLinked, proofs.IndexLemmas.Walks.IsLeft}
+use Rattle.clause_index.{proofs.IndexLemmas.Walks.IsLeft, specs.Code.Chains.AreLinked}
+use Rattle.{cnf_base.specs.Literals.{has, size}, std.proofs.Common.{List, length, true, ℕ, ◌≡◌}}
 use Rattle.clause_index.proofs.chains.before.Given as goal
 
 abbrev pub invariant-loop-step : goal.invariant-loop-step

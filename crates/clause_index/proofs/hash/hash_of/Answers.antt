@@ -1,6 +1,5 @@
-use Rattle.std.proofs.Common.{sym, arith}
-use Rattle.clause_index.proofs.IndexLemmas.Hashes.{hash_whole, mixed_none, mixed_more}
-use Rattle.cnf_base.proofs.SizeLemmas.{distinct_before}
+use Rattle.clause_index.proofs.IndexLemmas.Hashes.{hash_whole, mixed_more, mixed_none}
+use Rattle.{cnf_base.proofs.SizeLemmas.distinct_before, std.proofs.Common.{arith, sym}}
 use Rattle.clause_index.proofs.hash.hash_of.Goals as goal
 
 pub loop-l-init : goal.loop-l-init

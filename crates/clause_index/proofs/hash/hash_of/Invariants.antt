@@ -1,5 +1,4 @@
-use Rattle.std.proofs.Common.{◌≡◌, take}
-use Rattle.clause_index.specs.Hashes.{mixed_sum}
+use Rattle.{clause_index.specs.Hashes.mixed_sum, std.proofs.Common.{take, ◌≡◌}}
 use Rattle.clause_index.proofs.hash.hash_of.Given as goal
 
 abbrev pub invariant-loop-l : goal.invariant-loop-l

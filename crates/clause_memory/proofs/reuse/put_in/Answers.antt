@@ -1,10 +1,9 @@
-use Rattle.std.proofs.Common.{arith, rules}
-use Rattle.tables.specs.ByKey.{at}
 use Rattle.clause_memory.proofs.{BlockLemmas.block_is, CellLemmas.block_inside}
-use Rattle.clause_memory.proofs.MemoryLemmas.{IsPutIn, first_block, first_low, link_fits, was_none}
+use Rattle.clause_memory.proofs.MemoryLemmas.{IsPutIn, first_block, first_low, link_fits}
 use Rattle.clause_memory.proofs.MemoryLemmas.{put_in_blocks, put_in_clauses, put_in_memory}
+use Rattle.clause_memory.proofs.{MemoryLemmas.was_none, reuse.put_in.Goals.After-write_clause}
+use Rattle.{std.proofs.Common.{arith, rules}, tables.specs.ByKey.at}
 use Rattle.clause_memory.proofs.reuse.put_in.Goals as goal
-use Rattle.clause_memory.proofs.reuse.put_in.Goals.{After-write_clause}
 
 put : (c : After-write_clause)
     → IsPutIn c.args.kinds.now.items c.args.words.now.items c.write_clause.new.words.items

@@ -1,10 +1,8 @@
-use Rattle.std.proofs.Common.{arith}
-use Rattle.tables.specs.ByKey.{at}
-use Rattle.clause_memory.proofs.MemoryLemmas.{IsTakenOut, taken_out_blocks, taken_out_clauses}
-use Rattle.clause_memory.proofs.MemoryLemmas.{taken_out_memory}
 use Rattle.clause_memory.proofs.CellLemmas.{wiped_before, wiped_behind, wiped_inside, wiped_len}
+use Rattle.clause_memory.proofs.MemoryLemmas.{IsTakenOut, taken_out_blocks, taken_out_clauses}
+use Rattle.clause_memory.proofs.{MemoryLemmas.taken_out_memory, reuse.take_out.Goals.After-set}
+use Rattle.{std.proofs.Common.arith, tables.specs.ByKey.at}
 use Rattle.clause_memory.proofs.reuse.take_out.Goals as goal
-use Rattle.clause_memory.proofs.reuse.take_out.Goals.{After-set}
 
 taken : (c : After-set) → IsTakenOut c.args.kinds.now.items c.args.words.now.items c.write_link.new.words.items (at c.args.heads.now) (at c.set.new.self) c.args.slot c.cells-count.result
 taken c = grind (arith, wiped_len, wiped_inside, wiped_before, wiped_behind)

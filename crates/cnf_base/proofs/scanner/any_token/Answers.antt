@@ -1,12 +1,11 @@
 -- What comes before a token is skipped.
-use Rattle.std.proofs.Common.{◌≡◌, ◌==◌, true, sym, ◌∙◌, rules, arith, refl, slice_index}
-use Rattle.std.proofs.lemmas.{Bool.Decides.nat_tests, Grind.common_steps, Bool.and_parts}
-use Rattle.cnf_base.proofs.RunLemmas.{Stands-start, Stands-looked, Stands-separator, Stands-c}
-use Rattle.cnf_base.proofs.RunLemmas.{Stands-word, Stands-cut_word, whole_number-read}
-use Rattle.cnf_base.proofs.{RunLemmas.one_byte-read, TokenLemmas.failed}
+use Rattle.cnf_base.proofs.RunLemmas.{Stands-c, Stands-cut_word, Stands-looked, Stands-separator}
+use Rattle.cnf_base.proofs.RunLemmas.{Stands-start, Stands-word, one_byte-read, whole_number-read}
+use Rattle.cnf_base.proofs.StreamLemmas.{Along-bumped, Along-look, Along-then}
+use Rattle.cnf_base.proofs.{TextLemmas.listing_at-feed, TokenLemmas.failed}
+use Rattle.std.proofs.Common.{arith, refl, rules, slice_index, sym, true, ◌==◌, ◌∙◌, ◌≡◌}
+use Rattle.std.proofs.lemmas.{Bool.{and_parts, Decides.nat_tests}, Grind.common_steps}
 use Rattle.cnf_base.specs.declared.word.Word.TheVariants as words
-use Rattle.cnf_base.proofs.StreamLemmas.{Along-then, Along-bumped, Along-look}
-use Rattle.cnf_base.proofs.TextLemmas.{listing_at-feed}
 use Rattle.cnf_base.proofs.scanner.any_token.Goals as goal
 
 pub loop-byte-init : goal.loop-byte-init

@@ -1,9 +1,8 @@
 -- A byte of the run is taken, until a separator, the end or a failed read.
-use Rattle.std.proofs.Common.{[], ◌∷◌, ◌++◌, rules}
-use Rattle.cnf_base.proofs.RunLemmas.{InRun-first, InRun-looked, InRun-separator, InRun-failed}
-use Rattle.cnf_base.proofs.StreamLemmas.{Along-map, Along-then, Along-bumped, Splits-then}
-use Rattle.cnf_base.proofs.TextLemmas.{listing_at-last_run, Each-append, col_along-append}
-use Rattle.std.proofs.{Common.arith, lemmas.Grind.common_steps}
+use Rattle.cnf_base.proofs.RunLemmas.{InRun-failed, InRun-first, InRun-looked, InRun-separator}
+use Rattle.cnf_base.proofs.StreamLemmas.{Along-bumped, Along-map, Along-then, Splits-then}
+use Rattle.cnf_base.proofs.TextLemmas.{Each-append, col_along-append, listing_at-last_run}
+use Rattle.std.proofs.{Common.{[], arith, rules, ◌++◌, ◌∷◌}, lemmas.Grind.common_steps}
 use Rattle.cnf_base.proofs.scanner.read_run.Goals as goal
 
 pub loop-byte-init : goal.loop-byte-init

@@ -1,7 +1,6 @@
-use Rattle.std.proofs.Common.{arith, ◌≡◌, ◌∙◌, ap, ap₂, sym, codes}
-use Rattle.std.proofs.lemmas.Result.{IfOk-weaker}
-use Rattle.clap.specs.Words.{app_of, with_rule}
-use Rattle.command_line.specs.Code.Commands.{command_of, flag_rule, new_command, with_files}
+use Rattle.{clap.specs.Words.{app_of, with_rule}, command_line.specs.Code.Commands.command_of}
+use Rattle.command_line.specs.Code.Commands.{flag_rule, new_command, with_files}
+use Rattle.std.proofs.{Common.{ap, ap₂, arith, codes, sym, ◌∙◌, ◌≡◌}, lemmas.Result.IfOk-weaker}
 use Rattle.command_line.proofs.reader.command.Goals as goal
 
 pub returns-in_ok-drat-in-Drat : goal.returns-in_ok-drat-in-Drat

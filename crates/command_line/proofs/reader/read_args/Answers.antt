@@ -1,14 +1,13 @@
-use Rattle.std.proofs.Common.{arith, ◌≡◌, sym, codes, option_map, Some, None, string_bytes}
-use Rattle.std.{specs.Prelude.slice_get, proofs.lemmas.Bool.true≢false}
-use Rattle.clap.specs.Words.{app_of, first_value, found_of, rows_of}
-use Rattle.clap.proofs.WalkLemmas.{first_value-rows}
-use Rattle.command_line.specs.Words.{Accepts, names, said_by}
-use Rattle.command_line.proofs.CommandLineLemmas.{Ends.Reads, Reading.knows, Reading.reads}
+use Rattle.{clap.proofs.WalkLemmas.first_value-rows, std.proofs.lemmas.Bool.true≢false}
+use Rattle.{clap.specs.Words.{app_of, first_value, found_of, rows_of}, std.specs.Prelude.slice_get}
 use Rattle.command_line.proofs.CommandLineLemmas.Accepted.{has_formula, names_apart, names_full}
+use Rattle.command_line.proofs.CommandLineLemmas.{Ends.Reads, Reading.{knows, reads}}
 use Rattle.command_line.proofs.CommandLineLemmas.Reading.{fails_for_memory, flag_given, known_words}
-use Rattle.command_line.proofs.reader.read_args.Goals as goal
+use Rattle.command_line.proofs.reader.read_args.Goals.{After-is_any_empty, in-None}
 use Rattle.command_line.proofs.reader.read_args.Goals.{in-Some-get_str+in_ok-to_string-in-Some-get_str}
-use Rattle.command_line.proofs.reader.read_args.Goals.{in-None, After-is_any_empty}
+use Rattle.command_line.specs.Words.{Accepts, names, said_by}
+use Rattle.std.proofs.Common.{None, Some, arith, codes, option_map, string_bytes, sym, ◌≡◌}
+use Rattle.command_line.proofs.reader.read_args.Goals as goal
 
 pub returns-in-Err-clause-accepts : goal.returns-in-Err-clause-accepts
 returns-in-Err-clause-accepts c accepts = c.fault_from.ensures

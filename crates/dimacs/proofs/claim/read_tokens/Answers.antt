@@ -1,10 +1,8 @@
 -- A token of an output.
-use Rattle.std.proofs.Common.{rules, Ok}
+use Rattle.{cnf_base.proofs.TokenLemmas.told, std.proofs.Common.{Ok, rules}}
+use Rattle.dimacs.proofs.ClaimLemmas.{Hears-bad_line, Hears-bad_word, Hears-end, Hears-failed}
+use Rattle.dimacs.{proofs.ClaimLemmas.{Hears-line, Hears-start, Hears-word}, specs.Claim.nothing}
 use Rattle.cnf_base.specs.declared.token.Token.TheVariants as token
-use Rattle.cnf_base.proofs.TokenLemmas.{told}
-use Rattle.dimacs.specs.Claim.{nothing}
-use Rattle.dimacs.proofs.ClaimLemmas.{Hears-start, Hears-word, Hears-bad_word, Hears-line}
-use Rattle.dimacs.proofs.ClaimLemmas.{Hears-bad_line, Hears-end, Hears-failed}
 use Rattle.dimacs.proofs.claim.read_tokens.Goals as goal
 
 pub loop-place-init : goal.loop-place-init

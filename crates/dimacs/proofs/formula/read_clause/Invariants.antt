@@ -1,6 +1,5 @@
 -- The literals so far are the clause's.
-use Rattle.cnf_base.specs.Stream.{most_to_come}
-use Rattle.dimacs.proofs.FormulaLemmas.{Between}
+use Rattle.{cnf_base.specs.Stream.most_to_come, dimacs.proofs.FormulaLemmas.Between}
 use Rattle.dimacs.proofs.formula.read_clause.Given as goal
 
 abbrev pub invariant-loop-count : goal.invariant-loop-count

@@ -1,10 +1,9 @@
 -- A word, or the end, after blank lines.
-use Rattle.std.proofs.Common.{arith, rules, Ok, Err}
-use Rattle.cnf_base.specs.declared.token.Token.TheVariants as token
+use Rattle.{cnf_base.proofs.StreamLemmas.Along-still, std.proofs.Common.{Err, Ok, arith, rules}}
+use Rattle.cnf_base.{proofs.TokenLemmas.told, specs.declared.fault.TextFault.TheVariants.BadHeader}
 use Rattle.cnf_base.specs.declared.fault.Fault.TheVariants.{ReadFailed, Text}
-use Rattle.cnf_base.specs.declared.fault.TextFault.TheVariants.{BadHeader}
-use Rattle.cnf_base.proofs.{StreamLemmas.Along-still, TokenLemmas.told}
-use Rattle.dimacs.proofs.HeaderLemmas.{Blank-line, Blank-first}
+use Rattle.dimacs.proofs.HeaderLemmas.{Blank-first, Blank-line}
+use Rattle.cnf_base.specs.declared.token.Token.TheVariants as token
 use Rattle.dimacs.proofs.header.first_word.Goals as goal
 
 pub loop-place-init : goal.loop-place-init

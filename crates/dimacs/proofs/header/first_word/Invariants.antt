@@ -1,7 +1,6 @@
 -- Only blank lines came.
-use Rattle.std.proofs.Common.{◌≡◌, ◌≤◌}
-use Rattle.cnf_base.specs.{Stream.Along, Stream.most_to_come, Stream.tells_failure, Text.listing_at}
-use Rattle.dimacs.specs.Formula.{skip_blank}
+use Rattle.cnf_base.specs.{Stream.{Along, most_to_come, tells_failure}, Text.listing_at}
+use Rattle.{dimacs.specs.Formula.skip_blank, std.proofs.Common.{◌≡◌, ◌≤◌}}
 use Rattle.dimacs.proofs.header.first_word.Given as goal
 
 abbrev pub invariant-loop-place : goal.invariant-loop-place

@@ -1,20 +1,12 @@
--- The word that has to stand there.
-use Rattle.std.proofs.Common.{rules, ◌≡◌, refl, cond, Ok, Err}
-use Rattle.cnf_base.specs.declared.fault.{TextFault.TheVariants.BadHeader, Fault.TheVariants.Text}
-use Rattle.dimacs.specs.Formula.{next_word, is_cnf}
-use Rattle.dimacs.proofs.HeaderLemmas.{Part-map, fixed_word, fixed_told}
+use Rattle.dimacs.proofs.HeaderLemmas.{fixed_refused, fixed_wanted}
+use Rattle.dimacs.specs.Formula.{is_cnf}
+use Rattle.std.proofs.Common.{rules}
 use Rattle.dimacs.proofs.header.read_cnf.Goals as goal
 
 pub returns-in_err-place-clause-text : goal.returns-in_err-place-clause-text
 returns-in_err-place-clause-text g c =
-    let refused : c.from_residual.result ≡ Err c.in_err-place.field-0.0 = search rules in
-    rw refused (Part-map _ _ (λ l. l) next_word (λ l. Err c.in_err-place.field-0.0)
-    (fixed_word is_cnf) _ c.in_err-place.ensures.text (λ l. refl))
+    fixed_refused _ _ (λ l. l) is_cnf _ _ c.in_err-place.ensures.text (search rules)
 
 pub returns-clause-text : goal.returns-clause-text
 returns-clause-text g c =
-    let place = c.in_ok-place.place in let word = c.in_ok-place.word in
-    let is : c.wanted.result
-    ≡ cond (is_cnf word) (Ok tt) (Err (Text BadHeader place)) = search rules in
-    rw is (Part-map _ _ (λ l. l) next_word (λ l. Ok (place, word, l)) (fixed_word is_cnf) _
-    c.in_ok-place.ensures.text (fixed_told (is_cnf word) place))
+    fixed_wanted _ _ (λ l. l) is_cnf _ _ _ c.in_ok-place.ensures.text (search rules)

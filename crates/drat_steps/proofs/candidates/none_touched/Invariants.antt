@@ -1,7 +1,6 @@
-use Rattle.std.proofs.Common.{◌≡◌, ℕ, true, take}
+use Rattle.{cnf_base.specs.Literals.{complement, has}, propagation.specs.Assumptions.HasAt}
+use Rattle.std.proofs.Common.{take, true, ℕ, ◌≡◌}
 use Rattle.std.specs.FinMap as maps
-use Rattle.cnf_base.specs.Literals.{complement, has}
-use Rattle.propagation.specs.Assumptions.{HasAt}
 use Rattle.drat_steps.proofs.candidates.none_touched.Given as goal
 
 abbrev pub invariant-loop-l : goal.invariant-loop-l

@@ -16,7 +16,9 @@ returns-clause-yes g c is f =
       | in-Quiet w ↦ elim w.match-matches.branch [
         | in-True v ↦ false≢true (ap not (sym v.matches-is) ∙ (sym w.is_lost-is ∙ is))
         | in_default v ↦
-            not_forced (maps.get now.live) (assumed_by now.assumptions) c.args.l w.value.result (no_clash_now old now _ idle c.in_ok-assume.ensures.assumed w.in-Quiet.is) w.value.ensures v.in_default.not-True
+            not_forced (maps.get now.live) (assumed_by now.assumptions) c.args.l w.value.result
+            (no_clash_now old now _ idle c.in_ok-assume.ensures.assumed w.in-Quiet.is)
+            w.value.ensures v.in_default.not-True
             (forced_now old now _ idle c.in_ok-assume.ensures.assumed w.in-Quiet.is c.args.l f)
       ]
     ]

@@ -1,6 +1,5 @@
 -- Each file is the one of the name that was asked for.
-use Rattle.std.proofs.Common.{rules}
-use Rattle.filter_io.{proofs.OpenLemmas.of_name, specs.Origins.left_of}
+use Rattle.{filter_io.{proofs.OpenLemmas.of_name, specs.Origins.left_of}, std.proofs.Common.rules}
 use Rattle.filter_io.proofs.inputs.open_both.Goals as goal
 
 pub returns-in_ok-open_file-in-Some-Some-clause-formula :

@@ -1,5 +1,4 @@
-use Rattle.std.proofs.Common.{◌≡◌, ◌≢◌, ℕ, ◌+◌, ◌-◌, ◌<◌, slice_index}
-use Rattle.ids.specs.Code.Far.{far_at}
+use Rattle.{ids.specs.Code.Far.far_at, std.proofs.Common.{slice_index, ℕ, ◌+◌, ◌-◌, ◌<◌, ◌≡◌, ◌≢◌}}
 use Rattle.ids.proofs.by_slot.note_far.Given as goal
 
 abbrev pub invariant-loop-id : goal.invariant-loop-id

@@ -1,5 +1,4 @@
-use Rattle.std.proofs.Common.{◌≡◌, ℕ, ◌-◌, ◌<◌, ◌≤◌}
-use Rattle.ids.specs.Code.Far.{far_at}
+use Rattle.{ids.specs.Code.Far.far_at, std.proofs.Common.{ℕ, ◌-◌, ◌<◌, ◌≡◌, ◌≤◌}}
 use Rattle.ids.proofs.far.first_far.Given as goal
 
 abbrev pub invariant-loop-key : goal.invariant-loop-key

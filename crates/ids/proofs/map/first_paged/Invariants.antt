@@ -1,5 +1,4 @@
-use Rattle.std.proofs.Common.{◌≡◌, ℕ, ◌-◌, ◌<◌, ◌≤◌}
-use Rattle.ids.specs.Code.Ids.{entry_at}
+use Rattle.{ids.specs.Code.Ids.entry_at, std.proofs.Common.{ℕ, ◌-◌, ◌<◌, ◌≡◌, ◌≤◌}}
 use Rattle.ids.proofs.map.first_paged.Given as goal
 
 abbrev pub invariant-loop-start : goal.invariant-loop-start

@@ -1,5 +1,4 @@
-use Rattle.std.proofs.Common.{◌≢◌, ℕ, ◌-◌, ◌<◌, ◌≤◌, slice_index}
-use Rattle.ids.specs.Code.Ids.{page_at}
+use Rattle.{ids.specs.Code.Ids.page_at, std.proofs.Common.{slice_index, ℕ, ◌-◌, ◌<◌, ◌≢◌, ◌≤◌}}
 use Rattle.ids.proofs.map.next_number.Given as goal
 
 abbrev pub invariant-loop-i : goal.invariant-loop-i

@@ -1,5 +1,4 @@
-use Rattle.std.proofs.Common.{arith, rules}
-use Rattle.cnf_base.proofs.MapLemmas.{insert_here, insert_other}
+use Rattle.{cnf_base.proofs.MapLemmas.{insert_here, insert_other}, std.proofs.Common.{arith, rules}}
 use Rattle.live_clauses.proofs.clauses.bind.Goals as goal
 
 pub returns-clause-owners : goal.returns-clause-owners

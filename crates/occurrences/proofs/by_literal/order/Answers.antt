@@ -1,7 +1,6 @@
-use Rattle.std.proofs.Common.{eqb, ap, ◌∙◌, sym}
-use Rattle.std.{specs.List.list_any, proofs.lemmas.Map.Keys.IsStrictlyIncreasing-dedup}
+use Rattle.{occurrences.proofs.EntryLemmas.has_deduped, std.proofs.Common.{ap, eqb, sym, ◌∙◌}}
 use Rattle.std.proofs.lemmas.List.{Filters.dedup_is, Sorted.list_any-IsPermutation}
-use Rattle.occurrences.proofs.EntryLemmas.{has_deduped}
+use Rattle.std.{proofs.lemmas.Map.Keys.IsStrictlyIncreasing-dedup, specs.List.list_any}
 use Rattle.occurrences.proofs.by_literal.order.Goals as goal
 
 pub returns-clause-ascending : goal.returns-clause-ascending

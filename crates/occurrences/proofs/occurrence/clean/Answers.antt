@@ -1,5 +1,4 @@
-use Rattle.std.proofs.{Common.rules, lemmas.Fn.filter_same}
-use Rattle.occurrences.specs.Entries.{counts}
+use Rattle.{occurrences.specs.Entries.counts, std.proofs.{Common.rules, lemmas.Fn.filter_same}}
 use Rattle.occurrences.proofs.occurrence.clean.Goals as goal
 
 pub returns-clause-items : goal.returns-clause-items

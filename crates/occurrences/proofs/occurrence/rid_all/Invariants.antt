@@ -1,5 +1,4 @@
-use Rattle.std.proofs.Common.{◌≡◌, ℕ, ◌<◌, ◌≤◌, ◌==◌, not, filter}
-use Rattle.tables.specs.Lists.{list_at}
+use Rattle.{std.proofs.Common.{filter, not, ℕ, ◌<◌, ◌==◌, ◌≡◌, ◌≤◌}, tables.specs.Lists.list_at}
 use Rattle.occurrences.proofs.occurrence.rid_all.Given as goal
 
 abbrev pub invariant-loop-key : goal.invariant-loop-key

@@ -1,7 +1,7 @@
 -- A byte of a step.
 use Rattle.std.proofs.Common.{◌≡◌, refl, rules, Ok, Err}
-use Rattle.proofs.proofs.BinaryLemmas.{Between, Between-on, Between-out, Between-none, Between-end}
-use Rattle.proofs.proofs.BinaryLemmas.{Between-byte, Between-step, Between-fault, Between-refused}
+use Rattle.proofs.proofs.BinaryLemmas.{Between-run, Between-out, Between-none, Between-end}
+use Rattle.proofs.proofs.BinaryLemmas.{Between-step, Between-fault, Between-refused}
 use Rattle.proofs.specs.declared.moved.Moved.TheVariants.{Complete, To}
 use Rattle.proofs.proofs.BinaryLemmas.{moves_told}
 use Rattle.proofs.specs.{declared.drat_binary.stopped.Stopped.TheVariants.Binary, Binary.at_tag}
@@ -23,25 +23,20 @@ loop-byte-preserved g c =
     let so_far = c.loop-byte.invariant in
     let moves = moves_told _ (Ok (To c.in-Ok-To.next)) so_far.0 _ _ c.byte_no-byte_no.result
     c.peek.new.self.byte_no _ (c.move_on.ensures so_far.0 so_far.2) (search rules) (search rules) in
-    let after : Between c.args.source.now c.bump.new.self moves.0 c.move_on.new.step =
-    rw c.bump.ensures (Between-byte _ _ _ _ _ so_far.1 c.in-Ok-Some.ensures.look
-    c.in-Ok-Some.byte (search rules) (search rules) moves.0 c.move_on.new.step moves.1
-    (search rules)) in
     let on = c.run_on.ensures moves.0 moves.2 in
     let same : c.run_on.new.step ≡ on.0 = search rules in
-    (moves.0, rw same (Between-on _ _ _ _ _ _ after on.1), moves.2)
+    let run = Between-run _ _ _ _ _ _ _ _ _ _ so_far.1 c.in-Ok-Some.ensures.look
+    c.in-Ok-Some.byte (search rules) (search rules) moves.1 (search rules) c.bump.ensures on.1 in
+    (moves.0, rw same run, moves.2)
 
 pub returns-then-is_err-clause-step : goal.returns-then-is_err-clause-step
 returns-then-is_err-clause-step g c =
     let so_far = c.loop-byte.invariant in
     let moves = moves_told _ (Ok (To c.in-Ok-To.next)) so_far.0 _ _ c.byte_no-byte_no.result
     c.peek.new.self.byte_no _ (c.move_on.ensures so_far.0 so_far.2) (search rules) (search rules) in
-    let after : Between c.args.source.now c.bump.new.self moves.0 c.move_on.new.step =
-    rw c.bump.ensures (Between-byte _ _ _ _ _ so_far.1 c.in-Ok-Some.ensures.look
-    c.in-Ok-Some.byte (search rules) (search rules) moves.0 c.move_on.new.step moves.1
-    (search rules)) in
-    let on = c.run_on.ensures moves.0 moves.2 in
-    Between-out _ _ _ _ c.run_on.new.step (Between-on _ _ _ _ _ _ after on.1)
+    Between-out _ _ _ _ c.run_on.new.step (Between-run _ _ _ _ _ _ _ _ _ _ so_far.1
+    c.in-Ok-Some.ensures.look c.in-Ok-Some.byte (search rules) (search rules) moves.1 (search rules)
+    c.bump.ensures (c.run_on.ensures moves.0 moves.2).1)
 
 pub returns-in-Ok-Complete-clause-step : goal.returns-in-Ok-Complete-clause-step
 returns-in-Ok-Complete-clause-step g c =

@@ -1,7 +1,6 @@
 -- The bytes so far are in the step.
-use Rattle.cnf_base.specs.Stream.{most_to_come}
+use Rattle.{cnf_base.specs.Stream.most_to_come, proofs.proofs.BinaryLemmas.Between}
 use Rattle.proofs.specs.{Binary.BinarySpot, Code.BinaryMoves.IsAt}
-use Rattle.proofs.proofs.BinaryLemmas.{Between}
 use Rattle.proofs.proofs.drat_binary.read_step.Given as goal
 
 abbrev pub invariant-loop-byte : goal.invariant-loop-byte

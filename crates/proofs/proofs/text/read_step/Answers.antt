@@ -1,10 +1,8 @@
 -- A word of a step: a number that was ahead, or another word.
-use Rattle.std.proofs.Common.{◌≡◌, rules, Result, Ok}
-use Rattle.cnf_base.proofs.TokenLemmas.{told}
-use Rattle.proofs.proofs.TextLemmas.{Between-start, Between-line, Between-word, Between-step}
-use Rattle.proofs.proofs.TextLemmas.{Between-stopped, Between-end, Between-failed, moves_told}
-use Rattle.proofs.specs.{declared.moved.Moved.TheVariants.To, declared.stopped.Stopped.Stopped}
-use Rattle.proofs.specs.declared.moved.Moved.{Moved}
+use Rattle.{cnf_base.proofs.TokenLemmas.told, std.proofs.Common.{Ok, Result, rules, ◌≡◌}}
+use Rattle.proofs.proofs.TextLemmas.{Between-end, Between-failed, Between-line, Between-start}
+use Rattle.proofs.proofs.TextLemmas.{Between-step, Between-stopped, Between-word, moves_told}
+use Rattle.proofs.specs.declared.{moved.Moved.{Moved, TheVariants.To}, stopped.Stopped.Stopped}
 use Rattle.proofs.proofs.text.read_step.Goals as goal
 use Rattle.cnf_base.specs.declared.word.Word.TheVariants as words
 

@@ -1,7 +1,6 @@
 -- The words so far are in the step.
+use Rattle.{cnf_base.specs.Stream.most_to_come, proofs.proofs.TextLemmas.Between}
 use Rattle.std.proofs.Common.{IsTrue}
-use Rattle.cnf_base.specs.Stream.{most_to_come}
-use Rattle.proofs.proofs.TextLemmas.{Between}
 use Rattle.proofs.proofs.text.read_step.Given as goal
 
 abbrev pub invariant-loop-count : goal.invariant-loop-count

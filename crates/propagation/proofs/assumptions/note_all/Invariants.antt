@@ -1,7 +1,5 @@
-use Rattle.std.proofs.Common.{◌≡◌, ℕ, is_some}
-use Rattle.trail.specs.Numbers.{number_at}
-use Rattle.tables.specs.ByKey.{at}
-use Rattle.propagation.proofs.PropagationLemmas.Levels.{NotesTo}
+use Rattle.{propagation.proofs.PropagationLemmas.Levels.NotesTo, std.proofs.Common.{is_some, ℕ}}
+use Rattle.{std.proofs.Common.◌≡◌, tables.specs.ByKey.at, trail.specs.Numbers.number_at}
 use Rattle.propagation.proofs.assumptions.note_all.Given as goal
 
 abbrev pub invariant-loop-l : goal.invariant-loop-l

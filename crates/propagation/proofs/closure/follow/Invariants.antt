@@ -1,6 +1,5 @@
-use Rattle.std.proofs.Common.{◌≡◌, ◌-◌}
+use Rattle.{propagation.specs.Code.Closure.IsFollowed, std.proofs.Common.{◌-◌, ◌≡◌}}
 use Rattle.std.specs.FinMap as maps
-use Rattle.propagation.specs.Code.Closure.{IsFollowed}
 use Rattle.propagation.proofs.closure.follow.Given as goal
 
 abbrev pub invariant-loop-done : goal.invariant-loop-done

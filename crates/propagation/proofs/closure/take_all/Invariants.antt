@@ -1,7 +1,6 @@
-use Rattle.std.proofs.Common.{◌≡◌, ℕ, ◌<◌, Some, length, take}
+use Rattle.{cnf_base.specs.Literals.Clause, propagation.specs.Code.Closure.{AreForced, TakesIn}}
+use Rattle.std.proofs.Common.{Some, length, take, ℕ, ◌<◌, ◌≡◌}
 use Rattle.std.specs.FinMap as maps
-use Rattle.cnf_base.specs.Literals.{Clause}
-use Rattle.propagation.specs.Code.Closure.{AreForced, TakesIn}
 use Rattle.propagation.proofs.closure.take_all.Given as goal
 
 abbrev pub invariant-loop-number : goal.invariant-loop-number

@@ -1,7 +1,6 @@
-use Rattle.std.proofs.Common.{arith}
-use Rattle.std.proofs.{lemmas.Grind.get_or_default_zero, Common.sym, Common.◌∙◌}
 use Rattle.propagation.proofs.PropagationLemmas.Closing.{each_taken, follows_forced}
 use Rattle.propagation.proofs.PropagationLemmas.Exact.{begins_on, longer_from}
+use Rattle.std.proofs.{Common.{arith, sym, ◌∙◌}, lemmas.Grind.get_or_default_zero}
 use Rattle.propagation.proofs.closure.take_each.Goals as goal
 
 pub loop-slot-preserved : goal.loop-slot-preserved

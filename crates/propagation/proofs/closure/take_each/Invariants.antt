@@ -1,7 +1,6 @@
-use Rattle.std.proofs.Common.{◌≡◌, ℕ, true, Some, length, take}
+use Rattle.{cnf_base.specs.Literals.{Clause, has}, std.proofs.Common.{length, take, true, ℕ, ◌≡◌}}
+use Rattle.{propagation.specs.Code.Closure.{AreForced, TakesIn}, std.proofs.Common.Some}
 use Rattle.std.specs.FinMap as maps
-use Rattle.cnf_base.specs.Literals.{Clause, has}
-use Rattle.propagation.specs.Code.Closure.{AreForced, TakesIn}
 use Rattle.propagation.proofs.closure.take_each.Given as goal
 
 abbrev pub invariant-loop-slot : goal.invariant-loop-slot

@@ -1,6 +1,5 @@
-use Rattle.std.proofs.Common.{◌≤◌, ◌<◌, ℕ}
+use Rattle.{propagation.specs.Assumptions.HasAt, std.proofs.Common.{ℕ, ◌<◌, ◌≤◌}}
 use Rattle.std.specs.FinMap as maps
-use Rattle.propagation.specs.Assumptions.{HasAt}
 use Rattle.propagation.proofs.first_with.first_with.Given as goal
 
 abbrev pub invariant-loop-number : goal.invariant-loop-number

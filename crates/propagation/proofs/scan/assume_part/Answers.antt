@@ -1,9 +1,8 @@
-use Rattle.std.proofs.Common.{◌≡◌, [], filter, sym, ◌∙◌, arith}
+use Rattle.{cnf_base.specs.Literals.complements, std.proofs.Common.{filter, sym, ◌∙◌, ◌≡◌}}
+use Rattle.propagation.proofs.PropagationLemmas.{Exact.{begins_on, longer_from}, Scan.part_exact}
+use Rattle.propagation.proofs.PropagationLemmas.Scan.{no_roots, part_answer, part_clashes}
+use Rattle.{propagation.proofs.PropagationLemmas.Scan.scan_after, std.proofs.Common.{[], arith}}
 use Rattle.std.specs.FinMap as maps
-use Rattle.cnf_base.specs.Literals.{complements}
-use Rattle.propagation.proofs.PropagationLemmas.Scan.{no_roots, part_clashes, part_answer}
-use Rattle.propagation.proofs.PropagationLemmas.Scan.{part_exact, scan_after}
-use Rattle.propagation.proofs.PropagationLemmas.Exact.{begins_on, longer_from}
 use Rattle.propagation.proofs.scan.assume_part.Goals as goal
 
 pub returns-in_err-assume-clause-assumed : goal.returns-in_err-assume-clause-assumed

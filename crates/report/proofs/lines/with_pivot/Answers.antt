@@ -1,7 +1,6 @@
 -- The pieces in turn.
-use Rattle.std.proofs.Common.{◌≡◌, ◌++◌, ◌/◌, List, ℕ, codes, decimal, subst, rules}
-use Rattle.std.specs.Prelude.{IfOk}
-use Rattle.report.specs.Lines.{sign_text}
+use Rattle.{report.specs.Lines.sign_text, std.proofs.Common.{List, codes, decimal, rules, subst, ℕ}}
+use Rattle.std.{proofs.Common.{◌++◌, ◌/◌, ◌≡◌}, specs.Prelude.IfOk}
 use Rattle.report.proofs.lines.with_pivot.Goals as goal
 
 pub returns : goal.returns

@@ -1,7 +1,6 @@
-use Rattle.std.proofs.Common.{sym, ap, ◌∙◌, arith}
+use Rattle.{cnf_base.proofs.MapLemmas.insert_other, std.proofs.Common.{ap, arith, sym, ◌∙◌}}
+use Rattle.root_literals.proofs.RootLemmas.Arranged.{brought}
 use Rattle.std.specs.FinMap as maps
-use Rattle.cnf_base.proofs.MapLemmas.{insert_other}
-use Rattle.root_literals.proofs.RootLemmas.Arranged.{brought, not_brought}
 use Rattle.root_literals.proofs.arranged.bring.Goals as goal
 
 pub returns-in-Some-clause-others : goal.returns-in-Some-clause-others
@@ -12,6 +11,3 @@ pub returns-in-Some-clause-brought : goal.returns-in-Some-clause-brought
 returns-in-Some-clause-brought c = let here = sym c.clause.ensures.clause in
     let e = c.in-Some.ensures.found in
     brought c.args.store.now.live c.args.slot c.args.trail.now.lits c.args.place c.clause.result.now here c.swap.new.self.live c.in-Some.found e.0 e.1 e.2 (grind arith)
-
-pub returns-in-None-clause-brought : goal.returns-in-None-clause-brought
-returns-in-None-clause-brought c = grind (arith, not_brought)

@@ -1,15 +1,6 @@
-use Rattle.root_literals.proofs.RootLemmas.Arranged.{arranged_more, arranged_one}
-use Rattle.{std.proofs.lemmas.Grind.get_or_default_zero, root_literals.proofs.RootLemmas.Arranged.one_inside}
-use Rattle.std.proofs.{Common.arith, Common.subst, Common.◌∙◌}
-use Rattle.root_literals.{specs.Roots.IsBrought}
+use Rattle.root_literals.proofs.RootLemmas.Arranged.{arranged_one, one_inside}
+use Rattle.std.proofs.{Common.{arith, ◌∙◌}, lemmas.Grind.get_or_default_zero}
 use Rattle.root_literals.proofs.arranged.put_non_false_first.Goals as goal
-
-pub returns-then-is_more-clause-arranged : goal.returns-then-is_more-clause-arranged
-returns-then-is_more-clause-arranged c clause there =
-    let trues = c.args.trail.now.lits in
-    let d = c.bring.ensures.brought clause there in
-    let e = c.bring-is_more.ensures.brought d.0 d.1 in
-    (e.0, e.1, λ l. e.2.alike l ∙ d.2.alike l, arranged_more trues clause d.0 e.0 (subst (IsBrought trues clause d.0 0) c.if-not-bring.false d.2) (subst (IsBrought trues d.0 e.0 1) c.if-is_more.true e.2))
 
 pub returns-else-is_more-clause-arranged : goal.returns-else-is_more-clause-arranged
 returns-else-is_more-clause-arranged c clause there = let trues = c.args.trail.now.lits in

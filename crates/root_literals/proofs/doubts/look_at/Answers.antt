@@ -1,7 +1,6 @@
-use Rattle.root_literals.proofs.RootLemmas.Carried.{propagates_on}
-use Rattle.root_literals.proofs.{RootLemmas.Watched.settled_more, doubts.look_at.Goals.After-look}
-use Rattle.std.proofs.Common.{rules, take_all, arith}
-use Rattle.{trail.proofs.TrailLemmas.Longer.has_begun}
+use Rattle.root_literals.proofs.RootLemmas.{Carried.propagates_on, Watched.settled_more}
+use Rattle.{root_literals.proofs.doubts.look_at.Goals.After-look, std.proofs.Common.{arith, rules}}
+use Rattle.{std.proofs.Common.take_all, trail.proofs.TrailLemmas.Longer.has_begun}
 use Rattle.std.specs.FinMap as maps
 use Rattle.root_literals.proofs.doubts.look_at.Goals as goal
 

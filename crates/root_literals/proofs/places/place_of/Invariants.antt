@@ -1,5 +1,4 @@
-use Rattle.std.proofs.Common.{◌≡◌, ◌≤◌, true, false, length, take}
-use Rattle.cnf_base.specs.Literals.{has}
+use Rattle.{cnf_base.specs.Literals.has, std.proofs.Common.{false, length, take, true, ◌≡◌, ◌≤◌}}
 use Rattle.root_literals.proofs.places.place_of.Given as goal
 
 abbrev pub invariant-loop-before : goal.invariant-loop-before

@@ -1,6 +1,5 @@
-use Rattle.std.proofs.Common.{ap, arith, rules}
-use Rattle.root_literals.specs.Roots.{has_conflict}
 use Rattle.root_literals.proofs.RootLemmas.Carried.{kept_settled, settled_all}
+use Rattle.{root_literals.specs.Roots.has_conflict, std.proofs.Common.{ap, arith, rules}}
 use Rattle.root_literals.proofs.starting.settle.Goals as goal
 
 pub returns-in-Settled-clause-kept : goal.returns-in-Settled-clause-kept

@@ -1,6 +1,5 @@
-use Rattle.std.proofs.Common.{arith, refl, ap}
-use Rattle.root_literals.specs.Roots.{has_conflict}
 use Rattle.root_literals.proofs.RootLemmas.Carried.{kept_started, visited_grown}
+use Rattle.{root_literals.specs.Roots.has_conflict, std.proofs.Common.{ap, arith, refl}}
 use Rattle.root_literals.proofs.starting.start.Goals as goal
 
 pub returns-in-Some-set_units-clause-kept : goal.returns-in-Some-set_units-clause-kept

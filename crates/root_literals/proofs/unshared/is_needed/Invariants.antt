@@ -1,7 +1,6 @@
-use Rattle.std.proofs.Common.{◌≡◌, ℕ, ◌<◌, false, Some, slice_index}
+use Rattle.{cnf_base.specs.Literals.{Clause, complement, has}, std.proofs.Common.{Some, false}}
+use Rattle.{std.proofs.Common.{slice_index, ℕ, ◌<◌, ◌≡◌}, tables.specs.ByKey.at}
 use Rattle.std.specs.FinMap as maps
-use Rattle.cnf_base.specs.Literals.{Clause, complement, has}
-use Rattle.tables.specs.ByKey.{at}
 use Rattle.root_literals.proofs.unshared.is_needed.Given as goal
 
 abbrev pub invariant-loop-behind : goal.invariant-loop-behind

@@ -1,5 +1,4 @@
-use Rattle.sat_check.proofs.OutcomeLemmas.{Writes-line, on_ok}
-use Rattle.std.proofs.Common.{rules}
+use Rattle.{sat_check.proofs.OutcomeLemmas.{Writes-line, on_ok}, std.proofs.Common.rules}
 use Rattle.sat_check.proofs.check_step.write_trace_line.Goals as goal
 
 pub returns : goal.returns

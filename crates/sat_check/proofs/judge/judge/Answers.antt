@@ -12,4 +12,4 @@ returns-in-Ok-clause-judges g c = judges_body _ _ _ _ c.over.ensures _ _ (search
 
 pub returns-in-Err-clause-judges : goal.returns-in-Err-clause-judges
 returns-in-Err-clause-judges g c = let last = c.in-Err.ensures.refused in
-    judges_fault _ _ _ _ c.over.ensures _ _ (search rules) _ last.2
+    judges_fault _ _ _ _ c.over.ensures last.0 _ (search rules) _ last.2

@@ -6,7 +6,8 @@ use Rattle.sat_check.proofs.load.load_clauses.Goals as goal
 
 pub returns-then-is_err-clause-loads : goal.returns-then-is_err-clause-loads
 returns-then-is_err-clause-loads g c =
-    Loading-refused _ _ _ c.next.new.self _ c.loop-clause.invariant (g.S.ProofSession.shown c.input.new.self) c.next.new.clause (grind (arith, clause_told))
+    Loading-refused _ _ _ c.next.new.self _ c.loop-clause.invariant
+    (g.S.ProofSession.shown c.input.new.self) c.next.new.clause (grind (arith, clause_told))
 
 pub loop-clause-preserved : goal.loop-clause-preserved
 loop-clause-preserved g c = Loading-clause _ _ _ c.next.new.self _ c.loop-clause.invariant _
@@ -15,7 +16,11 @@ loop-clause-preserved g c = Loading-clause _ _ _ c.next.new.self _ c.loop-clause
     (search rules) (search rules) (search rules)) (search rules) (search rules)
 
 pub returns-clause-loads : goal.returns-clause-loads
-returns-clause-loads g c = Loading-done _ _ _ c.next.new.self _ c.loop-clause.invariant c.next.new.clause (clause_told c.loop-clause.reader c.next.new.self _ (Ok false) _ c.next.ensures.clause (search rules))
+returns-clause-loads g c = let session = g.S.ProofSession.shown c.loop-clause.session in
+    Loading-done _ _ _ c.next.new.self _ c.loop-clause.invariant session c.next.new.clause (clause_told
+    c.loop-clause.reader c.next.new.self _ (Ok false) _ c.next.ensures.clause (search rules))
 
 pub returns-in_err-next-clause-loads : goal.returns-in_err-next-clause-loads
-returns-in_err-next-clause-loads g c = Loading-fault _ _ _ c.next.new.self _ c.loop-clause.invariant (g.S.ProofSession.shown c.loop-clause.session) c.next.new.clause c.in_err-next.field-0.0 c.from_residual.result (search rules) c.in_err-next.ensures.clause
+returns-in_err-next-clause-loads g c = let session = g.S.ProofSession.shown c.loop-clause.session in
+    Loading-fault _ _ _ c.next.new.self _ c.loop-clause.invariant session c.next.new.clause
+    c.in_err-next.field-0.0 c.from_residual.result (search rules) c.in_err-next.ensures.clause

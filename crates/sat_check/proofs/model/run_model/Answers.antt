@@ -3,4 +3,4 @@ use Rattle.sat_check.proofs.TheoremLemmas.{weakened}
 use Rattle.sat_check.proofs.model.run_model.Goals as goal
 
 pub returns-clause-runs : goal.returns-clause-runs
-returns-clause-runs g c = weakened _ _ _ _ _ _ _ _ _ _ c.run_model_placed.ensures.runs (λ i j x. (x.0, x.1))
+returns-clause-runs g c = weakened c.run_model_placed.ensures.runs (λ i j x. (x.0, x.1))

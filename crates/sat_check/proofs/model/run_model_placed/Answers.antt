@@ -1,14 +1,12 @@
 -- What the lines hold is what the writer holds, and what that means for the bytes.
-use Rattle.dimacs.specs.{Claim.claim_of, Formula.formula_of}
 use Rattle.sat_check.proofs.{ModelLemmas.both_check_model, TheoremLemmas.lines_satisfied}
-use Rattle.{sat_check.specs.ModelReport.TellsModelFault, std.proofs.Common.rules}
+use Rattle.std.proofs.Common.{rules}
 use Rattle.sat_check.proofs.model.run_model_placed.Goals as goal
 
 pub returns-clause-runs : goal.returns-clause-runs
 returns-clause-runs g c = record {
-  checks =
-      both_check_model _ _ _ _ (λ i j. TellsModelFault (claim_of j) (formula_of i) c.check_model-checked.result) c.check_model-checked.result.status
-      _ _ _ _ (search rules) (search rules) c.check_model-checked.ensures.report;
+  checks = both_check_model _ _ _ _ c.check_model-checked.result _ _ _ _ (search rules)
+      (search rules) c.check_model-checked.ensures.report;
   read_failed = search rules;
   write_failed = search rules;
   no_failure = search rules;
@@ -17,6 +15,5 @@ returns-clause-runs g c = record {
 }
 
 pub returns-clause-satisfied : goal.returns-clause-satisfied
-returns-clause-satisfied g c =
-    lines_satisfied _ _ _ _ (λ i j. TellsModelFault (claim_of j) (formula_of i) c.check_model-checked.result)
-    _ _ _ _ _ (search rules) (search rules) c.check_model-checked.ensures.report
+returns-clause-satisfied g c = lines_satisfied _ _ _ _ c.check_model-checked.result _ _ _ _
+    (search rules) (search rules) c.check_model-checked.ensures.report

@@ -1,5 +1,4 @@
-use Rattle.{std.proofs.Common.arith}
-use Rattle.steps.proofs.NamingLemmas.{input_given, input_named}
+use Rattle.{std.proofs.Common.arith, steps.proofs.NamingLemmas.{input_given, input_named}}
 use Rattle.steps.proofs.named.input_numbered.Goals as goal
 
 pub returns-clause-given : goal.returns-clause-given

@@ -1,5 +1,4 @@
-use Rattle.std.proofs.Common.{◌≡◌, ◌+◌, ◌≤◌, min}
-use Rattle.std.specs.BTreeMap.{values}
+use Rattle.std.{proofs.Common.{min, ◌+◌, ◌≡◌, ◌≤◌}, specs.BTreeMap.values}
 use Rattle.tables.specs.Lists.{total}
 use Rattle.tables.proofs.lists.total_far.Given as goal
 

@@ -1,5 +1,4 @@
-use Rattle.std.proofs.Common.{◌≡◌, min, take}
-use Rattle.tables.specs.Lists.{total}
+use Rattle.{std.proofs.Common.{min, take, ◌≡◌}, tables.specs.Lists.total}
 use Rattle.tables.proofs.lists.total_near.Given as goal
 
 abbrev pub invariant-loop-list : goal.invariant-loop-list

@@ -1,5 +1,4 @@
-use Rattle.std.proofs.Common.{subst}
-use Rattle.theory.proofs.LratLemmas.Steps.{ChainMeans, chain_means}
+use Rattle.{std.proofs.Common.subst, theory.proofs.LratLemmas.Steps.{ChainMeans, chain_means}}
 use Rattle.theory.proofs.laws.chain_shows_clash.Goals as goal
 
 pub returns : goal.returns

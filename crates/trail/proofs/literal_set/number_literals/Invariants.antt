@@ -1,7 +1,5 @@
-use Rattle.std.proofs.Common.{◌≡◌, ℕ, true, take, cond, IsSome}
-use Rattle.cnf_base.specs.Literals.{has}
-use Rattle.trail.specs.Numbers.{number_at}
-use Rattle.tables.specs.ByKey.{at}
+use Rattle.{cnf_base.specs.Literals.has, std.proofs.Common.{IsSome, cond, take, true, ℕ, ◌≡◌}}
+use Rattle.{tables.specs.ByKey.at, trail.specs.Numbers.number_at}
 use Rattle.trail.proofs.literal_set.number_literals.Given as goal
 
 abbrev pub invariant-loop-l : goal.invariant-loop-l

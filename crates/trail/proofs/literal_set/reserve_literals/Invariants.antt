@@ -1,7 +1,5 @@
-use Rattle.std.proofs.Common.{◌≡◌, ℕ, true, take, IsSome}
-use Rattle.cnf_base.specs.Literals.{has}
-use Rattle.trail.specs.Numbers.{number_at}
-use Rattle.tables.specs.ByKey.{at}
+use Rattle.{cnf_base.specs.Literals.has, std.proofs.Common.{IsSome, take, true, ℕ, ◌≡◌}}
+use Rattle.{tables.specs.ByKey.at, trail.specs.Numbers.number_at}
 use Rattle.trail.proofs.literal_set.reserve_literals.Given as goal
 
 abbrev pub invariant-loop-l : goal.invariant-loop-l

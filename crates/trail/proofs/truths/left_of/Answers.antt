@@ -1,5 +1,4 @@
-use Rattle.std.proofs.Common.{sym, ◌∙◌}
-use Rattle.trail.proofs.TrailLemmas.Left.{left_ended}
+use Rattle.{std.proofs.Common.{sym, ◌∙◌}, trail.proofs.TrailLemmas.Left.left_ended}
 use Rattle.trail.proofs.truths.left_of.Goals as goal
 
 pub returns-in-More : goal.returns-in-More

@@ -1,5 +1,4 @@
-use Rattle.std.proofs.Common.{◌≡◌, take}
-use Rattle.theory.specs.Propagation.{open_literals}
+use Rattle.{std.proofs.Common.{take, ◌≡◌}, theory.specs.Propagation.open_literals}
 use Rattle.trail.specs.Left.{how_many}
 use Rattle.trail.proofs.truths.left_of.Given as goal
 

@@ -1,12 +1,11 @@
-use Rattle.propagation.{proofs.PropagationLemmas.Exact.longer_from, specs.Code.Closure.AreForced}
-use Rattle.watch.{proofs.WatchLemmas.State.watch_undone, specs.Code.ClauseSource.clause_of}
-use Rattle.std.proofs.{Common.[], Common.arith, Common.filter, Common.sym, lemmas.Bool.false≢true}
-use Rattle.{std.proofs.Common.refl, theory.proofs.PropagationLemmas.Forced.clash_through}
-use Rattle.root_literals.{proofs.RootLemmas.Carried.kept_forced, specs.Order.each_in_order}
-use Rattle.propagation.proofs.PropagationLemmas.{Exact.begins_on, Scan.part_exact, Scan.scan_after}
-use Rattle.{cnf_base.specs.Literals.complements, watch.proofs.WatchLemmas.State.watch_answered}
-use Rattle.{root_literals.proofs.RootLemmas.Carried.kept_clash, std.proofs.Common.◌∙◌}
+use Rattle.{cnf_base.specs.Literals.complements, std.proofs.Common.{arith, filter, refl, sym, ◌∙◌}}
+use Rattle.propagation.proofs.PropagationLemmas.{Exact.{begins_on, longer_from}, Scan.part_exact}
 use Rattle.propagation.proofs.PropagationLemmas.Scan.{assumed_none, part_answer, part_clashes}
+use Rattle.propagation.{proofs.PropagationLemmas.Scan.scan_after, specs.Code.Closure.AreForced}
+use Rattle.root_literals.proofs.RootLemmas.{Carried.kept_clash, Reasons.reasoned_forced}
+use Rattle.{root_literals.specs.Order.each_in_order, watch.specs.Code.ClauseSource.clause_of}
+use Rattle.{std.proofs.Common.[], watch.proofs.WatchLemmas.State.{watch_answered, watch_undone}}
+use Rattle.{std.proofs.lemmas.Bool.false≢true, theory.proofs.PropagationLemmas.Forced.clash_through}
 use Rattle.std.specs.FinMap as maps
 use Rattle.watch.proofs.assume.assume_part.Goals as goal
 
@@ -24,7 +23,7 @@ returns-then-branch-clause-assumed g c = let e = c.in_ok-assume_from.ensures in 
 pub returns-then-has_conflict-clause-assumed : goal.returns-then-has_conflict-clause-assumed
 returns-then-has_conflict-clause-assumed g c = let live = c.args.store.now.live in
     let kept = c.requires.watch.kept in record {
-      answer = clash_through (maps.get (each_in_order live)) [] _ (λ a h. absurd (false≢true h)) (kept_clash _ _ _ (grind arith) (kept_forced _ _ _ kept) kept.known);
+      answer = clash_through (maps.get (each_in_order live)) [] _ (λ a h. absurd (false≢true h)) (kept_clash _ _ _ (grind arith) (reasoned_forced _ _ _ kept.reasoned) kept.known);
       stands = grind arith;
       stays = tt;
     }
@@ -44,7 +43,7 @@ returns-in-Ok g c = let live = c.args.store.now.live in let shown = each_in_orde
     let begins = begins_on before.trail.lits after.trail.lits found.trail.lits e.begins (grind (arith, longer_from)) extends.begins in record {
       assumed = grind (arith, part_answer);
       watch =
-          watch_answered _ _ _ _ _ _ _ _ _ _ c.requires.watch f.propagates refl f.listed f.entries e.begins c.requires.up_to_date last answer all c.answer.ensures.trail stand starts p.watched
+          watch_answered _ _ _ _ _ _ _ _ _ _ c.requires.watch f refl e.begins c.requires.up_to_date last answer all c.answer.ensures.trail stand starts p.watched
           (grind arith)
           (scan_after shown (AreForced (maps.get shown)) (λ ls forced. forced) before after added c.requires.may c.requires.watch.scan last answer all stand starts
           (grind arith) (grind arith)
@@ -59,7 +58,7 @@ returns-in-Err g c = let e = c.in_ok-assume_from.ensures in let f = c.in-Err.ens
     let extends = f.propagates.extends in let u = c.undo.ensures in record {
       assumed = grind arith;
       watch =
-          watch_undone _ _ _ _ _ _ _ _ _ _ c.requires.watch f.propagates refl f.listed f.entries e.begins
+          watch_undone _ _ _ _ _ _ _ _ _ _ c.requires.watch f refl e.begins
           c.undo.new.self _ (extends.assumptions ∙ e.assumed.1) (extends.starts ∙ e.starts) u.assumptions u.starts u.lits (grind arith);
       same = f.propagates.same;
       slots = c.run.ensures.slots;

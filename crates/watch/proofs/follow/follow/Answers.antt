@@ -1,6 +1,5 @@
-use Rattle.std.proofs.Common.{[], ap, cond, eq-eqb, refl, ◌∙◌}
+use Rattle.{std.proofs.Common.{[], ap, cond, eq-eqb, refl, ◌∙◌}, watch_lists.specs.Lists.list_at}
 use Rattle.watch.proofs.WatchLemmas.Visits.{followed_none, hand_taken, listed_alike, none_met}
-use Rattle.watch_lists.specs.Lists.{list_at}
 use Rattle.watch.proofs.follow.follow.Goals as goal
 
 pub visit_list-requires : goal.visit_list-requires

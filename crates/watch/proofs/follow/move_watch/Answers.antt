@@ -1,25 +1,21 @@
-use Rattle.{std.proofs.lemmas.List.Edits.length-swap, watch.specs.Code.Visits.IsInHand}
-use Rattle.{root_literals.proofs.RootLemmas.Carried.propagates_on, std.proofs.Common.arith}
-use Rattle.{cnf_base.specs.Literals.Literal, watch_lists.specs.declared.watcher.Watcher.Watcher}
-use Rattle.std.proofs.Common.{[], ap, cond, eqb, false, length, ne_eqb, swap, ◌++◌, ◌+◌, ◌∷◌}
-use Rattle.std.proofs.{Common.refl, Common.remove, Common.◌∙◌, lemmas.List.Edits.length-remove}
-use Rattle.{watch.specs.Code.Visits.with_list, watch_lists.specs.Lists.list_at}
-use Rattle.watch.proofs.WatchLemmas.Moves.{moved, propagates_moved, second_inside, turned_at}
-use Rattle.watch.proofs.WatchLemmas.Moves.{entries_moved, listed_moved, to_inside, turned_live}
-use Rattle.watch.proofs.WatchLemmas.Moves.{exchanged_back, turned_clause, turned_propagates}
 use Rattle.{clause_db.proofs.StoreLemmas.Swap.has_swapped, cnf_base.proofs.MapLemmas.insert_other}
-use Rattle.watch.proofs.WatchLemmas.{Moves.turned_listed, Visits.longer_fits, Visits.same_cursor}
-use Rattle.watch.proofs.WatchLemmas.Moves.{exchange_member, exchanged, moved_there, unfit_moved}
+use Rattle.{cnf_base.specs.Literals.Literal, root_literals.proofs.RootLemmas.Carried.propagates_on}
+use Rattle.std.proofs.Common.{[], ap, arith, cond, eqb, false, length, ne_eqb, refl, remove, swap}
+use Rattle.std.proofs.{Common.{◌++◌, ◌+◌, ◌∙◌, ◌∷◌}, lemmas.List.Edits.{length-remove, length-swap}}
+use Rattle.watch.proofs.WatchLemmas.Moves.{entries_moved, exchange_member, exchanged}
+use Rattle.watch.proofs.WatchLemmas.Moves.{exchanged_back, listed_moved, moved, moved_there}
+use Rattle.watch.proofs.WatchLemmas.Moves.{places_apart, propagates_moved, second_inside}
+use Rattle.watch.proofs.WatchLemmas.Moves.{times_moved, to_inside, turned_at, turned_clause}
+use Rattle.watch.proofs.WatchLemmas.Moves.{turned_listed, turned_live, turned_propagates}
+use Rattle.watch.proofs.WatchLemmas.{Moves.unfit_moved, Visits.{listed_alike, longer_fits}}
+use Rattle.watch.{proofs.WatchLemmas.Visits.same_cursor, specs.Code.Visits.{IsInHand, with_list}}
 use Rattle.watch_lists.proofs.WatchListsLemmas.Lists.{entries_removed, unfit_removed}
-use Rattle.watch.proofs.WatchLemmas.{Moves.places_apart, Moves.times_moved, Visits.listed_alike}
+use Rattle.watch_lists.specs.{Lists.list_at, declared.watcher.Watcher.Watcher}
 use Rattle.std.specs.FinMap as maps
 use Rattle.watch.proofs.follow.move_watch.Goals as goal
 
 pub rewatch-requires : goal.rewatch-requires
-rewatch-requires c =
-    let w = c.requires.exchange in
-    let x = w.exchange in
-    (w.clause, x.from, ap (maps.get c.args.store.now.live) c.at-at.ensures ∙ w.at, x.from_low, x.from_is, x.other_is, x.to_high, x.to_inside, x.to_is)
+rewatch-requires c = grind arith
 
 pub swap-requires : goal.swap-requires
 swap-requires c =

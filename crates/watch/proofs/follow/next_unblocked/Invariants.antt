@@ -1,6 +1,5 @@
-use Rattle.std.{proofs.Common.◌≡◌, proofs.Common.◌≤◌, specs.FinMap.FinMap, proofs.Common.nat_cmp}
-use Rattle.cnf_base.specs.Literals.{Clause, Literal}
-use Rattle.watch.specs.Code.Visits.{AreMet, IsInHand, entries_left}
+use Rattle.{cnf_base.specs.Literals.{Clause, Literal}, std.proofs.Common.{nat_cmp, ◌≡◌, ◌≤◌}}
+use Rattle.{std.specs.FinMap.FinMap, watch.specs.Code.Visits.{AreMet, IsInHand, entries_left}}
 use Rattle.watch_lists.specs.declared.lists.WatchLists.{WatchLists}
 use Rattle.watch.proofs.follow.next_unblocked.Given as goal
 

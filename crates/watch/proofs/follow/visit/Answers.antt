@@ -3,9 +3,8 @@ use Rattle.std.proofs.Common.{ap, arith, length, length-set, refl, set, sym, ◌
 use Rattle.{std.proofs.lemmas.Option.same_Some, watch.proofs.WatchLemmas.Moves.listed_written}
 use Rattle.watch.proofs.WatchLemmas.Visits.{found_at, front_apart, kept_fewer, kept_fits, kept_met}
 use Rattle.watch.proofs.WatchLemmas.Visits.{next_entry, taken_fewer, taken_met, visited_none}
-use Rattle.watch_lists.proofs.WatchListsLemmas.Lists.{entry_at, slot_is}
-use Rattle.watch_lists.{proofs.WatchListsLemmas.Watched.watched_apart, specs.Lists.entries_in}
-use Rattle.watch_lists.specs.{Lists.fits, Lists.list_at, declared.watcher.Watcher.Watcher}
+use Rattle.watch_lists.proofs.WatchListsLemmas.{Lists.{entry_at, slot_is}, Watched.watched_apart}
+use Rattle.watch_lists.specs.{Lists.{entries_in, fits, list_at}, declared.watcher.Watcher.Watcher}
 use Rattle.std.specs.FinMap as maps
 use Rattle.watch.proofs.follow.visit.Goals as goal
 

@@ -1,17 +1,16 @@
-use Rattle.watch.proofs.WatchLemmas.Visits.{all_met, in_list, kept_fewer, kept_met, none_before}
-use Rattle.root_literals.proofs.RootLemmas.Carried.{clashes, propagates_unit}
-use Rattle.std.proofs.Common.{Some, ap, arith, cond, eqb, length, refl, sym, ◌&&◌, ◌+◌, ◌∙◌}
-use Rattle.watch.proofs.WatchLemmas.Visits.{can_visit_on, made_true, visited_on}
-use Rattle.{std.proofs.lemmas.Option.same_Some, watch_lists.proofs.WatchListsLemmas.Lists.entry_at}
-use Rattle.watch.proofs.WatchLemmas.Visits.{found_next, put_same, room_found, visited_none}
-use Rattle.{trail.proofs.TrailLemmas.Longer.has_begun, watch_lists.specs.Lists.entries_in}
 use Rattle.{cnf_base.specs.Literals.has, tables.specs.ByKey.at}
+use Rattle.root_literals.proofs.RootLemmas.{Carried.{clashes, propagates_unit}, Watched.set_by}
+use Rattle.std.proofs.{Common.{ap, arith, length, refl, sym, ◌+◌, ◌∙◌}, lemmas.Option.same_Some}
+use Rattle.{trail.proofs.TrailLemmas.Longer.has_begun, watch.proofs.WatchLemmas.Visits.visited_on}
+use Rattle.watch.proofs.WatchLemmas.Visits.{all_met, can_visit_on, found_next, in_list, kept_fewer}
+use Rattle.watch.proofs.WatchLemmas.Visits.{kept_met, put_same, room_found, visited_none}
+use Rattle.watch_lists.{proofs.WatchListsLemmas.Lists.entry_at, specs.Lists.entries_in}
 use Rattle.watch.proofs.follow.visit_all.Goals as goal
 
 pub loop-at-init : goal.loop-at-init
 loop-at-init c = record {
   visited = visited_none _ _ c.requires.can.hand;
-  met = grind (arith, none_before);
+  met = grind arith;
   slots = refl;
 }
 
@@ -55,9 +54,8 @@ loop-at-preserved c = let before = c.loop-at in let live = c.next_found.new.stor
     let r = entry_at cursor.entries cursor.visited _ f.next in let s = c.set_by.ensures in
     let kept = c.keep in
     let same = kept.ensures.entries ∙ put_same cursor.entries cursor.visited _ r.1 in
-    let propagates =
-    propagates_unit live held _ f.clause f.at m f.holds.0 f.holds.2 now c.set_by.result s.was_open s.lits s.reserved s.assumptions s.starts (at before.reasons) (at c.set_by.new.reasons)
-    (λ k. s.reasons k ∙ ap (λ n. cond (c.set_by.result && eqb k m) (Some n) (at before.reasons k)) c.slot.ensures.value) in record {
+    let propagates = propagates_unit live held _ f.clause f.at m f.holds.0 f.holds.2 now
+    c.set_by.result (at before.reasons) (at c.set_by.new.reasons) (grind arith) in record {
       visited = visited_on (visited_on before.invariant.visited visited) (record {
         hand = simp same visited.hand;
         entries = ap (λ xs. entries_in lists + length xs) same;
@@ -65,7 +63,7 @@ loop-at-preserved c = let before = c.loop-at in let live = c.next_found.new.stor
       });
       met = kept_met live live c.args.l held.trail.lits now.trail.lits (λ l h. has_begun held.trail.lits now.trail.lits l propagates.extends.begins h) cursor kept.new.self _ r.0 met (λ s ne. refl)
           _ refl kept.ensures.entries kept.ensures.visited
-          (λ x there _. (m, ap (λ y. has y m) (same_Some x f.clause (sym there ∙ f.at)) ∙ f.holds.0, made_true c.set_by.result held.trail.lits now.trail.lits m s.was_open s.lits));
+          (λ x there _. (m, ap (λ y. has y m) (same_Some x f.clause (sym there ∙ f.at)) ∙ f.holds.0, set_by held.trail.lits now.trail.lits m c.set_by.result s.was_open s.lits));
       slots = c.next_found.ensures.slots ∙ before.invariant.slots;
     }
 

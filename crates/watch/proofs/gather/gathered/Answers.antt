@@ -1,11 +1,10 @@
 -- One clause more, or none in a slot without one.
-use Rattle.std.proofs.Common.{rules, arith, sym, ◌∙◌}
 use Rattle.propagation.proofs.PropagationLemmas.Gather.{gathered_all, gathered_next, gathered_none}
 use Rattle.propagation.proofs.PropagationLemmas.Gather.{gathered_nothing, is_copy, same_copy}
-use Rattle.root_literals.specs.Order.{in_order}
 use Rattle.root_literals.proofs.RootLemmas.Reasons.{same-in_order, sum_ordered}
-use Rattle.watch.proofs.gather.gathered.Goals as goal
+use Rattle.{root_literals.specs.Order.in_order, std.proofs.Common.{arith, rules, sym, ◌∙◌}}
 use Rattle.watch.proofs.gather.gathered.Goals.{in-Some+in_ok-insert, in_default}
+use Rattle.watch.proofs.gather.gathered.Goals as goal
 
 pub loop-number-init : goal.loop-number-init
 loop-number-init c =

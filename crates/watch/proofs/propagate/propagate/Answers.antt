@@ -1,23 +1,15 @@
-use Rattle.std.proofs.Common.{ap, arith, length, refl, take_all, ◌<◌, ◌≤◌, ◌∙◌}
-use Rattle.cnf_base.specs.Literals.{complement, has}
-use Rattle.trail.proofs.TrailLemmas.MakesFalse.{no_conflict}
+use Rattle.{cnf_base.specs.Literals.complement, trail.proofs.TrailLemmas.MakesFalse.no_conflict}
+use Rattle.{cnf_base.specs.Literals.has, watch.proofs.WatchLemmas.Turns.{front_other, turn_next}}
+use Rattle.std.proofs.Common.{ap, arith, length, refl, take_all, ◌<◌, ◌∙◌, ◌≤◌}
 use Rattle.watch.proofs.WatchLemmas.Visits.{false_at, fits_on, followed_none, followed_on, read_at}
-use Rattle.watch.proofs.WatchLemmas.Turns.{front_other, turn_next}
 use Rattle.watch.proofs.propagate.propagate.Goals as goal
 
 pub follow_or_wait-requires-clause-is_false : goal.follow_or_wait-requires-clause-is_false
 follow_or_wait-requires-clause-is_false c = grind (arith, false_at)
 
 pub loop-done-init : goal.loop-done-init
-loop-done-init c = record {
-  turn = record {
-    inside = c.requires.from;
-    are_false = λ k waits. grind arith;
-    met = λ k h free s d is. c.requires.watched.each s d is k h;
-  };
-  followed = followed_none c.requires.can;
-  slots = refl;
-}
+loop-done-init c =
+    record { turn = grind arith; followed = followed_none c.requires.can; slots = refl }
 
 pub returns-in_err-slot-clause-followed : goal.returns-in_err-slot-clause-followed
 returns-in_err-slot-clause-followed c = followed_on c.loop-done.invariant.followed c.follow_or_wait.ensures.followed

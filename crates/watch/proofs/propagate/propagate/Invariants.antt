@@ -1,7 +1,5 @@
-use Rattle.std.proofs.Common.{◌≡◌, ◌+◌, ◌-◌, ◌*◌, length}
-use Rattle.tables.specs.ByKey.{at}
-use Rattle.watch.specs.Code.{Turns.IsTurn, Visits.Followed}
-use Rattle.watch_lists.specs.Waiting.{count_of}
+use Rattle.{std.proofs.Common.{length, ◌*◌, ◌+◌, ◌-◌, ◌≡◌}, tables.specs.ByKey.at}
+use Rattle.{watch.specs.Code.{Turns.IsTurn, Visits.Followed}, watch_lists.specs.Waiting.count_of}
 use Rattle.watch.proofs.propagate.propagate.Given as goal
 
 abbrev pub invariant-loop-done : goal.invariant-loop-done

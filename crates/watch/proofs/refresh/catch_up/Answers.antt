@@ -1,11 +1,11 @@
 use Rattle.root_literals.proofs.RootLemmas.Carried.{begun_again, history_grown, kept_grown}
 use Rattle.root_literals.proofs.RootLemmas.Carried.{units_kept, visited_more}
-use Rattle.root_literals.proofs.RootLemmas.Watched.{history_begun, watched_all}
-use Rattle.root_literals.specs.{History.IsHistory, History.sure_of, History.visits, Roots.has_conflict}
-use Rattle.std.proofs.Common.{[], ap, arith, length, length-append, refl}
-use Rattle.std.proofs.Common.{sym, take, take_all, true≢false, ℕ, ◌+◌, ◌<◌, ◌∙◌, ◌∷◌, ◌≡◌, ◌≤◌}
-use Rattle.watch.proofs.WatchLemmas.Visits.{fits_on, followed_none, followed_on}
-use Rattle.watch.proofs.{WatchLemmas.Visits.read_at, refresh.catch_up.Goals.In_ok-slot}
+use Rattle.root_literals.proofs.RootLemmas.Watched.{history_begun, watched_most}
+use Rattle.root_literals.specs.{History.{IsHistory, sure_of, visits}, Roots.has_conflict}
+use Rattle.{root_literals.specs.Watched.IsWatched, watch.proofs.refresh.catch_up.Goals.In_ok-slot}
+use Rattle.std.proofs.Common.{[], ap, arith, false, length, length-append, refl, sym, take}
+use Rattle.std.proofs.Common.{take_all, true≢false, ◌+◌, ◌<◌, ◌∙◌, ◌∷◌, ◌≡◌, ◌≤◌}
+use Rattle.watch.proofs.WatchLemmas.Visits.{fits_on, followed_none, followed_on, read_at}
 use Rattle.std.specs.FinMap as maps
 use Rattle.watch.proofs.refresh.catch_up.Goals as goal
 
@@ -46,7 +46,8 @@ loop-visited c =
     let most = c.max.ensures in
     let watched = simp (← count) at so_far.begun in
     let begun = history_begun (sure_of ds (maps.get a)) before.roots.history c.begin.new.self x.trail.lits t (omega (arith, count, inside)) (omega (arith, count, most)) pushed c.in_ok-begin.ensures.floor (λ p low. watched p (omega (arith, low, most))) so_far.history in
-    let sure = λ (n : ℕ). watched_all (maps.get a) ds (take n x.trail.lits) x.trail.lits in (grind (arith, history_grown))
+    let sure : IsWatched (sure_of ds (maps.get a)) (take before.done x.trail.lits) x.trail.lits =
+    watched_most _ ds false _ _ so_far.watched in grind (arith, history_grown)
 
 pub loop-done-smaller : goal.loop-done-smaller
 loop-done-smaller c = grind (arith, fits_on)

@@ -1,7 +1,6 @@
-use Rattle.root_literals.specs.History.{IsHistory, sure_of, visits}
-use Rattle.{root_literals.specs.Watched.IsWatched, std.proofs.Common.length, std.proofs.Common.take}
-use Rattle.std.proofs.Common.{ℕ, ◌-◌, ◌≡◌}
-use Rattle.{std.proofs.Common.◌≤◌, tables.specs.ByKey.at, watch.specs.Code.Visits.Followed}
+use Rattle.root_literals.specs.{History.{IsHistory, sure_of, visits}, Watched.IsWatched}
+use Rattle.{std.proofs.Common.{length, take, ℕ, ◌-◌, ◌≡◌, ◌≤◌}, tables.specs.ByKey.at}
+use Rattle.watch.specs.Code.Visits.{Followed}
 use Rattle.std.specs.FinMap as maps
 use Rattle.watch.proofs.refresh.catch_up.Given as goal
 

@@ -1,6 +1,5 @@
-use Rattle.{cnf_base.specs.Literals.Literal, std.proofs.Common.◌≡◌, watch.specs.Code.State.AddsRoom}
-use Rattle.{cnf_base.specs.Literals.has, std.proofs.Common.true, tables.specs.ByKey.at}
-use Rattle.{std.proofs.Common.take, std.proofs.Common.◌/◌, watch.specs.Code.State.HaveReasons}
+use Rattle.{cnf_base.specs.Literals.{Literal, has}, std.proofs.Common.{take, true, ◌/◌, ◌≡◌}}
+use Rattle.{tables.specs.ByKey.at, watch.specs.Code.State.{AddsRoom, HaveReasons}}
 use Rattle.watch.proofs.room.reserve_room.Given as goal
 
 abbrev pub invariant-loop-l : goal.invariant-loop-l

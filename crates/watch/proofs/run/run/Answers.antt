@@ -1,6 +1,5 @@
-use Rattle.root_literals.proofs.RootLemmas.Carried.{all_closed, all_quiet, clash_from}
-use Rattle.{root_literals.proofs.RootLemmas.Carried.units_kept, std.proofs.Common.arith}
-use Rattle.{trail.proofs.TrailLemmas.Longer.has_begun}
+use Rattle.root_literals.proofs.RootLemmas.Carried.{all_closed, all_quiet, clash_from, units_kept}
+use Rattle.{std.proofs.Common.arith, trail.proofs.TrailLemmas.Longer.has_begun}
 use Rattle.watch.proofs.run.run.Goals as goal
 
 pub returns-in-Some-clause-answer : goal.returns-in-Some-clause-answer

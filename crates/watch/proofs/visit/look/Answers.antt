@@ -1,6 +1,5 @@
-use Rattle.std.proofs.Common.{arith}
-use Rattle.trail.proofs.TrailLemmas.Truth.{false_from_value}
-use Rattle.watch.proofs.WatchLemmas.Visits.{not_false, others_false, each_false, other_member}
+use Rattle.{std.proofs.Common.arith, trail.proofs.TrailLemmas.Truth.false_from_value}
+use Rattle.watch.proofs.WatchLemmas.Visits.{each_false, not_false, other_member, others_false}
 use Rattle.watch.proofs.visit.look.Goals as goal
 
 pub returns-in-False-clause-visit : goal.returns-in-False-clause-visit

@@ -1,9 +1,8 @@
-use Rattle.{cnf_base.specs.Literals.has, std.proofs.Common.subst, std.proofs.Common.sym}
-use Rattle.std.proofs.{Common.◌∙◌, lemmas.Bool.and_parts}
+use Rattle.{cnf_base.specs.Literals.has, std.proofs.lemmas.Bool.and_parts}
+use Rattle.{std.proofs.Common.{subst, sym, ◌∙◌}, watch.proofs.WatchLemmas.Visits.room_in}
 use Rattle.{std.proofs.lemmas.Option.same_Some, trail.proofs.TrailLemmas.Truth.false_from_value}
 use Rattle.watch.proofs.WatchLemmas.Visits.{binary_all, binary_others, not_false, other_fits}
-use Rattle.watch.{proofs.WatchLemmas.Visits.room_in, specs.Code.Visits.IsVisit}
-use Rattle.watch.specs.declared.visit.Visit.TheVariants.{Conflict, Unit}
+use Rattle.watch.specs.{Code.Visits.IsVisit, declared.visit.Visit.TheVariants.{Conflict, Unit}}
 use Rattle.watch.proofs.visit.look_at.Goals as goal
 
 pub look-requires-clause-room : goal.look-requires-clause-room

@@ -1,12 +1,10 @@
-use Rattle.std.proofs.Common.{rules, ◌≡◌, ℕ, ◌<◌, ◌≤◌, true, false, eqb, eq-eqb, refl, sym, ap, ◌∙◌}
-use Rattle.std.proofs.Common.{arith, subst, length, get_or, List, Some, Option}
-use Rattle.std.proofs.lemmas.{Bool.or_right}
-use Rattle.cnf_base.specs.Literals.{Clause, Literal, has}
-use Rattle.watch_lists.specs.Lists.{list_at, marked_entries}
-use Rattle.watch_lists.specs.{declared.watcher.Watcher.Watcher, Watched.IsListed, Watched.watches}
-use Rattle.watch_lists.proofs.WatchListsLemmas.{Lists.marked_fitting, Entries.tautology_listed}
-use Rattle.watch_lists.proofs.WatchListsLemmas.Entries.{two_apart, two_watched}
-use Rattle.clause_db.specs.Store.{is_tautology}
+use Rattle.{clause_db.specs.Store.is_tautology, cnf_base.specs.Literals.{Clause, Literal, has}}
+use Rattle.std.proofs.Common.{List, Option, Some, ap, arith, eq-eqb, eqb, false, get_or, length}
+use Rattle.std.proofs.Common.{refl, rules, subst, sym, true, ℕ, ◌<◌, ◌∙◌, ◌≡◌, ◌≤◌}
+use Rattle.{std.proofs.lemmas.Bool.or_right, watch_lists.specs.Watched.{IsListed, watches}}
+use Rattle.watch_lists.proofs.WatchListsLemmas.Entries.{tautology_listed, two_apart, two_watched}
+use Rattle.watch_lists.proofs.WatchListsLemmas.Lists.{marked_fitting}
+use Rattle.watch_lists.specs.{Lists.{list_at, marked_entries}, declared.watcher.Watcher.Watcher}
 use Rattle.watch_lists.proofs.entries.remove_entries.Goals as goal
 
 first_watched : (d : Clause) (first : Literal) → is_tautology d ≡ false → 2 ≤ length d → first ≡ get_or d 0 first → watches d first ≡ true

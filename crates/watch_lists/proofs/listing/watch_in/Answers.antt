@@ -1,7 +1,6 @@
-use Rattle.std.proofs.Common.{false, ◌≡◌, rules, arith}
-use Rattle.clause_db.specs.Store.{is_tautology}
-use Rattle.watch_lists.proofs.WatchListsLemmas.Entries.{two_apart, two_watched, one_each_in}
-use Rattle.watch_lists.{proofs.WatchListsLemmas.Entries.both_fit, specs.Code.Part.is_in}
+use Rattle.{clause_db.specs.Store.is_tautology, std.proofs.Common.{arith, false, rules, ◌≡◌}}
+use Rattle.watch_lists.proofs.WatchListsLemmas.Entries.{both_fit, one_each_in, two_apart}
+use Rattle.watch_lists.{proofs.WatchListsLemmas.Entries.two_watched, specs.Code.Part.is_in}
 use Rattle.watch_lists.proofs.listing.watch_in.Goals as goal
 
 pub returns-clause-watched : goal.returns-clause-watched

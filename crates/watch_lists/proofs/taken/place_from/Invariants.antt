@@ -1,5 +1,4 @@
-use Rattle.std.proofs.Common.{◌≡◌, take}
-use Rattle.watch_lists.specs.Code.Lists.{entries_with}
+use Rattle.{std.proofs.Common.{take, ◌≡◌}, watch_lists.specs.Code.Lists.entries_with}
 use Rattle.watch_lists.proofs.taken.place_from.Given as goal
 
 abbrev pub invariant-loop-place : goal.invariant-loop-place

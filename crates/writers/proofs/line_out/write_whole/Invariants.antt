@@ -1,6 +1,5 @@
 -- The bytes so far were written.
-use Rattle.std.proofs.Common.{◌≡◌, ◌-◌, ◌≤◌, length, take}
-use Rattle.std.specs.Io.KnownBytes.{Appends}
+use Rattle.std.{proofs.Common.{length, take, ◌-◌, ◌≡◌, ◌≤◌}, specs.Io.KnownBytes.Appends}
 use Rattle.writers.proofs.line_out.write_whole.Given as goal
 
 abbrev pub invariant-loop-at : goal.invariant-loop-at

@@ -1,27 +1,14 @@
-use Rattle.std.proofs.Common.{sym, ap, ◌∙◌, arith, true≢false}
+use Rattle.clause_db.{proofs.StoreLemmas.Options.if_none_from, specs.Code.LiteralMarks.is_marked}
+use Rattle.clause_db.proofs.StoreLemmas.{Options.if_none_from_some, Search.{same_match}}
+use Rattle.clause_db.proofs.store.Store+M+Index.find.Goals.{in-None, in-Some}
+use Rattle.clause_index.{proofs.IndexLemmas.Hashes.hash_same, specs.{Hashes.hash, Index.seed_of}}
+use Rattle.cnf_base.proofs.SetLemmas.{same_back, same_there}
+use Rattle.{std.proofs.Common.{ap, sym, true≢false, ◌∙◌}, tables.specs.ByKey.at}
 use Rattle.std.specs.FinMap as maps
-use Rattle.cnf_base.proofs.SetLemmas.{all_each, each_all, same_back, same_there}
-use Rattle.clause_db.specs.Code.LiteralMarks.{is_marked}
-use Rattle.clause_db.proofs.StoreLemmas.Search.{match_same, same_match}
-use Rattle.clause_db.proofs.StoreLemmas.Options.{if_none_from}
-use Rattle.clause_db.proofs.StoreLemmas.Options.{if_none_from_some}
-use Rattle.tables.specs.ByKey.{at}
-use Rattle.clause_index.specs.{Hashes.hash, Index.seed_of}
-use Rattle.clause_index.proofs.IndexLemmas.Hashes.{hash_same}
 use Rattle.clause_db.proofs.store.Store+M+Index.find.Goals as goal
-use Rattle.clause_db.proofs.store.Store+M+Index.find.Goals.{in-Some, in-None}
-
-pub returns-then-not-all_known-clause-none : goal.returns-then-not-all_known-clause-none
-returns-then-not-all_known-clause-none g c s d is same = grind (arith, each_all, same_back)
-
-pub mark_all-digest-requires-clause-known : goal.mark_all-digest-requires-clause-known
-mark_all-digest-requires-clause-known g c l h = grind (arith, all_each)
 
 pub find_marked-found-requires : goal.find_marked-found-requires
 find_marked-found-requires g c = c.self.invariant.1
-
-pub returns-clause-found : goal.returns-clause-found
-returns-clause-found g c = grind (arith, match_same)
 
 pub returns-clause-none : goal.returns-clause-none
 returns-clause-none g c =

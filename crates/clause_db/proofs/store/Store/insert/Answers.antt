@@ -1,13 +1,11 @@
-use Rattle.std.proofs.Common.{◌≡◌, ℕ, ◌+◌, true, Some, length, sym, ap, ◌∙◌, subst, arith, nat_cmp}
-use Rattle.std.{specs.FinMap.FinMap, proofs.lemmas.Option.same_Some}
+use Rattle.clause_db.proofs.StoreLemmas.Fields.{live_alone, sound_with, sum_fits}
+use Rattle.{clause_db.proofs.StoreLemmas.Kept.insert_undone, clause_memory.specs.Memory.MemoryState}
+use Rattle.clause_db.specs.Code.{Counts.AreCounted, Fields.{IsStore, IsTakenIn}, Kept.AreKept}
+use Rattle.{cnf_base.proofs.{MapLemmas.insert_here, SetLemmas.same_there}, std.specs.FinMap.FinMap}
+use Rattle.{cnf_base.specs.Literals.{Clause, has, size}, std.proofs.lemmas.Option.same_Some}
+use Rattle.std.proofs.Common.{Some, ap, arith, length, nat_cmp, subst, sym, true, ℕ, ◌+◌, ◌∙◌, ◌≡◌}
 use Rattle.std.specs.FinMap as maps
 use Rattle.clause_memory.specs.Memory as memory
-use Rattle.cnf_base.specs.Literals.{Clause, has, size}
-use Rattle.cnf_base.proofs.{SetLemmas.same_there, MapLemmas.insert_here}
-use Rattle.clause_memory.specs.Memory.{MemoryState}
-use Rattle.clause_db.specs.Code.{Counts.AreCounted, Fields.IsStore, Fields.IsTakenIn, Kept.AreKept}
-use Rattle.clause_db.proofs.StoreLemmas.Fields.{live_alone, sound_with, sum_fits}
-use Rattle.clause_db.proofs.StoreLemmas.Kept.{insert_undone}
 use Rattle.clause_db.proofs.store.Store.insert.Goals as goal
 
 -- ---- Where no memory is left for the clause

@@ -1,5 +1,4 @@
-use Rattle.std.proofs.Common.{arith}
-use Rattle.clause_db.{proofs.StoreLemmas.Fields.live_alone}
+use Rattle.{clause_db.proofs.StoreLemmas.Fields.live_alone, std.proofs.Common.arith}
 use Rattle.clause_db.proofs.store.Store.recall_invariant.Goals as goal
 
 pub returns-clause-live_alone : goal.returns-clause-live_alone

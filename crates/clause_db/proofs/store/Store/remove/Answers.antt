@@ -1,8 +1,7 @@
-use Rattle.std.proofs.Common.{arith}
-use Rattle.std.proofs.Common.{◌-◌, is_some, length, sym, ap, ◌∙◌, subst}
-use Rattle.clause_memory.specs.Memory as memory
-use Rattle.clause_db.specs.Code.{Counts.AreCounted, Fields.IsStore, Kept.AreKept}
 use Rattle.clause_db.proofs.StoreLemmas.Fields.{live_alone, sound_without, within_sum}
+use Rattle.clause_db.specs.Code.{Counts.AreCounted, Fields.IsStore, Kept.AreKept}
+use Rattle.std.proofs.Common.{ap, arith, is_some, length, subst, sym, ◌-◌, ◌∙◌}
+use Rattle.clause_memory.specs.Memory as memory
 use Rattle.clause_db.proofs.store.Store.remove.Goals as goal
 
 pub count_out-requires-clause-there : goal.count_out-requires-clause-there

@@ -1,7 +1,6 @@
-use Rattle.std.proofs.Common.{ap, ◌∙◌}
+use Rattle.clause_db.proofs.StoreLemmas.{Fields.live_alone, Swap.{has_rewatched, length_rewatched}}
+use Rattle.{clause_db.proofs.StoreLemmas.Replaced.all_replaced, std.proofs.Common.{ap, ◌∙◌}}
 use Rattle.std.specs.FinMap as maps
-use Rattle.clause_db.proofs.StoreLemmas.{Fields.live_alone, Replaced.all_replaced}
-use Rattle.clause_db.proofs.StoreLemmas.Swap.{has_rewatched, length_rewatched}
 use Rattle.clause_db.proofs.store.Store.rewatch.Goals as goal
 
 pub invariant_of-self : goal.invariant_of-self

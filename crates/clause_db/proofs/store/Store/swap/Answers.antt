@@ -1,7 +1,6 @@
-use Rattle.std.proofs.{Common.refl, Common.ap, Common.◌∙◌, lemmas.List.Edits.length-swap}
-use Rattle.std.specs.List.{swap}
-use Rattle.std.specs.FinMap as maps
 use Rattle.clause_db.proofs.StoreLemmas.{Fields.live_alone, Replaced.all_replaced, Swap.has_swapped}
+use Rattle.std.{proofs.{Common.{ap, refl, ◌∙◌}, lemmas.List.Edits.length-swap}, specs.List.swap}
+use Rattle.std.specs.FinMap as maps
 use Rattle.clause_db.proofs.store.Store.swap.Goals as goal
 
 pub invariant_of-self : goal.invariant_of-self

@@ -1,10 +1,6 @@
-use Rattle.std.proofs.{Common.subst, Common.arith, lemmas.Result.on_ok_weaker}
-use Rattle.clause_db.specs.Code.Counts.{AreCounted}
-use Rattle.clause_db.proofs.StoreLemmas.Counts.{copies_few, counted_with}
+use Rattle.clause_db.{proofs.StoreLemmas.Counts.counted_with, specs.Code.Counts.AreCounted}
+use Rattle.std.proofs.{Common.subst, lemmas.Result.on_ok_weaker}
 use Rattle.clause_db.proofs.store.counts.count_in.Goals as goal
-
-pub count_all-requires-clause-few : goal.count_all-requires-clause-few
-count_all-requires-clause-few c l = grind (arith, copies_few)
 
 pub returns-in-Some-clause-ok : goal.returns-in-Some-clause-ok
 returns-in-Some-clause-ok c = on_ok_weaker c.count_all.result (λ more live slot are free.

@@ -1,10 +1,6 @@
-use Rattle.std.proofs.Common.{subst, arith}
-use Rattle.clause_db.specs.Code.Counts.{AreCounted}
-use Rattle.clause_db.proofs.StoreLemmas.Counts.{counted_here, counted_without}
+use Rattle.clause_db.proofs.StoreLemmas.Counts.{counted_without}
+use Rattle.{clause_db.specs.Code.Counts.AreCounted, std.proofs.Common.{subst}}
 use Rattle.clause_db.proofs.store.counts.count_out.Goals as goal
-
-pub release-requires-clause-counted : goal.release-requires-clause-counted
-release-requires-clause-counted c = grind (arith, counted_here)
 
 pub returns-in-Some : goal.returns-in-Some
 returns-in-Some c live slot are here =

@@ -1,6 +1,5 @@
-use Rattle.std.proofs.Common.{ap, arith}
-use Rattle.clause_db.specs.Code.Counts.{count_of}
-use Rattle.clause_db.proofs.StoreLemmas.Counts.{count_none, count_next, count_whole}
+use Rattle.clause_db.proofs.StoreLemmas.Counts.{count_next, count_none}
+use Rattle.{clause_db.specs.Code.Counts.count_of, std.proofs.Common.{ap}}
 use Rattle.clause_db.proofs.store.counts.counts_in.Goals as goal
 
 pub loop-slot-init : goal.loop-slot-init
@@ -9,6 +8,3 @@ loop-slot-init g c l = count_none _ l _ (ap count_of (c.new-counts.ensures l))
 pub loop-slot-preserved : goal.loop-slot-preserved
 loop-slot-preserved g c l =
     count_next _ _ l _ _ (c.loop-slot.invariant l) (c.in_ok-count_slot.ensures l)
-
-pub returns : goal.returns
-returns g c l = grind (arith, count_whole)

@@ -1,6 +1,5 @@
-use Rattle.std.proofs.Common.{ℕ}
-use Rattle.clause_db.{specs.Code.Counts.count_of, proofs.StoreLemmas.Counts.IsCountBelow}
-use Rattle.tables.specs.ByKey.{at}
+use Rattle.clause_db.{proofs.StoreLemmas.Counts.IsCountBelow, specs.Code.Counts.count_of}
+use Rattle.{std.proofs.Common.ℕ, tables.specs.ByKey.at}
 use Rattle.clause_db.proofs.store.counts.counts_in.Given as goal
 
 abbrev pub invariant-loop-slot : goal.invariant-loop-slot

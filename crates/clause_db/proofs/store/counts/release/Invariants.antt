@@ -1,7 +1,5 @@
-use Rattle.std.proofs.Common.{◌≡◌, ℕ, ◌+◌, cond, take}
-use Rattle.cnf_base.specs.Literals.{has}
-use Rattle.clause_db.specs.Code.Counts.{count_of}
-use Rattle.tables.specs.ByKey.{at}
+use Rattle.{clause_db.specs.Code.Counts.count_of, cnf_base.specs.Literals.has}
+use Rattle.{std.proofs.Common.{cond, take, ℕ, ◌+◌, ◌≡◌}, tables.specs.ByKey.at}
 use Rattle.clause_db.proofs.store.counts.release.Given as goal
 
 abbrev pub invariant-loop-l : goal.invariant-loop-l

@@ -1,7 +1,6 @@
-use Rattle.std.proofs.Common.{◌≡◌, ℕ, ◌&&◌, nat_lt}
+use Rattle.{clause_db.specs.Code.Kept.has_in, occurrences.specs.Occurrences.occurs}
+use Rattle.std.proofs.Common.{nat_lt, ℕ, ◌&&◌, ◌≡◌}
 use Rattle.std.specs.FinMap as maps
-use Rattle.occurrences.specs.Occurrences.{occurs}
-use Rattle.clause_db.specs.Code.Kept.{has_in}
 use Rattle.clause_db.proofs.store.kept.occurrences_in.Given as goal
 
 abbrev pub invariant-loop-slot : goal.invariant-loop-slot

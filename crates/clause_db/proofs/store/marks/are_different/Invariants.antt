@@ -1,5 +1,4 @@
-use Rattle.std.proofs.Common.{◌≡◌, take}
-use Rattle.cnf_base.specs.Literals.{size}
+use Rattle.{cnf_base.specs.Literals.size, std.proofs.Common.{take, ◌≡◌}}
 use Rattle.clause_db.proofs.store.marks.are_different.Given as goal
 
 abbrev pub invariant-loop-i : goal.invariant-loop-i

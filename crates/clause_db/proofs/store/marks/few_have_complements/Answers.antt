@@ -1,6 +1,5 @@
-use Rattle.std.proofs.Common.{arith}
-use Rattle.cnf_base.proofs.{SetLemmas.any_from, WalkLemmas.has_take, SizeLemmas.has_at}
-use Rattle.clause_db.proofs.StoreLemmas.Tautologies.{none_so_far}
+use Rattle.{clause_db.proofs.StoreLemmas.Tautologies.none_so_far, std.proofs.Common.arith}
+use Rattle.cnf_base.proofs.{SetLemmas.any_from, SizeLemmas.has_at, WalkLemmas.has_take}
 use Rattle.clause_db.proofs.store.marks.few_have_complements.Goals as goal
 
 pub loop-i-preserved : goal.loop-i-preserved

@@ -1,5 +1,4 @@
-use Rattle.std.proofs.Common.{◌≡◌, false, take}
-use Rattle.clause_db.specs.Store.{is_tautology}
+use Rattle.{clause_db.specs.Store.is_tautology, std.proofs.Common.{false, take, ◌≡◌}}
 use Rattle.clause_db.proofs.store.marks.few_have_complements.Given as goal
 
 abbrev pub invariant-loop-i : goal.invariant-loop-i

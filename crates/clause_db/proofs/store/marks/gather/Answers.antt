@@ -1,14 +1,9 @@
-use Rattle.std.proofs.Common.{◌≡◌, ℕ, ◌<◌, ◌&&◌, false, true, not, take, length, sym, ap, ◌∙◌}
-use Rattle.std.proofs.Common.{arith, take_all}
-use Rattle.cnf_base.specs.Literals.{has, size}
-use Rattle.cnf_base.proofs.{SetLemmas.same_from, WalkLemmas.is_in}
-use Rattle.clause_db.proofs.StoreLemmas.Marks.{marked_new, marked_old, gather_more, has_kept}
-use Rattle.clause_db.proofs.StoreLemmas.Marks.{push_same, push_fits, push_different}
+use Rattle.clause_db.proofs.StoreLemmas.Marks.{gather_more, has_kept, marked_new, marked_old}
+use Rattle.clause_db.proofs.StoreLemmas.Marks.{push_different, push_same}
+use Rattle.clause_db.proofs.store.marks.gather.Goals.{else-clear_mark, then-clear_mark}
+use Rattle.{cnf_base.{proofs.WalkLemmas.is_in, specs.Literals.{has, size}}, std.proofs.Common.ap}
+use Rattle.std.proofs.Common.{arith, false, length, not, sym, take, true, ℕ, ◌&&◌, ◌<◌, ◌∙◌, ◌≡◌}
 use Rattle.clause_db.proofs.store.marks.gather.Goals as goal
-use Rattle.clause_db.proofs.store.marks.gather.Goals.{then-clear_mark, else-clear_mark}
-
-pub push_reserved-requires : goal.push_reserved-requires
-push_reserved-requires c = grind (arith, push_fits)
 
 pub loop-l-preserved : goal.loop-l-preserved
 loop-l-preserved c =
@@ -40,6 +35,3 @@ loop-l-preserved c =
             room = ap (λ v. v.cap) w.kept-is ∙ c.loop-l.invariant.room;
           }
     ]
-
-pub returns-clause-same : goal.returns-clause-same
-returns-clause-same c = grind (arith, take_all, same_from)

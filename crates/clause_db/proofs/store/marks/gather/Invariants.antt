@@ -1,6 +1,5 @@
-use Rattle.std.proofs.Common.{◌≡◌, ℕ, ◌&&◌, not, take, length, vec_capacity, is_some}
-use Rattle.cnf_base.specs.Literals.{has, size}
-use Rattle.clause_db.specs.Code.LiteralMarks.{is_marked}
+use Rattle.{clause_db.specs.Code.LiteralMarks.is_marked, cnf_base.specs.Literals.{has, size}}
+use Rattle.std.proofs.Common.{is_some, length, not, take, vec_capacity, ℕ, ◌&&◌, ◌≡◌}
 use Rattle.tables.specs.ByKey.{at}
 use Rattle.clause_db.proofs.store.marks.gather.Given as goal
 

@@ -1,5 +1,4 @@
-use Rattle.std.proofs.Common.{◌≡◌, false, take}
-use Rattle.cnf_base.specs.Literals.{has}
+use Rattle.{cnf_base.specs.Literals.has, std.proofs.Common.{false, take, ◌≡◌}}
 use Rattle.clause_db.proofs.store.marks.is_among.Given as goal
 
 abbrev pub invariant-loop-other : goal.invariant-loop-other

@@ -1,7 +1,5 @@
-use Rattle.std.proofs.Common.{◌≡◌, ℕ, true, take, IsSome}
-use Rattle.cnf_base.specs.Literals.{has}
-use Rattle.clause_db.specs.Code.LiteralMarks.{is_marked}
-use Rattle.tables.specs.ByKey.{at}
+use Rattle.{clause_db.specs.Code.LiteralMarks.is_marked, cnf_base.specs.Literals.has}
+use Rattle.{std.proofs.Common.{IsSome, take, true, ℕ, ◌≡◌}, tables.specs.ByKey.at}
 use Rattle.clause_db.proofs.store.marks.make_known.Given as goal
 
 abbrev pub invariant-loop-l : goal.invariant-loop-l

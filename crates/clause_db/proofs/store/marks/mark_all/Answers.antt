@@ -1,10 +1,9 @@
-use Rattle.std.proofs.Common.{◌≡◌, ℕ, not, take, sym, ◌∙◌, arith}
-use Rattle.clause_index.proofs.IndexLemmas.Hashes.{mixed_none, hash_whole}
-use Rattle.std.proofs.lemmas.Bool.{not-true, not-false}
-use Rattle.cnf_base.specs.Literals.{has}
-use Rattle.clause_db.proofs.StoreLemmas.Marks.{digest_more, digest_kept, mark_more}
+use Rattle.clause_db.proofs.StoreLemmas.Marks.{digest_kept, digest_more, mark_more}
+use Rattle.clause_db.proofs.store.marks.mark_all.Goals.{else-set_mark, then-set_mark}
+use Rattle.clause_index.proofs.IndexLemmas.Hashes.{hash_whole, mixed_none}
+use Rattle.{cnf_base.specs.Literals.has, std.proofs.Common.{arith, not, sym, take, ℕ, ◌∙◌, ◌≡◌}}
+use Rattle.std.proofs.lemmas.Bool.{not-false, not-true}
 use Rattle.clause_db.proofs.store.marks.mark_all.Goals as goal
-use Rattle.clause_db.proofs.store.marks.mark_all.Goals.{then-set_mark, else-set_mark}
 
 pub loop-l-init : goal.loop-l-init
 loop-l-init c = grind (arith, mixed_none)

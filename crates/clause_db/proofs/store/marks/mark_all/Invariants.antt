@@ -1,6 +1,5 @@
-use Rattle.std.proofs.Common.{◌≡◌, ℕ, is_some, take}
-use Rattle.cnf_base.specs.Literals.{has}
-use Rattle.clause_db.{specs.Code.LiteralMarks.is_marked, proofs.StoreLemmas.Marks.IsDigest}
+use Rattle.clause_db.{proofs.StoreLemmas.Marks.IsDigest, specs.Code.LiteralMarks.is_marked}
+use Rattle.{cnf_base.specs.Literals.has, std.proofs.Common.{is_some, take, ℕ, ◌≡◌}}
 use Rattle.tables.specs.ByKey.{at}
 use Rattle.clause_db.proofs.store.marks.mark_all.Given as goal
 

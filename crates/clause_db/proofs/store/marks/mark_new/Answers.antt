@@ -1,11 +1,7 @@
-use Rattle.std.proofs.Common.{arith}
-use Rattle.cnf_base.{proofs.WalkLemmas.has_more, proofs.WalkLemmas.has_take}
 use Rattle.clause_db.proofs.StoreLemmas.Marks.{mark_more, size_kept, size_more}
+use Rattle.clause_db.proofs.store.marks.mark_new.Goals.{else-branch, then-branch}
+use Rattle.{cnf_base.proofs.WalkLemmas.{has_more}, std.proofs.Common.arith}
 use Rattle.clause_db.proofs.store.marks.mark_new.Goals as goal
-use Rattle.clause_db.proofs.store.marks.mark_new.Goals.{then-branch, else-branch}
-
-pub returns-in_err-add_mark-clause-some : goal.returns-in_err-add_mark-clause-some
-returns-in_err-add_mark-clause-some c l marked = grind (arith, has_take)
 
 pub loop-l-preserved : goal.loop-l-preserved
 loop-l-preserved c =

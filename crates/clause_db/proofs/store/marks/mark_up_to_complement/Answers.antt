@@ -1,21 +1,15 @@
-use Rattle.std.proofs.Common.{◌≡◌, false, take, ◌∙◌, arith}
+use Rattle.std.proofs.Common.{◌∙◌, arith}
 use Rattle.cnf_base.proofs.{SetLemmas.any_from, WalkLemmas.has_take, SizeLemmas.has_at}
-use Rattle.cnf_base.specs.Literals.{complement, has}
 use Rattle.clause_db.proofs.StoreLemmas.{Marks.mark_more, Tautologies.none_so_far}
 use Rattle.clause_db.proofs.store.marks.mark_up_to_complement.Goals as goal
 
 pub loop-l-preserved : goal.loop-l-preserved
 loop-l-preserved c =
-    let lits = c.args.lits.now in
-    let i = c.loop-l.l-index in
-    let so_far = c.loop-l.invariant in
-    let x = c.l-item.result in
-    let inside = c.loop-l-test.true in
-    let new : has (take i lits) (complement x) ≡ false = grind arith in
-    record {
-      marked = λ k. mark_more lits i inside x c.l-item.is k _ _ (c.set_mark.ensures.marked k) (so_far.marked k);
+    let lits = c.args.lits.now in let so_far = c.loop-l.invariant in record {
+      marked = λ k. mark_more lits _ c.loop-l-test.true _ c.l-item.is k _ _
+          (c.set_mark.ensures.marked k) (so_far.marked k);
       known = λ k. c.set_mark.ensures.known k ∙ so_far.known k;
-      none = none_so_far lits i inside x c.l-item.is so_far.none new;
+      none = none_so_far lits _ c.loop-l-test.true _ c.l-item.is so_far.none (grind arith);
     }
 
 pub returns-then-is_set-clause-yes : goal.returns-then-is_set-clause-yes

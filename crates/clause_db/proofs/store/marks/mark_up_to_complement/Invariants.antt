@@ -1,6 +1,5 @@
-use Rattle.std.proofs.Common.{◌≡◌, ℕ, false, is_some, take}
-use Rattle.cnf_base.specs.Literals.{has}
 use Rattle.clause_db.specs.{Code.LiteralMarks.is_marked, Store.is_tautology}
+use Rattle.{cnf_base.specs.Literals.has, std.proofs.Common.{false, is_some, take, ℕ, ◌≡◌}}
 use Rattle.tables.specs.ByKey.{at}
 use Rattle.clause_db.proofs.store.marks.mark_up_to_complement.Given as goal
 

@@ -1,7 +1,5 @@
-use Rattle.std.proofs.Common.{◌≡◌, ℕ, true, drop, is_some}
-use Rattle.cnf_base.specs.Literals.{has}
-use Rattle.clause_db.specs.Code.LiteralMarks.{is_marked}
-use Rattle.tables.specs.ByKey.{at}
+use Rattle.{clause_db.specs.Code.LiteralMarks.is_marked, cnf_base.specs.Literals.has}
+use Rattle.{std.proofs.Common.{drop, is_some, true, ℕ, ◌≡◌}, tables.specs.ByKey.at}
 use Rattle.clause_db.proofs.store.marks.unmark_all.Given as goal
 
 abbrev pub invariant-loop-l : goal.invariant-loop-l

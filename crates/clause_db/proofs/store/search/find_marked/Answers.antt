@@ -1,6 +1,5 @@
-use Rattle.std.proofs.Common.{ap, sym, ◌∙◌}
-use Rattle.clause_db.specs.Code.{LiteralMarks.is_marked, Matches.is_match_in}
-use Rattle.clause_db.proofs.StoreLemmas.Options.{if_none_then}
+use Rattle.clause_db.{proofs.StoreLemmas.Options.if_none_then, specs.Code.LiteralMarks.is_marked}
+use Rattle.{clause_db.specs.Code.Matches.is_match_in, std.proofs.Common.{ap, sym, ◌∙◌}}
 use Rattle.tables.specs.ByKey.{at}
 use Rattle.clause_db.proofs.store.search.find_marked.Goals as goal
 

@@ -1,10 +1,8 @@
-use Rattle.std.proofs.Common.{◌≡◌, ℕ, ◌+◌, ◌/◌, ◌%◌, ◌^◌, ◌<◌, ◌==◌, ◌&&◌, ◌∷◌, [], not, refl, sym}
-use Rattle.std.proofs.Common.{ap, ◌∙◌, arith, eq-eqb, ne_eqb}
-use Rattle.std.proofs.lemmas.Bool.{false≢true}
-use Rattle.cnf_base.specs.Literals.{Literal}
-use Rattle.clause_index.specs.{Hashes.hash, Hashes.mix, Hashes.mixed_sum, Index.seed_of}
-use Rattle.clause_index.proofs.IndexLemmas.Hashes.{mixed_none, mixed_push}
-use Rattle.clause_db.{specs.Code.Matches.is_unit_in, proofs.StoreLemmas.Options.if_none_then}
+use Rattle.clause_db.{proofs.StoreLemmas.Options.if_none_then, specs.Code.Matches.is_unit_in}
+use Rattle.clause_index.{proofs.IndexLemmas.Hashes.{mixed_none, mixed_push}, specs.Index.seed_of}
+use Rattle.{clause_index.specs.Hashes.{hash, mix, mixed_sum}, std.proofs.lemmas.Bool.false≢true}
+use Rattle.{cnf_base.specs.Literals.Literal, std.proofs.Common.{◌<◌, ◌==◌, ◌^◌, ◌∙◌, ◌∷◌, ◌≡◌}}
+use Rattle.std.proofs.Common.{[], ap, arith, eq-eqb, ne_eqb, not, refl, sym, ℕ, ◌%◌, ◌&&◌, ◌+◌, ◌/◌}
 use Rattle.clause_db.proofs.store.search.find_unit.Goals as goal
 
 -- the hash of a clause of one literal

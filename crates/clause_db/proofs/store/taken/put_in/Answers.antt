@@ -1,7 +1,6 @@
-use Rattle.std.proofs.Common.{◌≡◌, true, length, sym, subst, arith}
-use Rattle.cnf_base.{specs.Literals.same_clause, specs.Literals.size, proofs.SizeLemmas.size_same}
-use Rattle.cnf_base.proofs.SetLemmas.{same_back, same_from, same_there}
-use Rattle.clause_db.proofs.StoreLemmas.Taken.{taken_in}
+use Rattle.{clause_db.proofs.StoreLemmas.Taken.taken_in, std.proofs.Common.{subst, sym, true, ◌≡◌}}
+use Rattle.cnf_base.proofs.{SetLemmas.{same_back, same_from, same_there}, SizeLemmas.size_same}
+use Rattle.{cnf_base.specs.Literals.{same_clause, size}, std.proofs.Common.{arith, length}}
 use Rattle.clause_db.proofs.store.taken.put_in.Goals as goal
 
 pub returns-then-len-lits-clause-taken : goal.returns-then-len-lits-clause-taken

@@ -1,7 +1,6 @@
 -- A short clause whose literals differ.
+use Rattle.{clause_db.proofs.StoreLemmas.Taken.taken_in, cnf_base.proofs.SetLemmas.same_from}
 use Rattle.std.proofs.Common.{arith}
-use Rattle.cnf_base.proofs.SetLemmas.{same_from}
-use Rattle.clause_db.proofs.StoreLemmas.Taken.{taken_in}
 use Rattle.clause_db.proofs.store.taken.take_in.Goals as goal
 
 pub returns-then-are_different-clause-taken : goal.returns-then-are_different-clause-taken

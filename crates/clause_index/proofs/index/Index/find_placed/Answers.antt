@@ -1,13 +1,12 @@
-use Rattle.std.proofs.Common.{◌≡◌, ◌+◌, length, sym, ap, ◌∙◌, subst, arith}
-use Rattle.std.proofs.lemmas.List.{get_or_default}
-use Rattle.clause_index.specs.{Code.Chains.home, Code.Chains.link_at, declared.link.Link.Link}
-use Rattle.clause_index.proofs.IndexLemmas.Chains.{few}
-use Rattle.clause_index.proofs.IndexLemmas.Found.{IsNot, chain_of, chain_inside, chain_low}
-use Rattle.clause_index.proofs.IndexLemmas.{Found.in_chain, Found.other_hash, Walks.searches_on}
-use Rattle.clause_index.proofs.IndexLemmas.Walks.{found_in, search_ends, search_over, IsSearched}
-use Rattle.clause_index.proofs.index.Index.find_placed.Goals as goal
-use Rattle.clause_index.proofs.index.Index.find_placed.Goals.{else-link-key-via-then-link-key+else-is_at}
+use Rattle.clause_index.{proofs.IndexLemmas.Chains.few, specs.Code.Chains.{home, link_at}}
+use Rattle.clause_index.proofs.IndexLemmas.Found.{IsNot, chain_inside, chain_low, chain_of}
+use Rattle.clause_index.proofs.IndexLemmas.{Found.{in_chain, other_hash}, Walks.searches_on}
+use Rattle.clause_index.proofs.IndexLemmas.Walks.{IsSearched, found_in, search_ends, search_over}
 use Rattle.clause_index.proofs.index.Index.find_placed.Goals.{else-link-key-via-else-link-key}
+use Rattle.clause_index.proofs.index.Index.find_placed.Goals.{else-link-key-via-then-link-key+else-is_at}
+use Rattle.{clause_index.specs.declared.link.Link.Link, std.proofs.lemmas.List.get_or_default}
+use Rattle.std.proofs.Common.{ap, arith, length, subst, sym, ◌+◌, ◌∙◌, ◌≡◌}
+use Rattle.clause_index.proofs.index.Index.find_placed.Goals as goal
 
 pub returns-then-at-clause-none : goal.returns-then-at-clause-none
 returns-then-at-clause-none g c live s k sound placed is alike =

@@ -1,7 +1,6 @@
+use Rattle.clause_index.proofs.IndexLemmas.{Found.{IsNot, chain_of}, Walks.IsSearched}
+use Rattle.{clause_index.specs.Code.Chains.Indexes, cnf_base.specs.Literals.Clause}
 use Rattle.std.specs.{FinMap.FinMap, Ordering.nat_cmp}
-use Rattle.cnf_base.specs.Literals.{Clause}
-use Rattle.clause_index.specs.Code.Chains.{Indexes}
-use Rattle.clause_index.proofs.IndexLemmas.{Found.IsNot, Found.chain_of, Walks.IsSearched}
 use Rattle.clause_index.proofs.index.Index.find_placed.Given as goal
 
 abbrev pub invariant-loop-step : goal.invariant-loop-step

@@ -1,7 +1,6 @@
-use Rattle.std.proofs.Common.{ℕ, ◌<◌, ◌≤◌}
-use Rattle.std.specs.{FinMap.FinMap, Ordering.nat_cmp}
-use Rattle.cnf_base.specs.Literals.{Clause}
-use Rattle.clause_index.{specs.Code.Chains.Indexes, proofs.IndexLemmas.Found.IsNot}
+use Rattle.clause_index.{proofs.IndexLemmas.Found.IsNot, specs.Code.Chains.Indexes}
+use Rattle.{cnf_base.specs.Literals.Clause, std.{proofs.Common.{ℕ, ◌<◌, ◌≤◌}, specs.FinMap.FinMap}}
+use Rattle.std.specs.Ordering.{nat_cmp}
 use Rattle.clause_index.proofs.index.Index.find_waiting.Given as goal
 
 abbrev pub invariant-loop-slot : goal.invariant-loop-slot

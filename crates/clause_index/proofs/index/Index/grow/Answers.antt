@@ -1,6 +1,5 @@
-use Rattle.std.proofs.Common.{sym, subst}
-use Rattle.clause_index.specs.Code.Chains.{ArePlaced, hash_in}
-use Rattle.clause_index.proofs.IndexLemmas.Anew.{all_wait}
+use Rattle.clause_index.{proofs.IndexLemmas.Anew.all_wait, specs.Code.Chains.{ArePlaced, hash_in}}
+use Rattle.std.proofs.Common.{subst, sym}
 use Rattle.clause_index.proofs.index.Index.grow.Goals as goal
 
 pub returns-clause-same : goal.returns-clause-same

@@ -1,9 +1,8 @@
-use Rattle.std.proofs.Common.{◌≡◌, ◌≢◌, ℕ, set, refl, sym, ap, ◌∙◌, arith}
-use Rattle.std.proofs.lemmas.List.{get_or-set_same, get_or-set_other, length-set}
-use Rattle.std.proofs.lemmas.Option.{none-some}
-use Rattle.clause_index.specs.{Code.Chains.below, Code.Chains.link_at, declared.link.Link.Link}
-use Rattle.clause_index.proofs.IndexLemmas.Added.{comes_in, waits}
-use Rattle.clause_index.proofs.IndexLemmas.Anew.{above_is, below_is, chained_kept}
+use Rattle.clause_index.proofs.IndexLemmas.{Added.{comes_in, waits}, Anew.{above_is, below_is}}
+use Rattle.clause_index.{proofs.IndexLemmas.Anew.chained_kept, specs.Code.Chains.{below, link_at}}
+use Rattle.{clause_index.specs.declared.link.Link.Link, std.proofs.Common.{ap, arith, refl, set}}
+use Rattle.std.proofs.{Common.{sym, ℕ, ◌∙◌, ◌≡◌, ◌≢◌}, lemmas.List.get_or-set_other}
+use Rattle.std.proofs.lemmas.{List.{get_or-set_same, length-set}, Option.none-some}
 use Rattle.clause_index.proofs.index.Index.put.Goals as goal
 
 pub returns-then-slot-self-clause-indexed : goal.returns-then-slot-self-clause-indexed

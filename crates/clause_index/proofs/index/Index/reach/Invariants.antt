@@ -1,7 +1,5 @@
-use Rattle.std.proofs.Common.{◌≡◌, length}
-use Rattle.std.specs.{FinMap.FinMap, Ordering.nat_cmp}
-use Rattle.cnf_base.specs.Literals.{Clause}
-use Rattle.clause_index.specs.Code.Chains.{Indexes}
+use Rattle.{clause_index.specs.Code.Chains.Indexes, cnf_base.specs.Literals.Clause}
+use Rattle.std.{proofs.Common.{length, ◌≡◌}, specs.{FinMap.FinMap, Ordering.nat_cmp}}
 use Rattle.clause_index.proofs.index.Index.reach.Given as goal
 
 abbrev pub invariant-loop-next : goal.invariant-loop-next

@@ -1,9 +1,8 @@
-use Rattle.std.proofs.Common.{◌≡◌, ℕ, None, ap, option_map, subst, sym, ◌∙◌, arith}
-use Rattle.std.{specs.Ordering.nat_cmp, proofs.lemmas.Option.none-some}
-use Rattle.std.specs.FinMap as maps
-use Rattle.clause_index.specs.Hashes.{hash}
-use Rattle.clause_index.specs.Code.Chains.{AreChained, below, hash_in}
 use Rattle.clause_index.proofs.IndexLemmas.Anew.{above_is, chained_none}
+use Rattle.clause_index.specs.{Code.Chains.{AreChained, below, hash_in}, Hashes.hash}
+use Rattle.std.proofs.Common.{None, ap, arith, option_map, subst, sym, ℕ, ◌∙◌, ◌≡◌}
+use Rattle.std.{proofs.lemmas.Option.none-some, specs.Ordering.nat_cmp}
+use Rattle.std.specs.FinMap as maps
 use Rattle.clause_index.proofs.index.IndexIndexing.new.Goals as goal
 
 pub returns : goal.returns

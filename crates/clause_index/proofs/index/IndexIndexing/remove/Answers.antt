@@ -1,29 +1,11 @@
-use Rattle.std.proofs.Common.{◌≡◌, ◌<◌, Some, length, set, get_or, option_map, ap, ◌∙◌}
-use Rattle.std.proofs.Common.{arith, refl, length-set}
-use Rattle.std.proofs.lemmas.List.{get_or_default}
-use Rattle.clause_index.specs.{Hashes.hash, declared.link.Link.Link}
-use Rattle.clause_index.specs.Code.Chains.{AreLinked, hash_in, home, link_at}
-use Rattle.clause_index.proofs.IndexLemmas.Anew.{all_chained}
-use Rattle.clause_index.proofs.IndexLemmas.Found.{is_inside, is_low, some_heads}
-use Rattle.clause_index.proofs.IndexLemmas.{Chains.home_below, Whole.held_less}
-use Rattle.clause_index.proofs.IndexLemmas.TakeOut.{first_removed, next_removed}
+use Rattle.clause_index.proofs.IndexLemmas.{Anew.all_chained, TakeOut.{first_removed, next_removed}}
+use Rattle.{clause_index.proofs.IndexLemmas.Chains.home_below, std.proofs.Common.{◌<◌, ◌∙◌, ◌≡◌}}
+use Rattle.clause_index.proofs.IndexLemmas.{Whole.held_less}
+use Rattle.clause_index.proofs.index.IndexIndexing.remove.Goals.{in-None, in-Some}
+use Rattle.clause_index.specs.{Code.Chains.{AreLinked, hash_in, home, link_at}, Hashes.hash}
+use Rattle.{clause_index.specs.declared.link.Link.Link, std.proofs.lemmas.List.get_or_default}
+use Rattle.std.proofs.Common.{Some, ap, arith, get_or, length, length-set, option_map, refl, set}
 use Rattle.clause_index.proofs.index.IndexIndexing.remove.Goals as goal
-use Rattle.clause_index.proofs.index.IndexIndexing.remove.Goals.{in-Some, in-None}
-
-pub place_all-requires : goal.place_all-requires
-place_all-requires c = grind (arith, some_heads)
-
-pub index-link-requires : goal.index-link-requires
-index-link-requires c = grind (arith, is_inside)
-
-pub home_of-home-requires : goal.home_of-home-requires
-home_of-home-requires c = grind (arith, some_heads)
-
-pub overflow_cast-slot : goal.overflow_cast-slot
-overflow_cast-slot c = grind (arith, is_low)
-
-pub index_mut-requires-2 : goal.index_mut-requires-2
-index_mut-requires-2 c = grind (arith, is_inside)
 
 pub returns : goal.returns
 returns c live indexed there =

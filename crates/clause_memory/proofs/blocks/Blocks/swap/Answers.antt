@@ -1,5 +1,4 @@
-use Rattle.std.proofs.Common.{arith}
-use Rattle.clause_memory.proofs.ClauseLemmas.{seen_in, stored_is}
+use Rattle.{clause_memory.proofs.ClauseLemmas.{seen_in, stored_is}, std.proofs.Common.arith}
 use Rattle.clause_memory.proofs.MemoryLemmas.{swap_inside, swapped_clauses, swapped_memory}
 use Rattle.clause_memory.proofs.blocks.Blocks.swap.Goals as goal
 

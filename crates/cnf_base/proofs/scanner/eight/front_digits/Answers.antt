@@ -1,9 +1,8 @@
 -- The digits are shifted to the top, and count as if zeros stood before them.
-use Rattle.std.proofs.Common.{◌≡◌, ℕ, ◌<◌, ◌+◌, ◌-◌, ◌*◌, ◌%◌, ◌^◌, List, take, sym, ap, ◌∙◌, subst}
-use Rattle.std.proofs.Common.{slice_index, w64, bit_xor}
+use Rattle.cnf_base.{proofs.EightLemmas.{eight_is, front}, specs.Code.Eight.{AreEight, decimal}}
+use Rattle.{cnf_base.specs.Code.Eight.packed, std.proofs.Common.{List, ap, bit_xor, slice_index}}
+use Rattle.std.proofs.Common.{subst, sym, take, w64, ℕ, ◌%◌, ◌*◌, ◌+◌, ◌-◌, ◌<◌, ◌^◌, ◌∙◌, ◌≡◌}
 use Rattle.std.specs.Int.{from_le_bytes}
-use Rattle.cnf_base.specs.Code.Eight.{packed, AreEight, decimal}
-use Rattle.cnf_base.proofs.EightLemmas.{eight_is, front}
 use Rattle.cnf_base.proofs.scanner.eight.front_digits.Goals as goal
 
 pub returns : goal.returns

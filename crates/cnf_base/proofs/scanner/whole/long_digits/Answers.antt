@@ -1,6 +1,5 @@
 -- More digits go on with the first ones.
-use Rattle.cnf_base.specs.Code.Eight.{unsigned}
-use Rattle.cnf_base.proofs.WholeLemmas.{GoOn-more, unsigned-behind}
+use Rattle.cnf_base.{proofs.WholeLemmas.{GoOn-more, unsigned-behind}, specs.Code.Eight.unsigned}
 use Rattle.cnf_base.proofs.scanner.whole.long_digits.Goals as goal
 
 pub returns-clause-digits : goal.returns-clause-digits

@@ -1,7 +1,6 @@
 -- What was read, of a source that is used up.
-use Rattle.std.proofs.Common.{◌∙◌, ap, [], rules, arith}
-use Rattle.std.proofs.lemmas.Grind.{common_steps}
 use Rattle.cnf_base.proofs.StreamLemmas.{Consumes-failed, look_filled, still_nothing}
+use Rattle.std.proofs.{Common.{[], ap, arith, rules, ◌∙◌}, lemmas.Grind.common_steps}
 use Rattle.cnf_base.proofs.source.Source.fill.Goals as goal
 
 pub returns-in-Some-eq0-clause-look : goal.returns-in-Some-eq0-clause-look

@@ -1,6 +1,5 @@
 -- An answer that is kept.
-use Rattle.std.proofs.Common.{rules}
-use Rattle.dimacs.proofs.FormulaLemmas.{Kept-clause}
+use Rattle.{dimacs.proofs.FormulaLemmas.Kept-clause, std.proofs.Common.rules}
 use Rattle.dimacs.proofs.formula.FormulaReader.next.Goals as goal
 
 pub returns-in-Some-clause-clause : goal.returns-in-Some-clause-clause

@@ -1,6 +1,5 @@
 -- A fault in the header.
-use Rattle.std.proofs.Common.{rules}
-use Rattle.dimacs.proofs.HeaderLemmas.{header_refused}
+use Rattle.{dimacs.proofs.HeaderLemmas.header_refused, std.proofs.Common.rules}
 use Rattle.dimacs.proofs.formula.FormulaReader.open.Goals as goal
 
 pub returns-in-Err-clause-refused : goal.returns-in-Err-clause-refused

@@ -1,8 +1,6 @@
-use Rattle.std.proofs.Common.{◌≡◌, ◌∷◌, ◌∙◌, arith, false, rules, sym, unwrap_or}
-use Rattle.std.proofs.{lemmas.Grind.common_steps}
-use Rattle.cnf_base.specs.Literals.{Literal, has}
-use Rattle.tables.specs.ByKey.{at}
-use Rattle.dimacs.proofs.ModelLemmas.{listed_more, IsConsistent-put}
+use Rattle.{cnf_base.specs.Literals.{Literal, has}, std.proofs.lemmas.Grind.common_steps}
+use Rattle.{dimacs.proofs.ModelLemmas.{IsConsistent-put, listed_more}, tables.specs.ByKey.at}
+use Rattle.std.proofs.Common.{arith, false, rules, sym, unwrap_or, ◌∙◌, ◌∷◌, ◌≡◌}
 use Rattle.dimacs.proofs.model.Model.insert.Goals as goal
 
 -- the listed literals

@@ -8,7 +8,8 @@ pub returns-then-not-includes-clause-passes : goal.returns-then-not-includes-cla
 returns-then-not-includes-clause-passes g c =
     elim c.then-not-includes.branch [
       | goal.then-not-includes-via-then-not-includes w ↦ λ d at test.
-          absurd (false≢true (sym w.if-not-includes.true ∙ sym (looked_at _ _ _ _ c.clause-clause.ensures.clause c.includes.ensures _ at) ∙ test))
+          absurd (false≢true (sym w.if-not-includes.true
+          ∙ sym (looked_at _ _ _ _ c.clause-clause.ensures.clause c.includes.ensures _ at) ∙ test))
       | goal.then-not-includes-via-else-not-includes+in_ok-is_within+then-branch w ↦
           clashes_within _ _ _ _ c.clause-clause.ensures.clause _ c.requires.clashed (grind arith)
     ]
@@ -31,4 +32,5 @@ returns-in-Quiet-clause-passes g c d at =
 pub returns-then-clashes_at_once-clause-passes : goal.returns-then-clashes_at_once-clause-passes
 returns-then-clashes_at_once-clause-passes g c =
     let now = g.P.Propagate.state _ in
-    clashes_seen now _ c.args.slot _ c.clause-clause.ensures.clause (c.clashes_at_once.ensures c.if-clashes_at_once.true)
+    clashes_seen now _ c.args.slot _ c.clause-clause.ensures.clause
+    (c.clashes_at_once.ensures c.if-clashes_at_once.true)

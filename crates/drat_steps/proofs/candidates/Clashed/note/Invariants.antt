@@ -1,5 +1,4 @@
-use Rattle.std.proofs.Common.{◌≡◌, filter, take}
-use Rattle.drat_steps.specs.Code.Candidates.{is_left}
+use Rattle.{drat_steps.specs.Code.Candidates.is_left, std.proofs.Common.{filter, take, ◌≡◌}}
 use Rattle.drat_steps.proofs.candidates.Clashed.note.Given as goal
 
 abbrev pub invariant-loop-l : goal.invariant-loop-l

@@ -1,6 +1,5 @@
+use Rattle.ids.{proofs.IdLemmas.Cache.{cleared, not_cleared}, specs.Code.Cache.cached_at}
 use Rattle.std.proofs.Common.{arith}
-use Rattle.ids.specs.Code.Cache.{cached_at}
-use Rattle.ids.proofs.IdLemmas.Cache.{cleared, not_cleared}
 use Rattle.ids.proofs.cache.Cache.clear.Goals as goal
 
 pub returns-then-from-number : goal.returns-then-from-number

@@ -1,4 +1,4 @@
-use Rattle.std.proofs.{Common.◌-◌, Common.◌%◌, Common.arith, lemmas.Grind.common_steps}
+use Rattle.std.proofs.{Common.arith, lemmas.Grind.common_steps}
 use Rattle.ids.proofs.IdLemmas.Pages.{counts_some, counted_as-some}
 use Rattle.ids.proofs.pages.Pages.clear.Goals as goal
 

@@ -1,8 +1,7 @@
-use Rattle.std.proofs.Common.{rules, OnOk, ap, map, subst}
-use Rattle.std.specs.List.Sorted.{IsPermutation}
-use Rattle.live_clauses.{specs.Code.LiveClauses.owner_at, proofs.ClausesLemmas.Kept.when_both}
-use Rattle.live_clauses.proofs.ClausesLemmas.Touched.{AreTouched, are_touched}
+use Rattle.live_clauses.proofs.ClausesLemmas.{Kept.when_both, Touched.{AreTouched, are_touched}}
 use Rattle.live_clauses.proofs.clauses.LiveClauses.touched.Goals.{After-identify}
+use Rattle.{live_clauses.specs.Code.LiveClauses.owner_at, std.proofs.Common.{OnOk, ap, map, rules}}
+use Rattle.std.{proofs.Common.subst, specs.List.Sorted.IsPermutation}
 use Rattle.std.specs.FinMap as maps
 use Rattle.live_clauses.proofs.clauses.LiveClauses.touched.Goals as goal
 

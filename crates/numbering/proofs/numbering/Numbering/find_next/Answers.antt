@@ -1,7 +1,6 @@
-use Rattle.std.proofs.Common.{rules, arith}
-use Rattle.cnf_base.specs.Literals.{variable}
-use Rattle.numbering.specs.Code.Numbers.{number_at}
-use Rattle.numbering.proofs.NumberLemmas.{count_most, count_below, unmet_at, next_is}
+use Rattle.{cnf_base.specs.Literals.variable, numbering.proofs.NumberLemmas.count_below}
+use Rattle.numbering.proofs.NumberLemmas.{count_most, next_is, unmet_at}
+use Rattle.{numbering.specs.Code.Numbers.number_at, std.proofs.Common.{arith, rules}}
 use Rattle.numbering.proofs.numbering.Numbering.find_next.Goals as goal
 
 pub overflow_add-next : goal.overflow_add-next

@@ -1,6 +1,5 @@
-use Rattle.std.proofs.Common.{◌≡◌, ◌≤◌, length, map, take, vec_len, vec_capacity}
-use Rattle.theory.specs.Renaming.{renamed}
-use Rattle.numbering.specs.Names.{number_in}
+use Rattle.{numbering.specs.Names.number_in, std.proofs.Common.{length, map, take, vec_capacity}}
+use Rattle.{std.proofs.Common.{vec_len, ◌≡◌, ◌≤◌}, theory.specs.Renaming.renamed}
 use Rattle.numbering.proofs.numbering.Numbering.find_rest.Given as goal
 
 abbrev pub invariant-loop-i : goal.invariant-loop-i

@@ -1,7 +1,5 @@
-use Rattle.std.proofs.Common.{rules}
-use Rattle.cnf_base.specs.Literals.{variable}
-use Rattle.numbering.specs.Code.Numbers.{number_at}
-use Rattle.numbering.proofs.NumberLemmas.{is_none, is_unmet}
+use Rattle.{cnf_base.specs.Literals.variable, numbering.proofs.NumberLemmas.{is_none, is_unmet}}
+use Rattle.{numbering.specs.Code.Numbers.number_at, std.proofs.Common.rules}
 use Rattle.numbering.proofs.numbering.Numbering.find_unknown.Goals as goal
 
 pub find_next-requires : goal.find_next-requires

@@ -1,6 +1,5 @@
-use Rattle.std.proofs.Common.{rules}
-use Rattle.numbering.specs.Code.Numbers.{number_at}
-use Rattle.numbering.proofs.NumberLemmas.{numbering_empty, names_empty}
+use Rattle.numbering.proofs.NumberLemmas.{names_empty, numbering_empty}
+use Rattle.{numbering.specs.Code.Numbers.number_at, std.proofs.Common.rules}
 use Rattle.numbering.proofs.numbering.Numbering.new.Goals as goal
 
 pub invariant_of-result : goal.invariant_of-result

@@ -1,9 +1,7 @@
-use Rattle.std.proofs.Common.{rules, ◌+◌, ap, ◌∙◌, arith}
-use Rattle.cnf_base.specs.Literals.{has, variable}
-use Rattle.numbering.{specs.Code.Numbers.number_at, proofs.RecentLemmas.recent_more}
-use Rattle.numbering.proofs.NumberLemmas.{count_most, next_invariant, next_names, next_low}
-use Rattle.numbering.proofs.NumberLemmas.{next_number, next_at, none, wrote}
-use Rattle.tables.specs.ByKey.{at}
+use Rattle.{cnf_base.specs.Literals.{has, variable}, tables.specs.ByKey.at}
+use Rattle.numbering.proofs.NumberLemmas.{count_most, next_at, next_invariant, next_low, next_names}
+use Rattle.numbering.proofs.{NumberLemmas.{next_number, none, wrote}, RecentLemmas.recent_more}
+use Rattle.{numbering.specs.Code.Numbers.number_at, std.proofs.Common.{ap, arith, rules, ◌+◌, ◌∙◌}}
 use Rattle.numbering.proofs.numbering.Numbering.number_anew.Goals as goal
 
 pub overflow_add-number : goal.overflow_add-number

@@ -1,12 +1,9 @@
-use Rattle.std.proofs.Common.{rules, ◌≡◌, ◌≢◌, ◌∷◌, [], ◌<◌, take, length, sym, ap, ◌∙◌, refl}
-use Rattle.std.proofs.Common.{arith, true, vec_len, slice_index_or}
-use Rattle.std.proofs.lemmas.List.{map-append}
-use Rattle.cnf_base.{specs.Literals.has, specs.Literals.variable, proofs.WalkLemmas.take_is}
-use Rattle.theory.specs.Renaming.{renamed}
-use Rattle.numbering.specs.{Names.number_in, Code.Numbers.number_at}
-use Rattle.numbering.proofs.NameLemmas.{with_names_push, same_names}
-use Rattle.numbering.proofs.NumberLemmas.{is_met, number_is, number_near}
-use Rattle.tables.specs.ByKey.{at}
+use Rattle.cnf_base.{proofs.WalkLemmas.take_is, specs.Literals.{has, variable}}
+use Rattle.numbering.proofs.{NameLemmas.{same_names, with_names_push}, NumberLemmas.is_met}
+use Rattle.numbering.{proofs.NumberLemmas.{number_is, number_near}, specs.Code.Numbers.number_at}
+use Rattle.{numbering.specs.Names.number_in, std.proofs.Common.{[], ap, arith, length, refl, rules}}
+use Rattle.std.proofs.Common.{slice_index_or, sym, take, true, vec_len, ◌<◌, ◌∙◌, ◌∷◌, ◌≡◌, ◌≢◌}
+use Rattle.{std.proofs.lemmas.List.map-append, tables.specs.ByKey.at, theory.specs.Renaming.renamed}
 use Rattle.numbering.proofs.numbering.Numbering.number_near.Goals as goal
 
 pub loop-near-preserved : goal.loop-near-preserved

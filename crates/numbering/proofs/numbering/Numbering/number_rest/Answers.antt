@@ -1,6 +1,5 @@
-use Rattle.std.proofs.Common.{rules, take, arith}
-use Rattle.cnf_base.proofs.WalkLemmas.{take_is}
-use Rattle.numbering.proofs.NameLemmas.{with_names_push, numbered_push}
+use Rattle.{cnf_base.proofs.WalkLemmas.take_is, numbering.proofs.NameLemmas.numbered_push}
+use Rattle.{numbering.proofs.NameLemmas.with_names_push, std.proofs.Common.{arith, rules, take}}
 use Rattle.numbering.proofs.numbering.Numbering.number_rest.Goals as goal
 
 pub loop-i-preserved : goal.loop-i-preserved

@@ -1,6 +1,5 @@
-use Rattle.std.proofs.Common.{◌≡◌, ◌≤◌, length, map, take, vec_len, vec_capacity}
-use Rattle.theory.specs.Renaming.{renamed}
-use Rattle.numbering.specs.Names.{number_in, with_names}
+use Rattle.{numbering.specs.Names.{number_in, with_names}, std.proofs.Common.{length, map, take}}
+use Rattle.{std.proofs.Common.{vec_capacity, vec_len, ◌≡◌, ◌≤◌}, theory.specs.Renaming.renamed}
 use Rattle.numbering.proofs.numbering.Numbering.number_rest.Given as goal
 
 abbrev pub invariant-loop-i : goal.invariant-loop-i

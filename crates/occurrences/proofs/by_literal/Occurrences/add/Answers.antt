@@ -1,9 +1,7 @@
-use Rattle.std.proofs.Common.{◌&&◌, not, eq-eqb, ne_eqb, sym, ap, ◌∙◌, inl, inr, arith}
-use Rattle.std.proofs.lemmas.Bool.{cases_eq}
-use Rattle.tables.specs.Lists.{list_at}
-use Rattle.occurrences.specs.{Occurrences.occurs}
-use Rattle.occurrences.proofs.TestLemmas.{and_true, and_false, all_weaker}
-use Rattle.occurrences.proofs.EntryLemmas.{reserved_known, reserved_occurs}
+use Rattle.occurrences.proofs.{EntryLemmas.{reserved_known, reserved_occurs}, TestLemmas.all_weaker}
+use Rattle.occurrences.{proofs.TestLemmas.{and_false, and_true}, specs.Occurrences.occurs}
+use Rattle.std.proofs.Common.{ap, arith, eq-eqb, inl, inr, ne_eqb, not, sym, ◌&&◌, ◌∙◌}
+use Rattle.{std.proofs.lemmas.Bool.cases_eq, tables.specs.Lists.list_at}
 use Rattle.occurrences.proofs.by_literal.Occurrences.add.Goals as goal
 
 pub invariant_of-self : goal.invariant_of-self

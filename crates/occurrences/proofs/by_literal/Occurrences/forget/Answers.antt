@@ -1,10 +1,9 @@
-use Rattle.std.proofs.Common.{◌≡◌, true, sym, ap, ◌∙◌, subst, arith}
-use Rattle.std.specs.List.{list_any, list_all}
-use Rattle.tables.specs.Lists.{list_at}
-use Rattle.occurrences.specs.{Entries.is_of, Code.Known.is_known, Occurrences.occurs}
-use Rattle.occurrences.proofs.TestLemmas.{all_weaker}
-use Rattle.occurrences.proofs.EntryLemmas.{noted_never, none_never, rid_lists, written_others}
-use Rattle.occurrences.proofs.EntryLemmas.{forgotten, rid_of, rid_known, noted_others, noted_known}
+use Rattle.occurrences.proofs.EntryLemmas.{forgotten, none_never, noted_known, noted_never}
+use Rattle.occurrences.proofs.EntryLemmas.{noted_others, rid_known, rid_lists, rid_of}
+use Rattle.occurrences.proofs.{EntryLemmas.written_others, TestLemmas.all_weaker}
+use Rattle.occurrences.specs.{Code.Known.is_known, Entries.is_of, Occurrences.occurs}
+use Rattle.std.{proofs.Common.{ap, arith, subst, sym, true, ◌∙◌, ◌≡◌}, specs.List.list_all}
+use Rattle.{std.specs.List.list_any, tables.specs.Lists.list_at}
 use Rattle.occurrences.proofs.by_literal.Occurrences.forget.Goals as goal
 
 pub invariant_of-self : goal.invariant_of-self

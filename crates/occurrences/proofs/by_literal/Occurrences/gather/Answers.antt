@@ -1,8 +1,7 @@
-use Rattle.std.proofs.Common.{◌<◌, arith, filter, sym, ap, ◌∙◌, subst}
-use Rattle.std.proofs.lemmas.Result.{on_ok_weaker}
-use Rattle.tables.specs.Lists.{list_at}
-use Rattle.occurrences.specs.{Entries.counts, Code.Known.AreAlike, Occurrences.occurs}
 use Rattle.occurrences.proofs.EntryLemmas.{alike_cleaned, gathered, put_alike, put_beyond, put_over}
+use Rattle.occurrences.specs.{Code.Known.AreAlike, Entries.counts, Occurrences.occurs}
+use Rattle.std.proofs.{Common.{ap, arith, filter, subst, sym, ◌<◌, ◌∙◌}, lemmas.Result.on_ok_weaker}
+use Rattle.tables.specs.Lists.{list_at}
 use Rattle.occurrences.proofs.by_literal.Occurrences.gather.Goals as goal
 
 pub invariant_of-self : goal.invariant_of-self

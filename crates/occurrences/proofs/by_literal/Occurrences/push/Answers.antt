@@ -1,9 +1,8 @@
-use Rattle.std.proofs.Common.{◌≡◌, ◌&&◌, ◌||◌, [], ◌∷◌, ◌++◌, cond, eqb, eq-eqb, ne_eqb, refl, sym}
-use Rattle.std.proofs.{Common.ap, Common.◌∙◌, Common.subst, lemmas.Result.on_ok_weaker}
-use Rattle.tables.specs.Lists.{list_at}
+use Rattle.occurrences.{proofs.EntryLemmas.{push_occurs, put_over}, specs.Code.Known.AreAlike}
 use Rattle.occurrences.specs.{Entries.births_of, Occurrences.occurs}
-use Rattle.occurrences.specs.{Code.Known.AreAlike, declared.occurrence.Occurrence.Occurrence}
-use Rattle.occurrences.proofs.EntryLemmas.{push_occurs, put_over}
+use Rattle.{occurrences.specs.declared.occurrence.Occurrence.Occurrence, std.proofs.Common.{[], ap}}
+use Rattle.std.proofs.Common.{cond, eq-eqb, eqb, ne_eqb, refl, subst, sym, ◌&&◌, ◌++◌, ◌||◌, ◌∙◌}
+use Rattle.{std.proofs.{Common.{◌∷◌, ◌≡◌}, lemmas.Result.on_ok_weaker}, tables.specs.Lists.list_at}
 use Rattle.occurrences.proofs.by_literal.Occurrences.push.Goals as goal
 
 pub returns-clause-ok : goal.returns-clause-ok

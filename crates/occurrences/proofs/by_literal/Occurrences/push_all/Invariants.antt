@@ -1,6 +1,5 @@
-use Rattle.std.proofs.Common.{◌≡◌, ℕ, ◌&&◌, ◌||◌, ◌==◌, take}
-use Rattle.cnf_base.specs.Literals.{has}
-use Rattle.occurrences.specs.Occurrences.{occurs}
+use Rattle.{cnf_base.specs.Literals.has, occurrences.specs.Occurrences.occurs}
+use Rattle.std.proofs.Common.{take, ℕ, ◌&&◌, ◌==◌, ◌||◌, ◌≡◌}
 use Rattle.occurrences.proofs.by_literal.Occurrences.push_all.Given as goal
 
 abbrev pub invariant-loop-l : goal.invariant-loop-l

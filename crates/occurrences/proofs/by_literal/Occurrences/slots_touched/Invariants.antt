@@ -1,6 +1,5 @@
-use Rattle.std.{proofs.Common.◌≡◌, proofs.Common.ℕ, proofs.Common.take, specs.List.list_any}
-use Rattle.cnf_base.specs.Literals.{complement, has}
-use Rattle.occurrences.specs.Occurrences.{occurs}
+use Rattle.{cnf_base.specs.Literals.{complement, has}, occurrences.specs.Occurrences.occurs}
+use Rattle.std.{proofs.Common.{take, ℕ, ◌≡◌}, specs.List.list_any}
 use Rattle.occurrences.proofs.by_literal.Occurrences.slots_touched.Given as goal
 
 abbrev pub invariant-loop-l : goal.invariant-loop-l

@@ -1,7 +1,6 @@
 -- An answer that is kept.
-use Rattle.std.proofs.{Common.rules}
-use Rattle.proofs.specs.{Code.Binary.binary_steps_at}
-use Rattle.proofs.proofs.{BinaryLemmas.binary_kept, TextLemmas.Kept-step, TextLemmas.Open-step}
+use Rattle.proofs.proofs.{BinaryLemmas.binary_kept, TextLemmas.{Kept-step, Open-step}}
+use Rattle.{proofs.specs.Code.Binary.binary_steps_at, std.proofs.Common.rules}
 use Rattle.proofs.proofs.drat_binary.DratBinaryStepReader.next.Goals as goal
 
 pub returns-in-Some-clause-step : goal.returns-in-Some-clause-step

@@ -1,7 +1,6 @@
 -- A number goes on, or it is whole.
-use Rattle.std.proofs.Common.{[], ◌∷◌, ◌++◌, rules}
-use Rattle.proofs.specs.Binary.{in_number, groups_value}
-use Rattle.proofs.proofs.WholeLemmas.{number_kept}
+use Rattle.proofs.{proofs.WholeLemmas.number_kept, specs.Binary.{groups_value, in_number}}
+use Rattle.std.proofs.Common.{[], rules, ◌++◌, ◌∷◌}
 use Rattle.proofs.proofs.drat_binary.moves.take_group.Goals as goal
 
 pub returns-then-byte-ge128 : goal.returns-then-byte-ge128

@@ -1,5 +1,4 @@
-use Rattle.std.proofs.Common.{refl}
-use Rattle.proofs.proofs.WholeLemmas.{RunsOn-none}
+use Rattle.{proofs.proofs.WholeLemmas.RunsOn-none, std.proofs.Common.refl}
 use Rattle.proofs.proofs.drat_binary.whole.run_on.Goals as goal
 
 pub returns-in-Tag : goal.returns-in-Tag

@@ -1,6 +1,5 @@
+use Rattle.proofs.{proofs.WholeLemmas.{RunsOn-more, RunsOn-none}, specs.Code.Whole.IsWhole}
 use Rattle.std.proofs.Common.{rules}
-use Rattle.proofs.specs.Code.Whole.{IsWhole}
-use Rattle.proofs.proofs.WholeLemmas.{RunsOn-more, RunsOn-none}
 use Rattle.proofs.proofs.drat_binary.whole.take_whole.Goals as goal
 
 pub loop-count-init : goal.loop-count-init

@@ -1,5 +1,4 @@
-use Rattle.cnf_base.specs.Stream.{most_to_come}
-use Rattle.proofs.specs.{Binary.in_step, Code.Whole.RunsOn}
+use Rattle.{cnf_base.specs.Stream.most_to_come, proofs.specs.{Binary.in_step, Code.Whole.RunsOn}}
 use Rattle.proofs.proofs.drat_binary.whole.take_whole.Given as goal
 
 abbrev pub invariant-loop-count : goal.invariant-loop-count

@@ -1,6 +1,5 @@
-use Rattle.std.proofs.Common.{◌≡◌, ◌≤◌, length, rules}
-use Rattle.std.proofs.lemmas.{Grind.common_steps, Bool.Decides.nat_tests}
-use Rattle.proofs.proofs.WholeLemmas.{whole_of}
+use Rattle.{proofs.proofs.WholeLemmas.whole_of, std.proofs.Common.{length, rules, ◌≡◌, ◌≤◌}}
+use Rattle.std.proofs.lemmas.{Bool.Decides.nat_tests, Grind.common_steps}
 use Rattle.proofs.proofs.drat_binary.whole.whole_literal.Goals as goal
 
 pub returns : goal.returns

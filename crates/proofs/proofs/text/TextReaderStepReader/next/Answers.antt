@@ -1,7 +1,6 @@
 -- An answer that is kept.
-use Rattle.std.proofs.Common.{rules}
-use Rattle.proofs.proofs.TextLemmas.{Kept-step, text_kept, Open-step}
-use Rattle.proofs.specs.{Code.TextSteps.steps_at}
+use Rattle.proofs.proofs.TextLemmas.{Kept-step, Open-step, text_kept}
+use Rattle.{proofs.specs.Code.TextSteps.steps_at, std.proofs.Common.rules}
 use Rattle.proofs.proofs.text.TextReaderStepReader.next.Goals as goal
 
 pub returns-in-Some-clause-step : goal.returns-in-Some-clause-step

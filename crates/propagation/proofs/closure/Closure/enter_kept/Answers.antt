@@ -1,6 +1,5 @@
-use Rattle.std.proofs.Common.{arith}
-use Rattle.std.proofs.Common.{◌≡◌, Some, rules}
-use Rattle.propagation.proofs.PropagationLemmas.Closing.{added_followed}
+use Rattle.{propagation.proofs.PropagationLemmas.Closing.added_followed, std.proofs.Common.Some}
+use Rattle.std.proofs.Common.{arith, rules, ◌≡◌}
 use Rattle.propagation.proofs.closure.Closure.enter_kept.Goals as goal
 
 pub follow-requires : goal.follow-requires

@@ -1,9 +1,7 @@
-use Rattle.std.proofs.Common.{arith, sym, ap, ◌∙◌, subst}
-use Rattle.std.specs.FinMap as maps
-use Rattle.std.proofs.lemmas.Option.{same_Some}
-use Rattle.theory.specs.Propagation.{IsRootReason}
-use Rattle.trail.specs.Left.{is_one_at_most}
 use Rattle.propagation.proofs.PropagationLemmas.Closing.{no_reason_left, reason_left}
+use Rattle.std.proofs.{Common.{ap, arith, subst, sym, ◌∙◌}, lemmas.Option.same_Some}
+use Rattle.{theory.specs.Propagation.IsRootReason, trail.specs.Left.is_one_at_most}
+use Rattle.std.specs.FinMap as maps
 use Rattle.propagation.proofs.closure.Closure.is_root_reason.Goals as goal
 
 pub returns-clause-yes : goal.returns-clause-yes

@@ -1,7 +1,6 @@
-use Rattle.std.proofs.Common.{◌≡◌, Some, sym, ap, ◌∙◌, rules}
-use Rattle.std.specs.FinMap as maps
-use Rattle.trail.specs.Left.{is_one_at_most}
 use Rattle.propagation.proofs.PropagationLemmas.Closing.{no_reason_left, removed_whole}
+use Rattle.{std.proofs.Common.{Some, ap, rules, sym, ◌∙◌, ◌≡◌}, trail.specs.Left.is_one_at_most}
+use Rattle.std.specs.FinMap as maps
 use Rattle.propagation.proofs.closure.Closure.leave.Goals as goal
 
 pub returns-else-is_one_at_most : goal.returns-else-is_one_at_most

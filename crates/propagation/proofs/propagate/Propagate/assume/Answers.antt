@@ -1,7 +1,5 @@
-use Rattle.std.proofs.Common.{subst}
-use Rattle.cnf_base.specs.Literals.{complements}
-use Rattle.propagation.specs.Assumptions.{Assuming}
-use Rattle.trail.proofs.TrailLemmas.MakesFalse.{whole_is}
+use Rattle.{cnf_base.specs.Literals.complements, propagation.specs.Assumptions.Assuming}
+use Rattle.{std.proofs.Common.subst, trail.proofs.TrailLemmas.MakesFalse.whole_is}
 use Rattle.propagation.proofs.propagate.Propagate.assume.Goals as goal
 
 pub returns-clause-assumed : goal.returns-clause-assumed

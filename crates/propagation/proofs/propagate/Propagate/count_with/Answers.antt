@@ -1,7 +1,5 @@
-use Rattle.std.proofs.Common.{arith}
-use Rattle.std.proofs.Common.{◌∙◌}
-use Rattle.propagation.proofs.PropagationLemmas.Counts.{none_with, some_with}
-use Rattle.propagation.proofs.PropagationLemmas.SameClauses.{kept_copies}
+use Rattle.propagation.proofs.PropagationLemmas.{Counts.none_with, SameClauses.kept_copies}
+use Rattle.{propagation.proofs.PropagationLemmas.Counts.some_with, std.proofs.Common.{arith, ◌∙◌}}
 use Rattle.propagation.proofs.propagate.Propagate.count_with.Goals as goal
 
 pub returns-clause-value : goal.returns-clause-value

@@ -1,6 +1,5 @@
-use Rattle.std.proofs.Common.{arith}
+use Rattle.{propagation.proofs.PropagationLemmas.Scan.assuming_from, std.proofs.Common.arith}
 use Rattle.std.proofs.Common.{refl}
-use Rattle.propagation.proofs.PropagationLemmas.Scan.{assuming_from}
 use Rattle.propagation.proofs.scan.Scan.assume_given.Goals as goal
 
 pub returns-clause-assumed : goal.returns-clause-assumed

@@ -1,7 +1,6 @@
-use Rattle.std.proofs.Common.{◌≡◌, false, Some, IfOk, subst, arith}
+use Rattle.{cnf_base.specs.Literals.Clause, std.proofs.Common.{IfOk, Some, arith, false, subst}}
+use Rattle.{std.proofs.Common.◌≡◌, theory.specs.Propagation.IsRootReason}
 use Rattle.std.specs.FinMap as maps
-use Rattle.cnf_base.specs.Literals.{Clause}
-use Rattle.theory.specs.Propagation.{IsRootReason}
 use Rattle.propagation.proofs.scan.ScanPropagate.is_root_reason.Goals as goal
 
 pub returns-clause-yes : goal.returns-clause-yes

@@ -1,6 +1,5 @@
-use Rattle.std.proofs.Common.{arith, sym, ap, ◌∙◌}
+use Rattle.{cnf_base.proofs.SetLemmas.same_itself, std.proofs.Common.{ap, arith, sym, ◌∙◌}}
 use Rattle.std.specs.FinMap as maps
-use Rattle.cnf_base.proofs.SetLemmas.{same_itself}
 use Rattle.propagation.proofs.scan.ScanPropagate.store.Goals as goal
 
 pub returns-clause-live : goal.returns-clause-live

@@ -6,8 +6,7 @@ use Rattle.propagation.proofs.scan.gather.gathered.Goals as goal
 use Rattle.propagation.proofs.scan.gather.gathered.Goals.{in-Some+in_ok-insert, in_default}
 
 pub loop-number-init : goal.loop-number-init
-loop-number-init c =
-    let made = c.in_ok-gathered.ensures in
+loop-number-init c = let made = c.in_ok-gathered.ensures in
     gathered_none c.args.store.now.live made.live made.slots made.nothing_assumed made.refused
 
 pub loop-number-preserved : goal.loop-number-preserved

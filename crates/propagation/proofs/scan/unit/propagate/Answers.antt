@@ -1,7 +1,6 @@
-use Rattle.std.proofs.Common.{arith}
-use Rattle.trail.proofs.TrailLemmas.{MakesFalse.no_conflict, Longer.has_begun}
-use Rattle.theory.proofs.PropagationLemmas.Forced.{clash_through}
-use Rattle.trail.proofs.TrailLemmas.Left.{settled_closed, settled_quiet}
+use Rattle.{std.proofs.Common.arith, theory.proofs.PropagationLemmas.Forced.clash_through}
+use Rattle.trail.proofs.TrailLemmas.{Left.{settled_closed, settled_quiet}, Longer.has_begun}
+use Rattle.trail.proofs.TrailLemmas.MakesFalse.{no_conflict}
 use Rattle.propagation.proofs.scan.unit.propagate.Goals as goal
 
 pub returns-in-Conflict-clause-answer : goal.returns-in-Conflict-clause-answer

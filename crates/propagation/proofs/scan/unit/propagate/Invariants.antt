@@ -1,7 +1,5 @@
-use Rattle.std.proofs.Common.{◌≡◌, true}
-use Rattle.cnf_base.specs.Literals.{Literal, has}
-use Rattle.propagation.specs.Code.{Exact.Extends, Passes.unset}
-use Rattle.theory.specs.Propagation.{Forced}
+use Rattle.{cnf_base.specs.Literals.{Literal, has}, theory.specs.Propagation.Forced}
+use Rattle.{propagation.specs.Code.{Exact.Extends, Passes.unset}, std.proofs.Common.{true, ◌≡◌}}
 use Rattle.std.specs.FinMap as maps
 use Rattle.propagation.proofs.scan.unit.propagate.Given as goal
 

@@ -1,18 +1,14 @@
-use Rattle.std.proofs.Common.{arith, ◌≡◌, ◌/◌, ◌∷◌, [], ◌++◌, true, sym, ◌∙◌, subst}
-use Rattle.cnf_base.specs.Literals.{has}
-use Rattle.std.proofs.lemmas.Bool.{not-true, not-false}
-use Rattle.trail.specs.{Code.Left.IsSettled, Left.how_many}
-use Rattle.theory.specs.Propagation.{open_literals}
-use Rattle.propagation.proofs.PropagationLemmas.Exact.{extends_on, extends_made}
-use Rattle.trail.proofs.TrailLemmas.Left.{left_open, nothing_is, one_is}
-use Rattle.propagation.proofs.PropagationLemmas.Passes.{passed_none, passed_settled}
-use Rattle.propagation.proofs.PropagationLemmas.Passes.{passed_unit}
-use Rattle.trail.proofs.TrailLemmas.Longer.{pushed_each}
-use Rattle.theory.proofs.PropagationLemmas.Unit.{left_is_forced, none_left_clashes}
-use Rattle.propagation.proofs.scan.unit.run_pass.Goals as goal
-use Rattle.propagation.proofs.scan.unit.run_pass.Goals.{in-Some+in-One+then-make_true}
+use Rattle.{cnf_base.specs.Literals.has, trail.specs.{Code.Left.IsSettled, Left.how_many}}
+use Rattle.propagation.proofs.PropagationLemmas.Exact.{extends_made, extends_on}
+use Rattle.propagation.proofs.PropagationLemmas.Passes.{passed_none, passed_settled, passed_unit}
+use Rattle.propagation.proofs.scan.unit.run_pass.Goals.{in-Some+in-More}
 use Rattle.propagation.proofs.scan.unit.run_pass.Goals.{in-Some+in-One+else-make_true}
-use Rattle.propagation.proofs.scan.unit.run_pass.Goals.{in-Some+in-More, in_default}
+use Rattle.propagation.proofs.scan.unit.run_pass.Goals.{in-Some+in-One+then-make_true, in_default}
+use Rattle.std.proofs.Common.{[], arith, subst, sym, true, ◌++◌, ◌/◌, ◌∙◌, ◌∷◌, ◌≡◌}
+use Rattle.{std.proofs.lemmas.Bool.{not-false, not-true}, theory.specs.Propagation.open_literals}
+use Rattle.theory.proofs.PropagationLemmas.Unit.{left_is_forced, none_left_clashes}
+use Rattle.trail.proofs.TrailLemmas.{Left.{left_open, nothing_is, one_is}, Longer.pushed_each}
+use Rattle.propagation.proofs.scan.unit.run_pass.Goals as goal
 
 pub returns-in-Nothing-clause-pass : goal.returns-in-Nothing-clause-pass
 returns-in-Nothing-clause-pass c =

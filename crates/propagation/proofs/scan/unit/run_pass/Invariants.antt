@@ -1,8 +1,7 @@
-use Rattle.std.proofs.Common.{◌≡◌, true}
-use Rattle.std.specs.FinMap as maps
 use Rattle.cnf_base.specs.Literals.{Literal, has}
-use Rattle.propagation.{specs.Code.Exact.Extends, proofs.PropagationLemmas.Passes.IsPassedTo}
-use Rattle.theory.specs.Propagation.{Forced}
+use Rattle.propagation.{proofs.PropagationLemmas.Passes.IsPassedTo, specs.Code.Exact.Extends}
+use Rattle.{std.proofs.Common.{true, ◌≡◌}, theory.specs.Propagation.Forced}
+use Rattle.std.specs.FinMap as maps
 use Rattle.propagation.proofs.scan.unit.run_pass.Given as goal
 
 abbrev pub invariant-loop-number : goal.invariant-loop-number

@@ -11,19 +11,24 @@ entering-clause-kept c = grind arith
 
 pub returns-then-has_conflict-clause-kept : goal.returns-then-has_conflict-clause-kept
 returns-then-has_conflict-clause-kept c =
-    entered_idle (entering-clause-kept (goal.at.returns-then-has_conflict-clause-kept c).After-enter) _ refl refl refl (grind arith) refl
+    let given = entering-clause-kept (goal.at.returns-then-has_conflict-clause-kept c).After-enter in
+    entered_idle given _ refl refl refl (grind arith) refl
 
 pub returns-in-More-clause-kept : goal.returns-in-More-clause-kept
 returns-in-More-clause-kept c =
-    entered_more (entering-clause-kept (goal.at.returns-in-More-clause-kept c).After-enter) _ refl refl refl (grind arith) refl
+    let given = entering-clause-kept (goal.at.returns-in-More-clause-kept c).After-enter in
+    entered_more given _ refl refl refl (grind arith) refl
 
 pub returns-in-Nothing-clause-kept : goal.returns-in-Nothing-clause-kept
 returns-in-Nothing-clause-kept c =
-    entered_false (entering-clause-kept (goal.at.returns-in-Nothing-clause-kept c).After-enter) _ refl refl refl (grind arith) (grind arith)
+    let given = entering-clause-kept (goal.at.returns-in-Nothing-clause-kept c).After-enter in
+    entered_false given _ refl refl refl (grind arith) (grind arith)
 
 pub returns-then-set_by-clause-kept : goal.returns-then-set_by-clause-kept
 returns-then-set_by-clause-kept c =
-    entered_set (entering-clause-kept (goal.at.returns-then-set_by-clause-kept c).After-enter) c.in-One.l (grind arith) _ refl refl (grind arith) (grind arith) (grind arith) _ c.with_more-self.ensures (grind arith)
+    let given = entering-clause-kept (goal.at.returns-then-set_by-clause-kept c).After-enter in
+    entered_set given c.in-One.l (grind arith) _ refl refl (grind arith) (grind arith) (grind arith) _
+    c.with_more-self.ensures (grind arith)
 
 -- the literal is true already
 true-clause-kept : (c : Else-set_by) → (c.set_by.new.assumptions.trail.lits ≡ c.args.assumptions.now.trail.lits) × (has c.args.assumptions.now.trail.lits c.in-One.l ≡ true)

@@ -1,4 +1,4 @@
-use Rattle.std.proofs.Common.{sym, ◌∙◌, arith}
+use Rattle.std.proofs.Common.{◌∙◌, arith}
 use Rattle.root_literals.proofs.RootLemmas.Kept.{kept_cut, kept_left}
 use Rattle.root_literals.proofs.roots.Roots.leave.Goals as goal
 
@@ -13,4 +13,5 @@ loop-place-preserved c = let so_far = c.loop-place.invariant in let e = c.cut.en
 
 pub returns-clause-kept : goal.returns-clause-kept
 returns-clause-kept c =
-    kept_left c.args.store.now.live c.args.slot c.loop-place.self c.loop-place.assumptions.trail.lits c.loop-place.invariant.kept c.clause-clause.result.now (sym c.clause-clause.ensures.clause) (grind arith) (grind arith) c.leave.new.self c.leave.ensures.visited c.leave.ensures.floor (grind arith)
+    kept_left _ _ _ _ c.loop-place.invariant.kept c.clause-clause.result.now (grind arith) (grind arith)
+    (grind arith) _ (grind arith) (grind arith) (grind arith)

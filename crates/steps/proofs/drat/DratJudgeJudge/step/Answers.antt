@@ -1,10 +1,9 @@
 -- A deletion, after which the clauses that are left may stand elsewhere.
-use Rattle.cnf_base.specs.Literals.{Clause, Literal}
+use Rattle.{cnf_base.specs.Literals.{Clause, Literal}, proofs.specs.Steps.Step}
 use Rattle.std.proofs.Common.{List, Ok, arith, refl, rules, ◌∙◌, ◌≡◌}
 use Rattle.steps.{proofs.StateLemmas.keeps_taken, specs.Code.Naming.with_lits}
+use Rattle.theory.specs.{Drat.{SameLive, after_drat, delete}, Rules.{Same, after, by_copies}}
 use Rattle.theory.specs.declared.{accepted.Accepted.Accepted, drat_rules.DratRules.DratRules}
-use Rattle.theory.specs.{Drat.SameLive, Drat.after_drat, Rules.Same, Rules.after, Rules.by_copies}
-use Rattle.{proofs.specs.Steps.Step, theory.specs.Drat.delete}
 use Rattle.proofs.specs.declared.step_buf.StepKind.TheVariants as kinds
 use Rattle.std.specs.FinMap as maps
 use Rattle.steps.proofs.drat.DratJudgeJudge.step.Goals as goal

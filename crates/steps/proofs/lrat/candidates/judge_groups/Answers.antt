@@ -1,10 +1,9 @@
+use Rattle.{cnf_base.specs.Literals.has, steps.proofs.LratLemmas.{named_kept, when_none}}
 use Rattle.std.proofs.Common.{ap, arith, drop, eqb, length, rules, sym, ℕ, ◌+◌, ◌<◌, ◌||◌, ◌∙◌, ◌≡◌}
+use Rattle.{std.proofs.lemmas.List.take_rest, theory.specs.Lrat.{group_refusal, units_of}}
 use Rattle.steps.proofs.LratLemmas.{groups_go_on, groups_more, groups_pass_over, held_grow}
-use Rattle.steps.proofs.LratLemmas.{named_grows, named_kept, when_none}
-use Rattle.steps.proofs.lrat.candidates.judge_groups.Goals.{else-hint-lt0}
+use Rattle.steps.proofs.{LratLemmas.named_grows, lrat.candidates.judge_groups.Goals.else-hint-lt0}
 use Rattle.steps.proofs.lrat.candidates.judge_groups.Goals.{then-hint-lt0+in_ok-refusal+else-is_some}
-use Rattle.theory.specs.Lrat.{group_refusal, units_of}
-use Rattle.{std.proofs.lemmas.List.take_rest, cnf_base.specs.Literals.has}
 use Rattle.std.specs.FinMap as maps
 use Rattle.steps.proofs.lrat.candidates.judge_groups.Goals as goal
 

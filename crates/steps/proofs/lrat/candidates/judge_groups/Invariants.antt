@@ -1,7 +1,6 @@
-use Rattle.cnf_base.specs.Literals.{complement, has}
-use Rattle.std.proofs.Common.{[], drop, take, true, ℕ, ◌≡◌}
-use Rattle.theory.specs.{Lrat.groups_of, Lrat.groups_refusal, Sets.SameSet}
-use Rattle.{live_clauses.specs.LiveClauses.Holds, steps.specs.Code.Groups.named_in}
+use Rattle.{cnf_base.specs.Literals.{complement, has}, live_clauses.specs.LiveClauses.Holds}
+use Rattle.{std.proofs.Common.{[], drop, take, true, ℕ, ◌≡◌}, steps.specs.Code.Groups.named_in}
+use Rattle.theory.specs.{Lrat.{groups_of, groups_refusal}, Sets.SameSet}
 use Rattle.std.specs.FinMap as maps
 use Rattle.steps.proofs.lrat.candidates.judge_groups.Given as goal
 

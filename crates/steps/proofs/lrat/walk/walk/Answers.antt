@@ -1,7 +1,6 @@
 use Rattle.propagation.proofs.PropagationLemmas.Exact.{begins_on}
-use Rattle.std.proofs.Common.{arith, nat_abs, rules, ◌∙◌}
+use Rattle.{std.proofs.Common.{arith, nat_abs, rules, ◌∙◌}, trail.proofs.TrailLemmas.Left.left_open}
 use Rattle.steps.proofs.LratLemmas.{read_is, same_set_push, units_more, walk_one}
-use Rattle.trail.proofs.TrailLemmas.Left.{left_open}
 use Rattle.trail.proofs.TrailLemmas.MakesFalse.{begins_made, longer_made, made_true}
 use Rattle.steps.proofs.lrat.walk.walk.Goals as goal
 

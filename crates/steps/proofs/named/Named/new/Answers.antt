@@ -1,5 +1,4 @@
-use Rattle.std.proofs.Common.{rules}
-use Rattle.steps.proofs.NamingLemmas.{empty_named, none_given}
+use Rattle.{std.proofs.Common.rules, steps.proofs.NamingLemmas.{empty_named, none_given}}
 use Rattle.steps.proofs.named.Named.new.Goals as goal
 
 pub returns-clause-named : goal.returns-clause-named

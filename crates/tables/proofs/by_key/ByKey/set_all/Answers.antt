@@ -1,7 +1,5 @@
-use Rattle.std.proofs.Common.{Some, arith, ◌∙◌}
-use Rattle.cnf_base.proofs.WalkLemmas.{is_in}
-use Rattle.tables.specs.ByKey.{at, value_in}
-use Rattle.tables.proofs.ByKeyLemmas.{written_more}
+use Rattle.{cnf_base.proofs.WalkLemmas.is_in, std.proofs.Common.{Some, arith, ◌∙◌}}
+use Rattle.tables.{proofs.ByKeyLemmas.written_more, specs.ByKey.{at, value_in}}
 use Rattle.tables.proofs.by_key.ByKey.set_all.Goals as goal
 
 pub write-requires : goal.write-requires

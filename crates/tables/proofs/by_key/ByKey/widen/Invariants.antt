@@ -1,5 +1,4 @@
-use Rattle.std.proofs.Common.{◌≡◌, length}
-use Rattle.tables.specs.Code.ByKey.{IsWidened}
+use Rattle.{std.proofs.Common.{length, ◌≡◌}, tables.specs.Code.ByKey.IsWidened}
 use Rattle.tables.proofs.by_key.ByKey.widen.Given as goal
 
 abbrev pub invariant-loop-key : goal.invariant-loop-key

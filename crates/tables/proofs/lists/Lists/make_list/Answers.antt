@@ -1,6 +1,5 @@
-use Rattle.std.proofs.Common.{arith, length}
-use Rattle.std.proofs.lemmas.{Map.Entries.sum_by-insert_entry}
-use Rattle.std.proofs.lemmas.Cmp.{nat_cmp_total}
+use Rattle.std.proofs.{Common.{arith, length}, lemmas.Cmp.nat_cmp_total}
+use Rattle.std.proofs.lemmas.Map.Entries.{sum_by-insert_entry}
 use Rattle.tables.proofs.lists.Lists.make_list.Goals as goal
 
 pub returns-clause-same : goal.returns-clause-same

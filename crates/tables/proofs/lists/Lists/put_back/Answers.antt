@@ -1,7 +1,6 @@
-use Rattle.std.proofs.Common.{◌≤◌, ap, arith, length, slice_get, ◌∙◌}
-use Rattle.std.proofs.lemmas.{List.get_or-set_same, Option.slice_get-get_or}
-use Rattle.tables.specs.Lists.{far_at, items_or}
-use Rattle.tables.proofs.ListsLemmas.{rest_written, total_again, total_put}
+use Rattle.std.proofs.{Common.{ap, arith, length, slice_get, ◌∙◌, ◌≤◌}, lemmas.List.get_or-set_same}
+use Rattle.{std.proofs.lemmas.Option.slice_get-get_or, tables.proofs.ListsLemmas.rest_written}
+use Rattle.tables.{proofs.ListsLemmas.{total_again, total_put}, specs.Lists.{far_at, items_or}}
 use Rattle.tables.proofs.lists.Lists.put_back.Goals as goal
 
 pub returns-then-key-len-clause-entries : goal.returns-then-key-len-clause-entries

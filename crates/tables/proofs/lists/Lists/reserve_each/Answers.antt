@@ -1,7 +1,5 @@
-use Rattle.std.proofs.Common.{ap, arith, length, ◌∙◌, ◌<◌}
-use Rattle.std.{proofs.lemmas.List.length-set}
-use Rattle.tables.specs.Lists.{far_at}
-use Rattle.tables.proofs.ListsLemmas.{same_total, same_written}
+use Rattle.std.proofs.{Common.{ap, arith, length, ◌<◌, ◌∙◌}, lemmas.List.length-set}
+use Rattle.tables.{proofs.ListsLemmas.{same_total, same_written}, specs.Lists.far_at}
 use Rattle.tables.proofs.lists.Lists.reserve_each.Goals as goal
 
 pub loop-key-preserved : goal.loop-key-preserved

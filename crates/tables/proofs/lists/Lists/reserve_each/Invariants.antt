@@ -1,6 +1,5 @@
 -- No list has changed, and the keys are near.
-use Rattle.std.proofs.Common.{◌≤◌, length}
-use Rattle.tables.specs.Code.Lists.{AreSame}
+use Rattle.{std.proofs.Common.{length, ◌≤◌}, tables.specs.Code.Lists.AreSame}
 use Rattle.tables.proofs.lists.Lists.reserve_each.Given as goal
 
 abbrev pub invariant-loop-key : goal.invariant-loop-key

@@ -1,5 +1,4 @@
-use Rattle.std.proofs.Common.{arith}
-use Rattle.std.proofs.lemmas.Map.Entries.{sum_by-set_value}
+use Rattle.std.proofs.{Common.arith, lemmas.Map.Entries.sum_by-set_value}
 use Rattle.tables.proofs.lists.Lists.take_far.Goals as goal
 
 pub returns-in-Some-clause-total : goal.returns-in-Some-clause-total

@@ -1,7 +1,6 @@
 use Rattle.std.proofs.Common.{[], ap, arith, length, slice_get, ◌++◌, ◌∙◌, ◌∷◌}
-use Rattle.std.proofs.{lemmas.List.length-append, lemmas.List.Sums.sum_by_push}
-use Rattle.tables.specs.Lists.{far_at, items_or}
-use Rattle.tables.proofs.ListsLemmas.{known_more, near_more}
+use Rattle.std.proofs.lemmas.List.{length-append, Sums.sum_by_push}
+use Rattle.tables.{proofs.ListsLemmas.{known_more, near_more}, specs.Lists.{far_at, items_or}}
 use Rattle.tables.proofs.lists.Lists.widen.Goals as goal
 
 pub loop-key-preserved : goal.loop-key-preserved

@@ -1,5 +1,4 @@
-use Rattle.std.proofs.Common.{◌≡◌, length}
-use Rattle.tables.specs.Code.Lists.{AreSame}
+use Rattle.{std.proofs.Common.{length, ◌≡◌}, tables.specs.Code.Lists.AreSame}
 use Rattle.tables.proofs.lists.Lists.widen.Given as goal
 
 abbrev pub invariant-loop-key : goal.invariant-loop-key

@@ -1,5 +1,4 @@
-use Rattle.std.proofs.Common.{◌≤◌, take}
-use Rattle.theory.specs.Propagation.{open_literals}
+use Rattle.{std.proofs.Common.{take, ◌≤◌}, theory.specs.Propagation.open_literals}
 use Rattle.trail.specs.Code.Left.{IsCount}
 use Rattle.trail.proofs.dense.Dense.count_open.Given as goal
 

@@ -1,9 +1,8 @@
 -- One more variable.
-use Rattle.std.proofs.Common.{◌≡◌, ◌<◌, true, false, Some, eqb-true, unwrap_or, length, ap, sym, ◌∙◌, inl}
-use Rattle.std.proofs.{Common.inr, Common.subst, Common.arith, lemmas.Bool.or_cases}
-use Rattle.std.proofs.lemmas.{Option.slice_get-get_or, Bool.Decides.nat_tests}
-use Rattle.cnf_base.{specs.Literals.has, specs.Literals.variable, proofs.WalkLemmas.has_more}
-use Rattle.tables.specs.ByKey.{at}
+use Rattle.cnf_base.{proofs.WalkLemmas.has_more, specs.Literals.{has, variable}}
+use Rattle.std.proofs.Common.{Some, ap, arith, eqb-true, false, inl, inr, length, subst, sym, true}
+use Rattle.std.proofs.{Common.{unwrap_or, ◌<◌, ◌∙◌, ◌≡◌}, lemmas.Bool.{or_cases, Decides.nat_tests}}
+use Rattle.{std.proofs.lemmas.Option.slice_get-get_or, tables.specs.ByKey.at}
 use Rattle.trail.proofs.trail.Trail.has_room_near.Goals as goal
 
 pub loop-l-preserved : goal.loop-l-preserved

@@ -1,5 +1,4 @@
-use Rattle.trail.specs.Trail.{HasRoom}
-use Rattle.std.proofs.Common.{take}
+use Rattle.{std.proofs.Common.take, trail.specs.Trail.HasRoom}
 use Rattle.trail.proofs.trail.Trail.has_room_near.Given as goal
 
 abbrev pub invariant-loop-l : goal.invariant-loop-l

@@ -1,19 +1,15 @@
-use Rattle.std.proofs.Common.{◌++◌, ◌∷◌, [], length, length-append, take, refl, sym, arith}
-use Rattle.std.proofs.{Common.ap, Common.◌∙◌, Common.arith, lemmas.List.take_all}
-use Rattle.cnf_base.specs.Literals.{complement, has}
-use Rattle.cnf_base.proofs.{LiteralLemmas.complement-complement, WalkLemmas.is_in}
-use Rattle.theory.specs.Sets.{conflicts}
-use Rattle.trail.proofs.TrailLemmas.MakesFalse.{falsified, falsified_next, falsified_same}
-use Rattle.trail.proofs.TrailLemmas.MakesFalse.{falsified_conflict, falsified_none, no_conflict}
-use Rattle.trail.proofs.TrailLemmas.MakesFalse.{same_old, same_pushed}
-use Rattle.theory.proofs.PropagationLemmas.Conflicts.{conflicts_same, quiet_push}
-use Rattle.cnf_base.proofs.MemberLemmas.{variable-complement}
-use Rattle.trail.proofs.TrailLemmas.Truth.{true_from_value, false_from_value, open_from_value}
-use Rattle.trail.proofs.TrailLemmas.{Longer.begins_push}
-use Rattle.trail.proofs.trail.Trail.make_false.Goals as goal
+use Rattle.cnf_base.{proofs.LiteralLemmas.complement-complement, specs.Literals.{complement, has}}
+use Rattle.std.proofs.Common.{[], ap, arith, length, length-append, refl, sym, take, ◌++◌, ◌∙◌, ◌∷◌}
+use Rattle.{std.proofs.lemmas.List.take_all, theory.proofs.PropagationLemmas.Conflicts.quiet_push}
+use Rattle.{theory.specs.Sets.conflicts, trail.proofs.TrailLemmas.Longer.begins_push}
+use Rattle.trail.proofs.TrailLemmas.MakesFalse.{falsified, falsified_conflict, falsified_next}
+use Rattle.trail.proofs.TrailLemmas.MakesFalse.{falsified_none, falsified_same, no_conflict}
+use Rattle.trail.proofs.TrailLemmas.{MakesFalse.{same_old, same_pushed}, Truth.false_from_value}
+use Rattle.trail.proofs.TrailLemmas.Truth.{open_from_value, true_from_value}
+use Rattle.trail.proofs.trail.Trail.make_false.Goals.{else-keeps_literal}
 use Rattle.trail.proofs.trail.Trail.make_false.Goals.{then-keeps_literal+in-False}
 use Rattle.trail.proofs.trail.Trail.make_false.Goals.{then-keeps_literal+in-Open}
-use Rattle.trail.proofs.trail.Trail.make_false.Goals.{else-keeps_literal}
+use Rattle.trail.proofs.trail.Trail.make_false.Goals as goal
 
 pub loop-l-init : goal.loop-l-init
 loop-l-init g c =
@@ -36,12 +32,6 @@ returns-in-True-clause-made g c =
       added = tt;
       quiet = c.loop-l.invariant.quiet;
     }
-
-pub set-requires-clause-reserved : goal.set-requires-clause-reserved
-set-requires-clause-reserved g c = grind (arith, is_in, variable-complement)
-
-pub set-requires-clause-open : goal.set-requires-clause-open
-set-requires-clause-open g c = grind (arith, complement-complement)
 
 pub loop-l-preserved : goal.loop-l-preserved
 loop-l-preserved g c =
@@ -84,6 +74,3 @@ loop-l-preserved g c =
             reserved = so_far.reserved;
           })
     ]
-
-pub returns-clause-made : goal.returns-clause-made
-returns-clause-made g c = grind (arith, take_all, conflicts_same)

@@ -1,6 +1,5 @@
-use Rattle.std.proofs.Common.{◌≡◌, ◌≤◌, false, length, take}
-use Rattle.theory.specs.Sets.{SameSet, conflicts}
-use Rattle.trail.proofs.TrailLemmas.MakesFalse.{falsified}
+use Rattle.{std.proofs.Common.{false, length, take, ◌≡◌, ◌≤◌}, theory.specs.Sets.SameSet}
+use Rattle.{theory.specs.Sets.conflicts, trail.proofs.TrailLemmas.MakesFalse.falsified}
 use Rattle.trail.proofs.trail.Trail.make_false.Given as goal
 
 abbrev pub invariant-loop-l : goal.invariant-loop-l

@@ -1,6 +1,5 @@
-use Rattle.std.proofs.Common.{arith}
+use Rattle.{std.proofs.Common.arith, theory.proofs.PropagationLemmas.Conflicts.quiet_push}
 use Rattle.trail.proofs.TrailLemmas.MakesFalse.{no_conflict}
-use Rattle.theory.proofs.PropagationLemmas.Conflicts.{quiet_push}
 use Rattle.trail.proofs.trail.Trail.make_true.Goals as goal
 
 pub returns-then-is_open-clause-quiet : goal.returns-then-is_open-clause-quiet

@@ -1,8 +1,6 @@
-use Rattle.std.proofs.Common.{◌≡◌, ℕ, false, length, ap, sym, arith}
-use Rattle.tables.specs.ByKey.{at}
-use Rattle.std.specs.Vec.{vec_capacity}
-use Rattle.trail.specs.Code.Values.{reserved_in, seen_in}
-use Rattle.trail.proofs.TrailLemmas.{Values.trail_empty, Reserved.seen_none}
+use Rattle.std.{proofs.Common.{ap, arith, false, length, sym, ℕ, ◌≡◌}, specs.Vec.vec_capacity}
+use Rattle.{tables.specs.ByKey.at, trail.proofs.TrailLemmas.Reserved.seen_none}
+use Rattle.trail.{proofs.TrailLemmas.Values.trail_empty, specs.Code.Values.{reserved_in, seen_in}}
 use Rattle.trail.proofs.trail.Trail.new.Goals as goal
 
 pub invariant_of-result : goal.invariant_of-result

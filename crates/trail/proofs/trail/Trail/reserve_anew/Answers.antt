@@ -1,11 +1,9 @@
-use Rattle.std.proofs.Common.{◌≡◌, ℕ, ◌<◌, ◌≤◌, ◌∙◌, Bool, true, cond, eqb, is_some}
-use Rattle.std.proofs.Common.{length, refl, sym, ap, subst, arith}
-use Rattle.std.{proofs.lemmas.Bool.cases_eq, specs.Vec.vec_capacity}
-use Rattle.tables.specs.ByKey.{at}
-use Rattle.trail.specs.{Code.Values.IsTrail, Code.Values.reserved_in, Code.Values.seen_in, Trail.is_variable}
+use Rattle.{cnf_base.specs.Literals.has, std.proofs.Common.{Bool, ap, arith, cond, eqb, is_some}}
+use Rattle.std.proofs.Common.{length, refl, subst, sym, true, ℕ, ◌<◌, ◌∙◌, ◌≡◌, ◌≤◌}
+use Rattle.{std.{proofs.lemmas.Bool.cases_eq, specs.Vec.vec_capacity}, tables.specs.ByKey.at}
 use Rattle.trail.proofs.TrailLemmas.Reserved.{seen_adds, seen_more, seen_noted, seen_same}
-use Rattle.trail.proofs.TrailLemmas.Values.{negative_key, trail_wider, trail_reserved}
-use Rattle.cnf_base.specs.Literals.{has}
+use Rattle.trail.proofs.TrailLemmas.Values.{negative_key, trail_reserved, trail_wider}
+use Rattle.trail.specs.{Code.Values.{IsTrail, reserved_in, seen_in}, Trail.is_variable}
 use Rattle.trail.proofs.trail.Trail.reserve_anew.Goals as goal
 
 in_range : (v : ℕ) → is_variable v ≡ true → (1 ≤ v) × (v ≤ 268435455)

@@ -1,5 +1,4 @@
-use Rattle.std.proofs.Common.{◌≡◌, ℕ, ◌/◌, true, take}
-use Rattle.cnf_base.specs.Literals.{Literal, has}
+use Rattle.{cnf_base.specs.Literals.{Literal, has}, std.proofs.Common.{take, true, ℕ, ◌/◌, ◌≡◌}}
 use Rattle.trail.proofs.trail.Trail.reserve_each.Given as goal
 
 abbrev pub invariant-loop-l : goal.invariant-loop-l

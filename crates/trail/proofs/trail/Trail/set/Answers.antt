@@ -1,10 +1,8 @@
-use Rattle.std.proofs.Common.{ℕ, ◌∙◌, Some, cond, eqb, Option, refl, sym, ap, subst, arith}
-use Rattle.std.specs.Vec.{vec_capacity}
-use Rattle.cnf_base.specs.Literals.{has, variable}
-use Rattle.tables.specs.ByKey.{at}
-use Rattle.trail.specs.{declared.value.Value.Value, Trail.value_under, Code.Values.IsTrail}
-use Rattle.trail.specs.{declared.value.Value.TheVariants.True, Code.Values.reserved_in, Code.Values.seen_in, Code.Values.seen_in}
-use Rattle.trail.proofs.TrailLemmas.Values.{room_for, both_known, trail_set}
+use Rattle.{cnf_base.specs.Literals.{has, variable}, tables.specs.ByKey.at}
+use Rattle.std.proofs.Common.{Option, Some, ap, arith, cond, eqb, refl, subst, sym, ℕ, ◌∙◌}
+use Rattle.{std.specs.Vec.vec_capacity, trail.specs.declared.value.Value.{Value, TheVariants.True}}
+use Rattle.trail.proofs.TrailLemmas.Values.{both_known, room_for, trail_set}
+use Rattle.trail.specs.{Code.Values.{IsTrail, reserved_in, seen_in}, Trail.value_under}
 use Rattle.trail.proofs.trail.Trail.set.Goals as goal
 
 pub push_reserved-requires : goal.push_reserved-requires

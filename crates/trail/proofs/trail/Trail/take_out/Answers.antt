@@ -1,9 +1,8 @@
-use Rattle.std.proofs.Common.{ℕ, Some, cond, eqb, Option, refl, sym, ◌∙◌, subst, ◌<◌, length}
-use Rattle.std.{specs.Vec.vec_capacity, proofs.lemmas.Grind.get_or_default_zero}
-use Rattle.tables.specs.ByKey.{at}
-use Rattle.trail.specs.Code.Values.{IsTrail, reserved_in, seen_in}
-use Rattle.trail.specs.declared.value.Value.{TheVariants.Open, Value}
-use Rattle.trail.proofs.TrailLemmas.Without.{out_known, trail_out}
+use Rattle.std.proofs.Common.{Option, Some, cond, eqb, length, refl, subst, sym, ℕ, ◌<◌, ◌∙◌}
+use Rattle.std.{proofs.lemmas.Grind.get_or_default_zero, specs.Vec.vec_capacity}
+use Rattle.{tables.specs.ByKey.at, trail.proofs.TrailLemmas.Without.{out_known, trail_out}}
+use Rattle.trail.specs.{Code.Values.{IsTrail, reserved_in, seen_in}, declared.value.Value.Value}
+use Rattle.trail.specs.declared.value.Value.TheVariants.{Open}
 use Rattle.trail.proofs.trail.Trail.take_out.Goals as goal
 
 pub set_both-requires-clause-complement : goal.set_both-requires-clause-complement

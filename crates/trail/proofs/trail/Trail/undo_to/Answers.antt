@@ -1,8 +1,6 @@
-use Rattle.std.proofs.Common.{take, ap, ◌∙◌, sym, subst}
-use Rattle.std.specs.Vec.{vec_capacity}
-use Rattle.tables.specs.ByKey.{at}
-use Rattle.trail.specs.Code.Values.{IsTrail, reserved_in, seen_in}
-use Rattle.trail.proofs.TrailLemmas.Values.{trail_cut, last_known, trail_taken}
+use Rattle.std.{proofs.Common.{ap, subst, sym, take, ◌∙◌}, specs.Vec.vec_capacity}
+use Rattle.{tables.specs.ByKey.at, trail.specs.Code.Values.{IsTrail, reserved_in, seen_in}}
+use Rattle.trail.proofs.TrailLemmas.Values.{last_known, trail_cut, trail_taken}
 use Rattle.trail.proofs.trail.Trail.undo_to.Goals as goal
 
 pub open_all-requires : goal.open_all-requires

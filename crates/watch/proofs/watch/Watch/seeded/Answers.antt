@@ -1,7 +1,6 @@
+use Rattle.{propagation.proofs.PropagationLemmas.Scan.none_alone, std.proofs.Common.{ap, arith}}
+use Rattle.root_literals.proofs.RootLemmas.Reasons.{literals_ordered}
 use Rattle.watch.proofs.WatchLemmas.State.{tautologies_none, watch_empty}
-use Rattle.root_literals.proofs.RootLemmas.Reasons.{literals_ordered, ordered_empty}
-use Rattle.std.proofs.Common.{arith}
-use Rattle.{propagation.proofs.PropagationLemmas.Scan.none_alone, std.proofs.Common.ap}
 use Rattle.watch.proofs.watch.Watch.seeded.Goals as goal
 
 pub invariant_of-result : goal.invariant_of-result
@@ -11,6 +10,3 @@ invariant_of-result c = (
   simp c.new-6.ensures tt,
   grind (arith, tautologies_none),
 )
-
-pub returns-clause-live : goal.returns-clause-live
-returns-clause-live c = grind (arith, ordered_empty)

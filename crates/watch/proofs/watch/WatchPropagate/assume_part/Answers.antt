@@ -1,7 +1,6 @@
-use Rattle.{std.proofs.Common.ap}
-use Rattle.{propagation.proofs.PropagationLemmas.Reduced.unless_refused, std.proofs.Common.arith}
-use Rattle.{std.proofs.Common.◌∙◌}
-use Rattle.watch.proofs.WatchLemmas.State.{source_room, source_there, watch_room}
+use Rattle.{propagation.proofs.PropagationLemmas.Reduced.unless_refused, std.proofs.Common.ap}
+use Rattle.{std.proofs.Common.{arith, ◌∙◌}, watch.proofs.WatchLemmas.State.source_room}
+use Rattle.watch.proofs.WatchLemmas.State.{source_there, watch_room}
 use Rattle.watch.proofs.watch.WatchPropagate.assume_part.Goals as goal
 
 pub invariant_of-self : goal.invariant_of-self

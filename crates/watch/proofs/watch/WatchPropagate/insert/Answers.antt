@@ -1,16 +1,14 @@
-use Rattle.std.proofs.Common.{◌≡◌, ◌≢◌, ℕ, Some, sym, ap, subst, ◌∙◌, arith}
-use Rattle.std.proofs.lemmas.{Bool.false_from_ne_true, Option.none-some}
-use Rattle.std.specs.FinMap as maps
-use Rattle.cnf_base.specs.Literals.{Clause}
-use Rattle.cnf_base.proofs.SetLemmas.{same_from, same_trans}
-use Rattle.cnf_base.proofs.MapLemmas.{inserted_is, removed_back}
-use Rattle.root_literals.specs.Order.{each_in_order, in_order}
-use Rattle.watch_lists.{specs.Watched.tautology_for, proofs.WatchListsLemmas.Entries.times_has}
+use Rattle.cnf_base.{proofs.MapLemmas.{inserted_is, removed_back}, specs.Literals.Clause}
+use Rattle.{cnf_base.proofs.SetLemmas.{same_from, same_trans}, std.proofs.Common.{ℕ, ◌∙◌, ◌≡◌, ◌≢◌}}
 use Rattle.propagation.{proofs.PropagationLemmas.Scan.room_added, specs.Closure.IsClosure}
-use Rattle.watch.proofs.WatchLemmas.State.{alone_kept, tautologies_added}
-use Rattle.watch.proofs.WatchLemmas.State.{tautologies_there, watch_added, watch_room, watch_same}
 use Rattle.root_literals.proofs.RootLemmas.Reasons.{get_ordered, literals_ordered, ordered_alike}
 use Rattle.root_literals.proofs.RootLemmas.Reasons.{same-in_order, seen_there}
+use Rattle.{root_literals.specs.Order.{each_in_order, in_order}, std.proofs.lemmas.Option.none-some}
+use Rattle.std.proofs.{Common.{Some, ap, arith, subst, sym}, lemmas.Bool.false_from_ne_true}
+use Rattle.watch.proofs.WatchLemmas.State.{alone_kept, tautologies_added, tautologies_there}
+use Rattle.watch.proofs.WatchLemmas.State.{watch_added, watch_room, watch_same}
+use Rattle.watch_lists.{proofs.WatchListsLemmas.Entries.times_has, specs.Watched.tautology_for}
+use Rattle.std.specs.FinMap as maps
 use Rattle.watch.proofs.watch.WatchPropagate.insert.Goals as goal
 
 pub add_entries-requires-clause-no_tautology : goal.add_entries-requires-clause-no_tautology
@@ -45,7 +43,8 @@ invariant_of-self-in-Ok c =
       watch_added _ _ _ _ _ _ _ _ _ _ _ watch (grind arith)
           slot w.0 (e.different w.0 w.1) (grind arith) n.kept
           (grind arith)
-          c.in_ok-slot.ensures.free (grind (arith, inserted_is)) e.low (e.watched w.0 w.1) (e.fitting w.0 w.1) (e.rest w.0 w.1) (e.more w.0 w.1) (e.longer w.0 w.1),
+          c.in_ok-slot.ensures.free (grind (arith, inserted_is)) e.low
+          (grind arith) (e.fitting w.0 w.1),
       c.arrange-arranged.ensures.live_alone ∙ sym (literals_ordered after),
       subst (λ m. IsClosure (maps.get m) c.insert_clause.new.closure) (sym (ordered_alike c.insert_clause.new.store.live after slot d.0 w.0 d.1 w.1 w.2 c.arrange-arranged.ensures.others)) c.insert_clause.ensures.closure,
       tautologies_added _ _ _ _ _ _ c.self.invariant.3 c.in_ok-slot.ensures.free (inserted_is live after slot w.0 w.1 others) (e.tautologies w.0 w.1),

@@ -1,9 +1,8 @@
 use Rattle.propagation.proofs.PropagationLemmas.Scan.{room_removed}
 use Rattle.root_literals.proofs.RootLemmas.Reasons.{alive_alike, alive_clause, literals_ordered}
 use Rattle.root_literals.{proofs.RootLemmas.Reasons.ordered_remove, specs.Order.each_in_order}
-use Rattle.std.proofs.Common.{ap, is_some, sym, ◌/◌, ◌∙◌}
-use Rattle.watch.proofs.WatchLemmas.State.{tautologies_removed}
-use Rattle.watch.proofs.WatchLemmas.State.{watch_put_back, watch_removed}
+use Rattle.std.proofs.Common.{ap, arith, is_some, sym, ◌/◌, ◌∙◌}
+use Rattle.watch.proofs.WatchLemmas.State.{tautologies_removed, watch_put_back, watch_removed}
 use Rattle.std.specs.FinMap as maps
 use Rattle.watch.proofs.watch.WatchPropagate.remove.Goals as goal
 
@@ -20,7 +19,7 @@ invariant_of-self c = let i = c.self.inside in let live = i.store.live in
           slot d.0 (e.different d.0 d.1) (record { each = λ k x here l member. left.reserved (l / 2) ∙ room.each k x here l member })
           (simp c.remove_clause.ensures.live left.kept)
           (λ l h. left.noted l (watch.noted l (sym (left.reserved (l / 2)) ∙ h)))
-          d.1 c.remove_clause.ensures.live (e.watched d.0 d.1) (e.fitting d.0 d.1) (e.rest d.0 d.1) (e.fewer d.0 d.1) (e.shorter d.0 d.1),
+          d.1 c.remove_clause.ensures.live (grind arith) (e.fitting d.0 d.1),
       c.remove_clause.ensures.live_alone ∙ sym (literals_ordered after),
       c.remove_clause.ensures.closure,
       tautologies_removed _ _ _ _ _ _ c.self.invariant.3 d.1 c.remove_clause.ensures.live (e.tautologies d.0 d.1),

@@ -1,7 +1,5 @@
-use Rattle.std.proofs.Common.{◌≤◌, sym, ap, ◌∙◌, length, arith}
-use Rattle.std.proofs.{lemmas.Bool.le-ltb}
-use Rattle.cnf_base.specs.Literals.{has}
-use Rattle.tables.specs.ByKey.{at}
+use Rattle.{cnf_base.specs.Literals.has, std.proofs.Common.{ap, arith, length, sym, ◌∙◌, ◌≤◌}}
+use Rattle.{std.proofs.lemmas.Bool.le-ltb, tables.specs.ByKey.at}
 use Rattle.watch_lists.proofs.WatchListsLemmas.SlotList.{absent_past}
 use Rattle.watch_lists.proofs.slot_list.SlotList.has.Goals as goal
 

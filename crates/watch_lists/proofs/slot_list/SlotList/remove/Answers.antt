@@ -1,7 +1,5 @@
-use Rattle.std.proofs.Common.{sym, ap, ◌∙◌, arith}
-use Rattle.tables.specs.ByKey.{at}
-use Rattle.cnf_base.specs.Literals.{has}
-use Rattle.watch_lists.proofs.WatchListsLemmas.SlotList.{placed_some}
+use Rattle.{cnf_base.specs.Literals.has, std.proofs.Common.{ap, arith, sym, ◌∙◌}}
+use Rattle.{tables.specs.ByKey.at, watch_lists.proofs.WatchListsLemmas.SlotList.placed_some}
 use Rattle.watch_lists.proofs.slot_list.SlotList.remove.Goals as goal
 
 pub swap_remove-requires : goal.swap_remove-requires

@@ -1,9 +1,7 @@
-use Rattle.std.proofs.Common.{List, ap, eqb, get_or, length, sym, ℕ, ◌<◌, ◌∙◌, ◌∷◌, ◌||◌, ◌≡◌}
-use Rattle.std.specs.List.{list_any, remove}
+use Rattle.{cnf_base.specs.Literals.Literal, std.proofs.Common.{List, ap, eqb, get_or, length, sym}}
+use Rattle.std.proofs.{Common.{ℕ, ◌<◌, ◌||◌, ◌∙◌, ◌∷◌, ◌≡◌}, Math.Bool.or-true, lemmas.Bool.ne_eqb}
 use Rattle.std.proofs.lemmas.List.Sorted.{IsPermutation-remove, list_any-IsPermutation}
-use Rattle.cnf_base.specs.Literals.{Literal}
-use Rattle.watch_lists.specs.declared.waiting.Waiter.{Waiter}
-use Rattle.std.proofs.{lemmas.Bool.ne_eqb, Math.Bool.or-true}
+use Rattle.{std.specs.List.{list_any, remove}, watch_lists.specs.declared.waiting.Waiter.Waiter}
 use Rattle.watch_lists.proofs.waiting.Waiting.take.Goals as goal
 
 -- one that is taken out is all that waits no longer

@@ -1,5 +1,4 @@
-use Rattle.std.proofs.Common.{rules}
-use Rattle.writers.proofs.LineLemmas.{Writes-whole}
+use Rattle.{std.proofs.Common.rules, writers.proofs.LineLemmas.Writes-whole}
 use Rattle.writers.proofs.line_out.LineOut.write.Goals as goal
 
 pub returns-clause-writes : goal.returns-clause-writes

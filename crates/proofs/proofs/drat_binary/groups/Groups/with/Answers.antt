@@ -1,6 +1,5 @@
 -- One more group.
-use Rattle.std.proofs.Common.{rules}
-use Rattle.proofs.proofs.WholeLemmas.{kept_value, kept_weight}
+use Rattle.{proofs.proofs.WholeLemmas.{kept_value, kept_weight}, std.proofs.Common.rules}
 use Rattle.proofs.proofs.drat_binary.groups.Groups.with.Goals as goal
 
 pub returns-clause-more : goal.returns-clause-more

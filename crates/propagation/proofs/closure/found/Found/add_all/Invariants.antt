@@ -1,5 +1,4 @@
-use Rattle.std.proofs.Common.{◌≡◌, ℕ, ◌++◌, length, take}
-use Rattle.cnf_base.specs.Literals.{has}
+use Rattle.{cnf_base.specs.Literals.has, std.proofs.Common.{length, take, ℕ, ◌++◌, ◌≡◌}}
 use Rattle.propagation.proofs.closure.found.Found.add_all.Given as goal
 
 abbrev pub invariant-loop-l : goal.invariant-loop-l
